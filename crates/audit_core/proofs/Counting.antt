@@ -9,7 +9,8 @@ use Rattle.vat_log.specs.Log.{Log}
 use Rattle.vat_log.specs.declared.body.Body.{Body}
 use Rattle.vat_log.specs.declared.body.Body.TheVariants as body
 use Rattle.vat_rules.specs.Audit.{Found, IsTrueOf, reads_by, edition_of}
-use Rattle.vat_rules.specs.Events.{Reader, with_message, event_of, event_or_none}
+use Rattle.vat_rules.specs.Events.{Reader, event_of, event_or_none}
+use Rattle.vat_view.specs.Decoding.{made_with}
 use Rattle.vat_rules.specs.LogFacts.{Told}
 use Rattle.vat_rules.specs.Telling.{is_delivery}
 use Rattle.vat_rules.specs.Types.{RpcMessage, DecodedRecord, Host, Vow, Fulfil, Break, Make, Field, Deliver, Answer, AnswerBy, Fault, Wire}
@@ -25,7 +26,7 @@ kept : (e : DecodedRecord) (delivery : Bool) (rest : List DecodedRecord) → is_
 kept e delivery rest is = sum_by-cons (λ (x : DecodedRecord). cond (is_delivery x) 1 0) e rest ∙ ap (λ (b : Bool). cond b 1 0 + count_by is_delivery rest) is
 
 wired : (event : RpcMessage → DecodedRecord) → ((m : RpcMessage) → is_delivery (event m) ≡ false) → (read : Result RpcMessage Why) (rest : List DecodedRecord)
-    → count_by is_delivery (cons_option (event_or_none (with_message event read)) rest) ≡ 0 + count_by is_delivery rest
+    → count_by is_delivery (cons_option (event_or_none (made_with event read)) rest) ≡ 0 + count_by is_delivery rest
 wired event other (Ok m) rest = kept (event m) false rest (other m)
 wired event other (Err why) rest = omega arith
 

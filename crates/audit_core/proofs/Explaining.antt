@@ -21,7 +21,8 @@ use Rattle.call_trace.specs.Part.{IsPart}
 use Rattle.case_book.specs.Books.{AllFound, AreAll}
 use Rattle.audit_core.specs.Glue.{case_record_limit}
 use Rattle.audit_core.specs.Headline.{records_of, taken_of, IsBalancedThroughout, Explains}
-use Rattle.audit_core.specs.Report.{records_in, count_all, delivers, sends, receives, IsGoodCase, IsOrderFor, IsEarlyAt, IsReport, AreGoodFindings}
+use Rattle.audit_core.specs.Report.{records_in, count_all, delivers, IsGoodCase, IsOrderFor, IsEarlyAt, IsReport, AreGoodFindings}
+use Rattle.vat_log.specs.Passages.{sends, receives}
 use Rattle.audit_core.specs.declared.report.Report.{Report}
 use Rattle.audit_core.specs.declared.report.Report.TheVariants as report
 use Rattle.audit_core.proofs.FirstLine.{good_case}

@@ -10,8 +10,8 @@ use Rattle.vat_rules.specs.LogFacts.{Told}
 use Rattle.vat_rules.specs.declared.outcome.Outcome.{Outcome}
 use Rattle.vat_rules.specs.declared.outcome.Outcome.TheVariants.{Good, Broken, Outside}
 use Rattle.link_check.specs.Prefix.{Ends, IsOutcome}
-use Rattle.link_check.specs.declared.outcome.LinkOutcome.{LinkOutcome}
-use Rattle.link_check.specs.declared.outcome.LinkOutcome.TheVariants.{Good as GoodLink, Broken as BrokenAt}
+use Rattle.link_check.specs.declared.link_outcome.LinkOutcome.{LinkOutcome}
+use Rattle.link_check.specs.declared.link_outcome.LinkOutcome.TheVariants.{Good as GoodLink, Broken as BrokenAt}
 use Rattle.case_book.specs.Books.{AllFound, AreAll}
 use Rattle.case_book.specs.declared.link.Link.{Link}
 use Rattle.audit_core.specs.Report.{AreGoodEnds, IsGoodLog, IsFirstBad, IsFirstBroken, AreGoodLogs, AreGoodLinks, IsGoodCase, IsReport, HoldsOfEach, IsGoodFinding, AreGoodFindings}
@@ -124,8 +124,8 @@ module _ (all : AllFound) (whole : AreAll all) where
         smaller = λ other held less.
             let there = place_of all.case.links other held in
             let its = ends_at all whole there.0 other there.1 in
-            let lower = subst (λ (n : ℕ). other.conn < n) own.2.connection less in
-            let lt = smaller_before (λ (link : Link). link.conn) all.case.links whole.holds.rising_links j there.0 own.0 other own.1 there.1 lower in
+            let lower = subst (λ (n : ℕ). other.connection < n) own.2.connection less in
+            let lt = smaller_before (λ (link : Link). link.connection) all.case.links whole.holds.rising_links j there.0 own.0 other own.1 there.1 lower in
             record { ends = its.0; own = its.2; good = before there.0 its.0 lt its.1 };
       }
 

@@ -28,14 +28,14 @@ module _ (held : Contents) (case : IsCase held) (tied : tie_fault_of held ≡ No
     pub place : ℕ
     pub link : Link
     pub there : slice_get held.links place ≡ Some link
-    pub number : link.conn ≡ k
+    pub number : link.connection ≡ k
     pub ends : AreAtEnds link one other
 
   pub between : (k : ℕ) (one other : Log) → Share held.logs k one other → IsBetween k one.vat other.vat
   between k one other share =
       let at_one = user_is_end held tied one k share.one_there share.one_uses in
       let at_other = user_is_end held tied other k share.other_there share.other_uses in
-      let same : at_other.link ≡ at_one.link = one_of_number (λ (link : Link). link.conn) held.links case.rising_links at_other.place at_one.place at_other.link at_one.link
+      let same : at_other.link ≡ at_one.link = one_of_number (λ (link : Link). link.connection) held.links case.rising_links at_other.place at_one.place at_other.link at_one.link
       at_other.there at_one.there (at_other.number ∙ sym at_one.number) in
       let end = subst (λ (link : Link). (link.a ≡ other.vat) ⊎ (link.b ≡ other.vat)) same at_other.end in
       record { place = at_one.place; link = at_one.link; there = at_one.there; number = at_one.number; ends = both_ends at_one.link one.vat other.vat at_one.end end share.apart }
@@ -44,7 +44,7 @@ module _ (held : Contents) (case : IsCase held) (tied : tie_fault_of held ≡ No
   two_ends k one other third share again =
       let first = between k one other share in
       let second = between k one third again in
-      let same : second.link ≡ first.link = one_of_number (λ (link : Link). link.conn) held.links case.rising_links second.place first.place second.link first.link
+      let same : second.link ≡ first.link = one_of_number (λ (link : Link). link.connection) held.links case.rising_links second.place first.place second.link first.link
       second.there first.there (second.number ∙ sym first.number) in
       one_other first.link one.vat other.vat third.vat first.ends (subst (λ (link : Link). AreAtEnds link one.vat third.vat) same second.ends) share.apart
 

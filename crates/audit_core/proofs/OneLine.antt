@@ -17,7 +17,7 @@ use Rattle.vat_rules.specs.declared.outcome.Outcome.{Outcome}
 use Rattle.vat_rules.specs.declared.outcome.Outcome.TheVariants.{Good, Broken, Outside}
 use Rattle.vat_rules.proofs.Unique.{one_outcome}
 use Rattle.link_check.specs.Prefix.{Ends, IsOutcome, frames_received, frames_sent}
-use Rattle.link_check.specs.declared.outcome.LinkOutcome.TheVariants.{Good as GoodLink, Broken as BrokenAt}
+use Rattle.link_check.specs.declared.link_outcome.LinkOutcome.TheVariants.{Good as GoodLink, Broken as BrokenAt}
 use Rattle.link_check.proofs.Faults.{one_outcome as one_link_outcome, length_prefix}
 use Rattle.merge_order.specs.Fits.{IsFitting}
 use Rattle.merge_order.specs.declared.checking.OrderFinding.TheVariants.{Fits, Fails}
@@ -125,7 +125,7 @@ module _ (held : Contents) (case : IsCase held) where
           | inl lt ↦ absurd (no_bad_link l other_end other_message other (one.smaller other.link other.there (let number = other.number in omega arith)))
           | inr le ↦
               let same : k ≡ l = omega arith in
-              let links : one.link ≡ other.link = one_contained (λ (link : Link). link.conn) held.links case.rising_links one.link other.link one.there other.there (one.number ∙ same ∙ sym other.number) in
+              let links : one.link ≡ other.link = one_contained (λ (link : Link). link.connection) held.links case.rising_links one.link other.link one.there other.there (one.number ∙ same ∙ sym other.number) in
               let ends = same_ends other.link one.ends other.ends (subst (λ (link : Link). IsComparisonOf held.logs link one.ends) links one.own) other.own in (
                 same,
                 one_link_outcome other.ends (BrokenAt end message) (BrokenAt other_end other_message)

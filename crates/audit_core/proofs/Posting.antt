@@ -8,7 +8,7 @@ use Rattle.std.proofs.lemmas.List.Quantifiers.{position-Some}
 use Rattle.std.proofs.lemmas.List.Sums.{fails_before_first, sum_by-cons}
 use Rattle.case_book.specs.Pieces.{pieces_of}
 use Rattle.case_book.specs.Books.{Kept, IsBook, IsMissing, IsClaimed, least_missing, missing_in, with_claim}
-use Rattle.case_book.specs.declared.finding.Finding.{Finding}
+use Rattle.case_book.specs.declared.piece_finding.Finding.{Finding}
 
 -- ---- the piece that is missing
 

@@ -7,11 +7,11 @@ use Rattle.std.proofs.lemmas.Bool.{cases_lt, eqb-true}
 use Rattle.vat_log.specs.Log.{Log}
 use Rattle.vat_log.specs.declared.body.Body.{Body}
 use Rattle.vat_log.specs.declared.body.Body.TheVariants as body
-use Rattle.merge_order.specs.Fits.{sends_frame, receives_frame}
+use Rattle.vat_log.specs.Passages.{sends_frame, receives_frame, used_by}
 use Rattle.call_trace.specs.Findings.{uses}
 use Rattle.case_book.specs.Case.{Contents, or_else}
 use Rattle.case_book.specs.Least.{least, IsLeast}
-use Rattle.case_book.specs.Ties.{tie_fault_of, used_by, is_linked, is_unlinked, unlinked_in, missing_logs, links_without_log, links_of_one_vat}
+use Rattle.case_book.specs.Ties.{tie_fault_of, is_linked, is_unlinked, unlinked_in, missing_logs, links_without_log, links_of_one_vat}
 use Rattle.case_book.specs.declared.link.Link.{Link}
 use Rattle.case_book.specs.declared.ties.TieFault.{TieFault}
 use Rattle.case_book.specs.declared.ties.TieFault.TheVariants.{MissingLog, SameEnds}
@@ -97,15 +97,15 @@ pub record IsAt (links : List Link) (k vat : ℕ) : Type 0 where
   pub place : ℕ
   pub link : Link
   pub there : slice_get links place ≡ Some link
-  pub number : link.conn ≡ k
+  pub number : link.connection ≡ k
   pub end : (link.a ≡ vat) ⊎ (link.b ≡ vat)
 
-joined : (conn a b k vat : ℕ) → ((conn == k) && ((a == vat) || (b == vat))) ≡ true → (conn ≡ k) × ((a ≡ vat) ⊎ (b ≡ vat))
-joined conn a b k vat e =
-    elim (bool_cases (conn == k)) [
+joined : (connection a b k vat : ℕ) → ((connection == k) && ((a == vat) || (b == vat))) ≡ true → (connection ≡ k) × ((a ≡ vat) ⊎ (b ≡ vat))
+joined connection a b k vat e =
+    elim (bool_cases (connection == k)) [
       | inl same ↦ elim (bool_cases (a == vat)) [
-        | inl first ↦ (eqb-true conn k same, inl (eqb-true a vat first))
-        | inr other ↦ (eqb-true conn k same, inr (eqb-true b vat (let rest = rw (same, other) at e in rest)))
+        | inl first ↦ (eqb-true connection k same, inl (eqb-true a vat first))
+        | inr other ↦ (eqb-true connection k same, inr (eqb-true b vat (let rest = rw (same, other) at e in rest)))
       ]
       | inr other ↦ absurd (let h = rw other at e in cc)
     ]
@@ -113,9 +113,9 @@ joined conn a b k vat e =
 at_link : (links : List Link) (k vat : ℕ) → is_linked links vat k ≡ true → IsAt links k vat
 at_link [] k vat e = absurd cc
 at_link (link ∷ links) k vat e =
-    elim (bool_cases ((link.conn == k) && ((link.a == vat) || (link.b == vat)))) [
+    elim (bool_cases ((link.connection == k) && ((link.a == vat) || (link.b == vat)))) [
       | inl here ↦
-          let own = joined link.conn link.a link.b k vat here in
+          let own = joined link.connection link.a link.b k vat here in
           record { place = 0; link = link; there = refl; number = own.0; end = own.1 }
       | inr not_here ↦
           let later = at_link links k vat (rw not_here at e) in

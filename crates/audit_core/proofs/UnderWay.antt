@@ -10,16 +10,16 @@ use Rattle.std.proofs.lemmas.Option.{slice_get_within, get_or_from_slice_get}
 use Rattle.vat_log.specs.Log.{Log}
 use Rattle.vat_log.specs.declared.body.Body.{Body}
 use Rattle.vat_log.specs.declared.body.Body.TheVariants as body
-use Rattle.link_check.specs.Prefix.{Ends, frame_sent, frame_received, frames_sent, frames_received}
+use Rattle.link_check.specs.Prefix.{Ends, frames_sent, frames_received}
+use Rattle.vat_log.specs.Passages.{frame_sent, frame_received, sends_frame, receives_frame, sends, receives}
 use Rattle.link_check.proofs.Faults.{length_prefix}
-use Rattle.merge_order.specs.Fits.{sends_frame, receives_frame}
 use Rattle.case_book.specs.Books.{AllFound, AreAll}
 use Rattle.case_book.specs.Case.{vats_of, connections_of}
 use Rattle.case_book.specs.declared.link.Link.{Link}
 use Rattle.case_book.proofs.Numbers.{bool_cases}
 use Rattle.case_book.proofs.Numbered.{stands_once, under}
 use Rattle.case_book.proofs.Tied.{has_ends}
-use Rattle.audit_core.specs.Report.{sends, receives, count_all, records_in, AreGoodEnds, AreGoodFindings}
+use Rattle.audit_core.specs.Report.{count_all, records_in, AreGoodEnds, AreGoodFindings}
 use Rattle.audit_core.specs.Glue.{case_record_limit, sent_on, received_on, under_way_on}
 use Rattle.audit_core.proofs.Places.{place_of, contained, one_of_number}
 use Rattle.audit_core.proofs.Sums.{same_sums, sum_of_none, sum_of_one, sum_of_two, swapped, taken_away, no_greater, AreApart}
@@ -148,8 +148,8 @@ module _ (all : AllFound) (whole : AreAll all) (frame_on : ℕ → Body → Opti
       let own = link_own all whole i one here in
       let its = link_own all whole j other there in
       stands_once (connections_of all.case.links) whole.holds.rising_links i j other.connection
-      (under (λ (link : Link). link.conn) all.case.links i own.0 other.connection own.1 (sym own.2.connection ∙ same))
-      (under (λ (link : Link). link.conn) all.case.links j its.0 other.connection its.1 (sym its.2.connection))
+      (under (λ (link : Link). link.connection) all.case.links i own.0 other.connection own.1 (sym own.2.connection ∙ same))
+      (under (λ (link : Link). link.connection) all.case.links j its.0 other.connection its.1 (sym its.2.connection))
 
   logs_apart : AreApart (λ (log : Log). log.vat) all.case.logs
   logs_apart i j one other here there same =
@@ -202,7 +202,7 @@ module _ (all : AllFound) (whole : AreAll all) (frame_on : ℕ → Body → Opti
       let own = link_own all whole j ends at in
       sum_of_none (λ (b : Body). adds b ends) log.records (λ i b here. adds_none b ends (λ so. (
       let end = user_is_end all.case whole.tied log ends.connection (contained all.case.logs k log there) (log_uses log i ends.connection b here (kind.anywhere b ends.connection so).1) in
-      let same : end.link ≡ own.0 = one_of_number (λ (link : Link). link.conn) all.case.links whole.holds.rising_links end.place j end.link own.0 end.there own.1 (end.number ∙ own.2.connection) in
+      let same : end.link ≡ own.0 = one_of_number (λ (link : Link). link.connection) all.case.links whole.holds.rising_links end.place j end.link own.0 end.there own.1 (end.number ∙ own.2.connection) in
       let side = subst (λ (link : Link). (link.a ≡ log.vat) ⊎ (link.b ≡ log.vat)) same end.end in
       no_third own.0.a own.0.b ends.first.vat ends.second.vat log.vat own.2.smaller own.2.greater side apart also
       )))

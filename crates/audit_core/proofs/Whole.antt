@@ -13,7 +13,7 @@ use Rattle.call_trace.specs.Findings.{logs_of}
 use Rattle.case_book.specs.Pieces.{IsAuditOf, IsComparisonOf}
 use Rattle.case_book.specs.Books.{AllFound, AreAll, findings_of}
 use Rattle.case_book.specs.declared.link.Link.{Link}
-use Rattle.case_book.specs.declared.finding.Finding.TheVariants as finding
+use Rattle.case_book.specs.declared.piece_finding.Finding.TheVariants as finding
 use Rattle.case_book.proofs.Numbered.{pieces_len, taken, audits, compares}
 use Rattle.audit_core.proofs.Places.{in_front, behind, from_map, same_lists, place_of, contained}
 

@@ -4,7 +4,7 @@ use Rattle.vat_rules.specs.Audit.{Found, IsTrueOf}
 use Rattle.vat_rules.specs.declared.outcome.Outcome.{Outcome}
 use Rattle.vat_rules.specs.declared.outcome.Outcome.TheVariants.{Good, Broken, Outside}
 use Rattle.link_check.specs.Prefix.{Ends, IsOutcome, frames_sent, frames_received}
-use Rattle.link_check.specs.declared.outcome.LinkOutcome.TheVariants.{Broken as BrokenAt}
+use Rattle.link_check.specs.declared.link_outcome.LinkOutcome.TheVariants.{Broken as BrokenAt}
 use Rattle.case_book.specs.Case.{vat_limit}
 use Rattle.audit_core.specs.declared.report.Breach.TheVariants.{Rule}
 use Rattle.audit_core.specs.declared.report.Report.{Report}

@@ -3,6 +3,7 @@
 use Rattle.std.specs.Prelude.{◌≡◌, ℕ, ◌-◌, ◌<◌, ⊤, Bool, true, false, List, [], length, Contains, IsTrue, count_by, sum_by, Option, Some, None, slice_get}
 use Rattle.cap_reader.specs.Defaults.{default_limits}
 use Rattle.vat_log.specs.Log.{Log}
+use Rattle.vat_log.specs.Passages.{sends, receives}
 use Rattle.vat_log.specs.declared.body.Body.{Body}
 use Rattle.vat_log.specs.declared.body.Body.TheVariants as body
 use Rattle.vat_rules.specs.Audit.{Found, IsTrueOf, reads_by, edition_of}
@@ -10,7 +11,7 @@ use Rattle.vat_rules.specs.First.{AllGood}
 use Rattle.vat_rules.specs.declared.outcome.Outcome.{Outcome}
 use Rattle.vat_rules.specs.declared.outcome.Outcome.TheVariants.{Broken, Outside}
 use Rattle.link_check.specs.Prefix.{Ends, IsPrefix, IsOutcome, frames_sent, frames_received}
-use Rattle.link_check.specs.declared.outcome.LinkOutcome.TheVariants.{Broken as BrokenAt}
+use Rattle.link_check.specs.declared.link_outcome.LinkOutcome.TheVariants.{Broken as BrokenAt}
 use Rattle.merge_order.specs.Fits.{IsFitting, TakesLeast, finding_of_order}
 use Rattle.merge_order.specs.declared.checking.OrderFinding.TheVariants.{Fails}
 use Rattle.run_model.specs.declared.step.Step.{Step}
@@ -52,11 +53,11 @@ pub record IsGoodLink (logs : List Log) (link : Link) : Type 0 where
 pub record IsFirstBroken (held : Contents) (connection end message : ℕ) : Type 0 where
   pub link : Link
   pub there : Contains held.links link
-  pub number : link.conn ≡ connection
+  pub number : link.connection ≡ connection
   pub ends : Ends
   pub own : IsComparisonOf held.logs link ends
   pub found : IsOutcome ends (BrokenAt end message)
-  pub smaller : (other : Link) → Contains held.links other → other.conn < connection → IsGoodLink held.logs other
+  pub smaller : (other : Link) → Contains held.links other → other.connection < connection → IsGoodLink held.logs other
 
 -- all logs are good
 abbrev pub AreGoodLogs : Contents → Type 0
@@ -81,16 +82,6 @@ IsOrderFor logs None order = TakesLeast logs order
 abbrev pub delivers : Body → Bool
 delivers (body.Deliver call object) = true
 delivers _ = false
-
--- a record sends a frame
-abbrev pub sends : Body → Bool
-sends (body.Send connection call references frame) = true
-sends _ = false
-
--- a record receives a frame
-abbrev pub receives : Body → Bool
-receives (body.Receive connection call references frame) = true
-receives _ = false
 
 -- how many records of all logs pass a test
 abbrev pub count_all : (Body → Bool) → List Log → ℕ

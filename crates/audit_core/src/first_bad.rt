@@ -44,7 +44,7 @@ pub fn link_line(links: &[LinkFinding]) -> Option<Report>
     for found in links {
         if let LinkOutcome::Broken { end, message } = found.outcome() {
             return Some(Report::Link {
-                conn: found.connection(),
+                connection: found.connection(),
                 end,
                 message,
             });

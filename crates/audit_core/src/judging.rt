@@ -4,7 +4,8 @@ ghost use Rattle.std.specs.Prelude.{◌≡◌, ◌≤◌, ◌-◌, List, ℕ, Op
 ghost use Rattle.merge_order.specs.Fits.{IsFitting};
 ghost use Rattle.audit_core.specs.Glue.{case_record_limit};
 ghost use Rattle.audit_core.specs.Headline.{YesMeansHeadline};
-ghost use Rattle.audit_core.specs.Report.{IsReport, IsOrderFor, delivers, sends, receives, count_all, records_in, AreGoodFindings};
+ghost use Rattle.audit_core.specs.Report.{IsReport, IsOrderFor, delivers, count_all, records_in, AreGoodFindings};
+ghost use Rattle.vat_log.specs.Passages.{sends, receives};
 
 use crate::counts::{count_delivered, count_records, count_under_way};
 use crate::first_bad::{link_line, vat_line};

@@ -38,7 +38,7 @@ pub enum Report {
     /// A frame was received that the other end of its connection didn't send so.
     Link {
         /// The connection.
-        conn: u32,
+        connection: u32,
         /// The vat that received the frame.
         end: u32,
         /// Which of the frames that it received there, counted from 0.

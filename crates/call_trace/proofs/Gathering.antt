@@ -1,5 +1,5 @@
 -- Lists that are gathered item by item, where each is there.
-use Rattle.std.proofs.Common.{◌≡◌, refl, ap, List, [], ◌∷◌, ◌++◌, Option, Some, None, option_map, append_assoc, append-nil}
+use Rattle.std.proofs.Common.{◌≡◌, refl, ap, List, [], ◌∷◌, ◌++◌, Option, Some, None, option_map, append_assoc}
 use Rattle.call_trace.specs.Said.{all_there}
 use Rattle.call_trace.specs.Glue.Ledgers.{gathered_behind}
 
@@ -11,14 +11,6 @@ gathered_by xs x (Some ys) = ap Some (append_assoc xs (x ∷ []) ys)
 pub gathered_more : {A : Type 0} (xs : List A) (x : A) (os : List (Option A)) → gathered_behind (xs ++ x ∷ []) os ≡ gathered_behind xs (Some x ∷ os)
 gathered_more xs x os = gathered_by xs x (all_there os)
 
--- none is left
-pub gathered_all : {A : Type 0} (xs : List A) → gathered_behind xs [] ≡ Some xs
-gathered_all xs = ap Some (append-nil xs)
-
 of_none : {A : Type 0} (o : Option (List A)) → option_map (λ ys. [] ++ ys) o ≡ o
 of_none None = refl
 of_none (Some ys) = refl
-
--- none is gathered yet
-pub gathered_none : {A : Type 0} (os : List (Option A)) → gathered_behind [] os ≡ all_there os
-gathered_none os = of_none (all_there os)

@@ -3,13 +3,13 @@ use Rattle.std.proofs.Common.{◌≡◌, refl, sym, ◌∙◌, ap, ap₂, subst,
 use Rattle.std.specs.Option.{option_or}
 use Rattle.std.specs.Prelude.{IsSome, Result, Ok, Err, OnOk}
 use Rattle.std.proofs.lemmas.Bool.{cases_Bool, false≢true, eq-eqb}
-use Rattle.std.proofs.lemmas.List.{reverse-append, reverse-reverse, length-reverse}
+use Rattle.std.proofs.lemmas.List.{reverse-append, length-reverse}
 use Rattle.std.proofs.Math.Seq.{set-append_seam}
 use Rattle.vat_view.specs.Past.{Past}
 use Rattle.vat_view.specs.Views.{view_of_reference}
 use Rattle.vat_rules.specs.OfCaps.{is_received}
-use Rattle.vat_rules.specs.LogFacts.{Sight}
-use Rattle.vat_rules.specs.Telling.{seen_of}
+use Rattle.vat_rules.specs.LogFacts.{Facts}
+use Rattle.vat_rules.specs.Telling.{facts_of}
 use Rattle.call_trace.specs.declared.records.vat_ledger.VatLedger.{VatLedger}
 use Rattle.call_trace.specs.Types.{RpcMessage, Bootstrap, Call, Return, Finish, Resolve, Release, Disembargo, Abort, DecodedRecord, Host, Vow, Fulfil, Break, Make, Field, Deliver, Answer, AnswerBy, Fault, Wire, View, Object, Promise, FieldOf, Import, Name, Cap, Message, Step}
 use Rattle.call_trace.specs.Naming.{Naming, naming, cap_at, names_call, call_named, cap_named, message_at, message_of_step}
@@ -18,7 +18,7 @@ use Rattle.call_trace.specs.Running.{step_received, step_of}
 use Rattle.call_trace.specs.Said.{all_there}
 use Rattle.call_trace.specs.Glue.Ledgers.{step_message_in, call_name_in, cap_in, names_in, call_bound_by, bound_call, named_said, with_bound, received_step, step_by, pushed, IsBound, IsNoted, IsKept, HasStep, IsTaken}
 use Rattle.call_trace.proofs.Naming.{message_within}
-use Rattle.call_trace.proofs.Seeing.{step_as}
+use Rattle.call_trace.proofs.Viewing.{step_as}
 use Rattle.run_model.specs.Has.{call_in_message}
 use Rattle.run_model.specs.Legal.{caps_brought}
 use Rattle.run_model.specs.Steps.{call}
@@ -263,11 +263,11 @@ own_step_of v es own before (Fault c) mine = refl
 own_step_of v es own before (Wire true k c references m) mine = refl
 own_step_of v es own before (Wire false k c references m) mine = absurd (let none : ⊥ = cc in none)
 
--- what it says by the tables and by what was seen of it is its step
-pub own_step_is : (v : ℕ) (es : Past) (own run before : List Step) (e : DecodedRecord) (seen : Sight) (old new : VatLedger) → IsKept v es own run old → is_received e ≡ false →
-    seen ≡ seen_of es e → IsBound (call_bound_by v e None) old new → step_by (names_in run new) seen e ≡ step_of v es own before e
-own_step_is v es own run before e seen old new kept mine is bound =
-    ap₂ (λ names sight. step_by names sight e) (names_are v es own run e (step.Host v 0) old new kept mine bound) is
+-- what it says by the tables and by its facts is its step
+pub own_step_is : (v : ℕ) (es : Past) (own run before : List Step) (e : DecodedRecord) (facts : Facts) (old new : VatLedger) → IsKept v es own run old → is_received e ≡ false →
+    facts ≡ facts_of es e → IsBound (call_bound_by v e None) old new → step_by (names_in run new) facts e ≡ step_of v es own before e
+own_step_is v es own run before e facts old new kept mine is bound =
+    ap₂ (λ names known. step_by names known e) (names_are v es own run e (step.Host v 0) old new kept mine bound) is
     ∙ step_as (naming v (e ∷ es) (step.Host v 0 ∷ own)) es e mine ∙ own_step_of v es own before e mine
 
 -- ---- the step of a record that is received
@@ -276,15 +276,15 @@ named_map : (names : Naming) (es : Past) (rs : List ℕ) → map (option_and_the
 named_map names es [] = refl
 named_map names es (r ∷ rs) = ap (λ os. reference_named names es r ∷ os) (named_map names es rs)
 
--- what the references noted beside it are bound to, by the tables and by what was seen of it
-pub received_binds : (v : ℕ) (es : Past) (own run : List Step) (k c : ℕ) (references : List ℕ) (m : RpcMessage) (message : Message) (seen : Sight) (ledger : VatLedger) →
-    let e = Wire false k c references m in IsKept v (e ∷ es) (step.Receive v k message [] ∷ own) run ledger → seen ≡ seen_of es e →
-    option_map (λ bound. step.Receive v k message bound) (named_said (names_in run ledger) seen.references) ≡ step_received v es own e k references message
-received_binds v es own run k c references m message seen ledger kept is =
+-- what the references noted beside it are bound to, by the tables and by its facts
+pub received_binds : (v : ℕ) (es : Past) (own run : List Step) (k c : ℕ) (references : List ℕ) (m : RpcMessage) (message : Message) (facts : Facts) (ledger : VatLedger) →
+    let e = Wire false k c references m in IsKept v (e ∷ es) (step.Receive v k message [] ∷ own) run ledger → facts ≡ facts_of es e →
+    option_map (λ bound. step.Receive v k message bound) (named_said (names_in run ledger) facts.references) ≡ step_received v es own e k references message
+received_binds v es own run k c references m message facts ledger kept is =
     let e = Wire false k c references m in
     let names = naming v (e ∷ es) (step.Receive v k message [] ∷ own) in
     ap (option_map (λ bound. step.Receive v k message bound))
-    (ap₂ (λ ns (sight : Sight). named_said ns sight.references) (names_after v (e ∷ es) (step.Receive v k message [] ∷ own) run ledger kept) is
+    (ap₂ (λ ns (known : Facts). named_said ns known.references) (names_after v (e ∷ es) (step.Receive v k message [] ∷ own) run ledger kept) is
     ∙ ap (λ rs. named_said names (map (view_of_reference (e ∷ es)) rs)) (append-nil references)
     ∙ ap all_there (named_map names (e ∷ es) references))
 
@@ -307,50 +307,50 @@ some_is : {A : Type 0} {x y : A} → Some x ≡ Some y → x ≡ y
 some_is e = cc
 
 -- a record that isn't received took its step
-pub own_taken : (v : ℕ) (es : Past) (own before run taken : List Step) (e : DecodedRecord) (seen : Sight) (number : ℕ) (old bound new : VatLedger) (s : Step) →
-    IsKept v es own run old → is_received e ≡ false → seen ≡ seen_of es e → IsBound (call_bound_by old.vat e None) old bound →
-    Some s ≡ step_by (names_in run bound) seen e → IsNoted number bound new → number ≡ length run → taken ≡ run ++ s ∷ [] →
+pub own_taken : (v : ℕ) (es : Past) (own before run taken : List Step) (e : DecodedRecord) (facts : Facts) (number : ℕ) (old bound new : VatLedger) (s : Step) →
+    IsKept v es own run old → is_received e ≡ false → facts ≡ facts_of es e → IsBound (call_bound_by old.vat e None) old bound →
+    Some s ≡ step_by (names_in run bound) facts e → IsNoted number bound new → number ≡ length run → taken ≡ run ++ s ∷ [] →
     IsTaken v es e own (step_of v es own before e) run taken new
-own_taken v es own before run taken e seen number old bound new s kept mine is b says n at more =
+own_taken v es own before run taken e facts number old bound new s kept mine is b says n at more =
     let named : IsBound (call_bound_by v e None) old bound = subst (λ w. IsBound (call_bound_by w e None) old bound) kept.vat b in
-    let step_is = own_step_is v es own run before e seen old bound kept mine is named in
+    let step_is = own_step_is v es own run before e facts old bound kept mine is named in
     let here : IsNoted (length run) bound new = subst (λ i. IsNoted i bound new) at n in
     let by_step : IsBound (call_bound_by v e (message_of_step s)) old bound = subst (λ o. IsBound o old bound) (sym (binding_own v e (message_of_step s) mine)) named in
     (s, sym (says ∙ step_is), more, subst (λ xs. IsKept v (e ∷ es) (s ∷ own) xs new) (sym more) (kept_more v es own run e s old bound new kept by_step here))
 
 -- it has none
-pub own_none : (v : ℕ) (es : Past) (own before run : List Step) (e : DecodedRecord) (seen : Sight) (old bound : VatLedger) →
-    IsKept v es own run old → is_received e ≡ false → seen ≡ seen_of es e → IsBound (call_bound_by old.vat e None) old bound →
-    None ≡ step_by (names_in run bound) seen e → step_of v es own before e ≡ None
-own_none v es own before run e seen old bound kept mine is b says =
-    sym (says ∙ own_step_is v es own run before e seen old bound kept mine is (subst (λ w. IsBound (call_bound_by w e None) old bound) kept.vat b))
+pub own_none : (v : ℕ) (es : Past) (own before run : List Step) (e : DecodedRecord) (facts : Facts) (old bound : VatLedger) →
+    IsKept v es own run old → is_received e ≡ false → facts ≡ facts_of es e → IsBound (call_bound_by old.vat e None) old bound →
+    None ≡ step_by (names_in run bound) facts e → step_of v es own before e ≡ None
+own_none v es own before run e facts old bound kept mine is b says =
+    sym (says ∙ own_step_is v es own run before e facts old bound kept mine is (subst (λ w. IsBound (call_bound_by w e None) old bound) kept.vat b))
 
 -- it has one, by the tables
-pub own_some : (run : List Step) (e : DecodedRecord) (seen : Sight) (old bound : VatLedger) → HasStep (λ v es own before. step_of v es own before e) e seen run old →
-    is_received e ≡ false → IsBound (call_bound_by old.vat e None) old bound → IsSome (step_by (names_in run bound) seen e)
-own_some run e seen old bound has mine is =
-    some_if _ (λ none. not_none _ has.there (own_none has.vat has.past has.own has.before run e seen old bound has.kept mine has.sight is (sym none)))
+pub own_some : (run : List Step) (e : DecodedRecord) (facts : Facts) (old bound : VatLedger) → HasStep (λ v es own before. step_of v es own before e) e facts run old →
+    is_received e ≡ false → IsBound (call_bound_by old.vat e None) old bound → IsSome (step_by (names_in run bound) facts e)
+own_some run e facts old bound has mine is =
+    some_if _ (λ none. not_none _ has.there (own_none has.vat has.past has.own has.before run e facts old bound has.kept mine has.known is (sym none)))
 
 -- it took its step, where that stands behind those before
-pub own_pushed : (v : ℕ) (es : Past) (own before run taken : List Step) (e : DecodedRecord) (seen : Sight) (number : ℕ) (old bound new : VatLedger) →
-    IsKept v es own run old → is_received e ≡ false → seen ≡ seen_of es e → IsBound (call_bound_by old.vat e None) old bound →
-    IsSome (step_by (names_in run bound) seen e) → taken ≡ pushed (step_by (names_in run bound) seen e) run → IsNoted number bound new → number ≡ length run →
+pub own_pushed : (v : ℕ) (es : Past) (own before run taken : List Step) (e : DecodedRecord) (facts : Facts) (number : ℕ) (old bound new : VatLedger) →
+    IsKept v es own run old → is_received e ≡ false → facts ≡ facts_of es e → IsBound (call_bound_by old.vat e None) old bound →
+    IsSome (step_by (names_in run bound) facts e) → taken ≡ pushed (step_by (names_in run bound) facts e) run → IsNoted number bound new → number ≡ length run →
     IsTaken v es e own (step_of v es own before e) run taken new
-own_pushed v es own before run taken e seen number old bound new kept mine is b there more n long = at (step_by (names_in run bound) seen e) refl there more
+own_pushed v es own before run taken e facts number old bound new kept mine is b there more n long = at (step_by (names_in run bound) facts e) refl there more
   where
-    at : (o : Option Step) → o ≡ step_by (names_in run bound) seen e → IsSome o → taken ≡ pushed o run → IsTaken v es e own (step_of v es own before e) run taken new
-    at (Some s) says some more = own_taken v es own before run taken e seen number old bound new s kept mine is b says n long more
+    at : (o : Option Step) → o ≡ step_by (names_in run bound) facts e → IsSome o → taken ≡ pushed o run → IsTaken v es e own (step_of v es own before e) run taken new
+    at (Some s) says some more = own_taken v es own before run taken e facts number old bound new s kept mine is b says n long more
     at None says some more = absurd (let no : ⊥ = cc in no)
 
 -- what a received record is bound to by the tables, where its step stands last and binds nothing yet
-received_said : (v : ℕ) (es : Past) (own run pushed : List Step) (k c : ℕ) (references : List ℕ) (m : RpcMessage) (message : Message) (seen : Sight) (number : ℕ)
+received_said : (v : ℕ) (es : Past) (own run pushed : List Step) (k c : ℕ) (references : List ℕ) (m : RpcMessage) (message : Message) (facts : Facts) (number : ℕ)
     (old bound new : VatLedger) (w : ℕ) → let e = Wire false k c references m in
-    IsKept v es own run old → seen ≡ seen_of es e → IsBound (call_bound_by old.vat e (Some message)) old bound → IsNoted number bound new → number ≡ length run →
+    IsKept v es own run old → facts ≡ facts_of es e → IsBound (call_bound_by old.vat e (Some message)) old bound → IsNoted number bound new → number ≡ length run →
     w ≡ new.vat → pushed ≡ run ++ step.Receive w k message [] ∷ [] →
     (pushed ≡ run ++ step.Receive v k message [] ∷ [])
-    × (option_map (λ b. step.Receive v k message b) (named_said (names_in pushed new) seen.references) ≡ step_received v es own e k references message)
+    × (option_map (λ b. step.Receive v k message b) (named_said (names_in pushed new) facts.references) ≡ step_received v es own e k references message)
     × ((b : List Cap) → IsKept v (e ∷ es) (step.Receive v k message b ∷ own) (run ++ step.Receive v k message b ∷ []) new)
-received_said v es own run pushed k c references m message seen number old bound new w kept is b n at whose more =
+received_said v es own run pushed k c references m message facts number old bound new w kept is b n at whose more =
     let e = Wire false k c references m in
     let named : IsBound (call_bound_by v e (Some message)) old bound = subst (λ u. IsBound (call_bound_by u e (Some message)) old bound) kept.vat b in
     let here : IsNoted (length run) bound new = subst (λ i. IsNoted i bound new) at n in
@@ -358,37 +358,37 @@ received_said v es own run pushed k c references m message seen number old bound
     let all : pushed ≡ run ++ step.Receive v k message [] ∷ [] = more ∙ ap (λ u. run ++ step.Receive u k message [] ∷ []) by in
     let keeps : (l : List Cap) → IsKept v (e ∷ es) (step.Receive v k message l ∷ own) (run ++ step.Receive v k message l ∷ []) new =
     λ l. kept_more v es own run e (step.Receive v k message l) old bound new kept named here in
-    (all, received_binds v es own pushed k c references m message seen new (subst (λ xs. IsKept v (e ∷ es) (step.Receive v k message [] ∷ own) xs new) (sym all) (keeps [])) is, keeps)
+    (all, received_binds v es own pushed k c references m message facts new (subst (λ xs. IsKept v (e ∷ es) (step.Receive v k message [] ∷ own) xs new) (sym all) (keeps [])) is, keeps)
 
 -- a received record took its step
-pub received_taken : (v : ℕ) (es : Past) (own run pushed taken : List Step) (k c : ℕ) (references : List ℕ) (m : RpcMessage) (message : Message) (seen : Sight)
+pub received_taken : (v : ℕ) (es : Past) (own run pushed taken : List Step) (k c : ℕ) (references : List ℕ) (m : RpcMessage) (message : Message) (facts : Facts)
     (number : ℕ) (old bound new : VatLedger) (w : ℕ) (caps : List Cap) → let e = Wire false k c references m in
-    IsKept v es own run old → seen ≡ seen_of es e → IsBound (call_bound_by old.vat e (Some message)) old bound → IsNoted number bound new → number ≡ length run →
-    w ≡ new.vat → pushed ≡ run ++ step.Receive w k message [] ∷ [] → Some caps ≡ named_said (names_in pushed new) seen.references →
+    IsKept v es own run old → facts ≡ facts_of es e → IsBound (call_bound_by old.vat e (Some message)) old bound → IsNoted number bound new → number ≡ length run →
+    w ≡ new.vat → pushed ≡ run ++ step.Receive w k message [] ∷ [] → Some caps ≡ named_said (names_in pushed new) facts.references →
     taken ≡ run ++ step.Receive w k message caps ∷ [] →
     IsTaken v es e own (step_received v es own e k references message) run taken new
-received_taken v es own run pushed taken k c references m message seen number old bound new w caps kept is b n at whose more says again =
+received_taken v es own run pushed taken k c references m message facts number old bound new w caps kept is b n at whose more says again =
     let e = Wire false k c references m in
     let s : Step = step.Receive v k message caps in
-    let said = received_said v es own run pushed k c references m message seen number old bound new w kept is b n at whose more in
+    let said = received_said v es own run pushed k c references m message facts number old bound new w kept is b n at whose more in
     let all : taken ≡ run ++ s ∷ [] = again ∙ ap (λ u. run ++ step.Receive u k message caps ∷ []) (whose ∙ n.vat ∙ b.vat ∙ kept.vat) in
     (s, sym said.1 ∙ ap (option_map (λ l. step.Receive v k message l)) (sym says), all, subst (λ xs. IsKept v (e ∷ es) (s ∷ own) xs new) (sym all) (said.2 caps))
 
 -- it has none
-pub received_none : (v : ℕ) (es : Past) (own run pushed : List Step) (k c : ℕ) (references : List ℕ) (m : RpcMessage) (message : Message) (seen : Sight)
+pub received_none : (v : ℕ) (es : Past) (own run pushed : List Step) (k c : ℕ) (references : List ℕ) (m : RpcMessage) (message : Message) (facts : Facts)
     (number : ℕ) (old bound new : VatLedger) (w : ℕ) → let e = Wire false k c references m in
-    IsKept v es own run old → seen ≡ seen_of es e → IsBound (call_bound_by old.vat e (Some message)) old bound → IsNoted number bound new → number ≡ length run →
-    w ≡ new.vat → pushed ≡ run ++ step.Receive w k message [] ∷ [] → None ≡ named_said (names_in pushed new) seen.references →
+    IsKept v es own run old → facts ≡ facts_of es e → IsBound (call_bound_by old.vat e (Some message)) old bound → IsNoted number bound new → number ≡ length run →
+    w ≡ new.vat → pushed ≡ run ++ step.Receive w k message [] ∷ [] → None ≡ named_said (names_in pushed new) facts.references →
     step_received v es own e k references message ≡ None
-received_none v es own run pushed k c references m message seen number old bound new w kept is b n at whose more says =
-    let said = received_said v es own run pushed k c references m message seen number old bound new w kept is b n at whose more in
+received_none v es own run pushed k c references m message facts number old bound new w kept is b n at whose more says =
+    let said = received_said v es own run pushed k c references m message facts number old bound new w kept is b n at whose more in
     sym said.1 ∙ ap (option_map (λ l. step.Receive v k message l)) (sym says)
 
 -- the same of a record of either way that is known to be received
 abbrev Takes : DecodedRecord → ℕ → Type 0
-Takes e k = (v : ℕ) (es : Past) (own run pushed taken : List Step) (message : Message) (seen : Sight) (number : ℕ) (old bound new : VatLedger) (w : ℕ) (caps : List Cap)
-    → IsKept v es own run old → seen ≡ seen_of es e → IsBound (call_bound_by old.vat e (Some message)) old bound → IsNoted number bound new →
-    number ≡ length run → w ≡ new.vat → pushed ≡ run ++ step.Receive w k message [] ∷ [] → Some caps ≡ named_said (names_in pushed new) seen.references →
+Takes e k = (v : ℕ) (es : Past) (own run pushed taken : List Step) (message : Message) (facts : Facts) (number : ℕ) (old bound new : VatLedger) (w : ℕ) (caps : List Cap)
+    → IsKept v es own run old → facts ≡ facts_of es e → IsBound (call_bound_by old.vat e (Some message)) old bound → IsNoted number bound new →
+    number ≡ length run → w ≡ new.vat → pushed ≡ run ++ step.Receive w k message [] ∷ [] → Some caps ≡ named_said (names_in pushed new) facts.references →
     taken ≡ run ++ step.Receive w k message caps ∷ [] → IsTaken v es e own (received_step v es own e message) run taken new
 
 pub takes : (e : DecodedRecord) → is_received e ≡ true → (sent : Bool) (k c : ℕ) (references : List ℕ) (m : RpcMessage) → Wire sent k c references m ≡ e → Takes e k
@@ -396,8 +396,8 @@ takes e h sent k c references m is = subst (λ e. is_received e ≡ true → Tak
   where
     at : (sent : Bool) → is_received (Wire sent k c references m) ≡ true → Takes (Wire sent k c references m) k
     at true h = absurd (let none : ⊥ = cc in none)
-    at false h = λ v es own run pushed taken message seen number old bound new w caps.
-        received_taken v es own run pushed taken k c references m message seen number old bound new w caps
+    at false h = λ v es own run pushed taken message facts number old bound new w caps.
+        received_taken v es own run pushed taken k c references m message facts number old bound new w caps
 
 -- the step that stands last has these bound now
 pub last_bound : (run pushed taken : List Step) (w k : ℕ) (message : Message) (caps : List Cap) (number : ℕ) (was new : Step) → pushed ≡ run ++ step.Receive w k message [] ∷ [] →
@@ -408,9 +408,9 @@ last_bound run pushed taken w k message caps number was new more at stood is all
     all ∙ ap₂ (λ xs n. set xs n new) more at ∙ set-append_seam run s [] new ∙ ap (λ x. run ++ x ∷ []) (is ∙ ap (with_bound caps) here)
 
 abbrev TakesNone : DecodedRecord → ℕ → Type 0
-TakesNone e k = (v : ℕ) (es : Past) (own run pushed : List Step) (message : Message) (seen : Sight) (number : ℕ) (old bound new : VatLedger) (w : ℕ) →
-    IsKept v es own run old → seen ≡ seen_of es e → IsBound (call_bound_by old.vat e (Some message)) old bound → IsNoted number bound new →
-    number ≡ length run → w ≡ new.vat → pushed ≡ run ++ step.Receive w k message [] ∷ [] → None ≡ named_said (names_in pushed new) seen.references →
+TakesNone e k = (v : ℕ) (es : Past) (own run pushed : List Step) (message : Message) (facts : Facts) (number : ℕ) (old bound new : VatLedger) (w : ℕ) →
+    IsKept v es own run old → facts ≡ facts_of es e → IsBound (call_bound_by old.vat e (Some message)) old bound → IsNoted number bound new →
+    number ≡ length run → w ≡ new.vat → pushed ≡ run ++ step.Receive w k message [] ∷ [] → None ≡ named_said (names_in pushed new) facts.references →
     received_step v es own e message ≡ None
 
 pub takes_none : (e : DecodedRecord) → is_received e ≡ true → (sent : Bool) (k c : ℕ) (references : List ℕ) (m : RpcMessage) → Wire sent k c references m ≡ e → TakesNone e k
@@ -418,5 +418,5 @@ takes_none e h sent k c references m is = subst (λ e. is_received e ≡ true �
   where
     at : (sent : Bool) → is_received (Wire sent k c references m) ≡ true → TakesNone (Wire sent k c references m) k
     at true h = absurd (let none : ⊥ = cc in none)
-    at false h = λ v es own run pushed message seen number old bound new w.
-        received_none v es own run pushed k c references m message seen number old bound new w
+    at false h = λ v es own run pushed message facts number old bound new w.
+        received_none v es own run pushed k c references m message facts number old bound new w

@@ -34,7 +34,7 @@ pub mod Behind
 pub mod Early
 pub mod Passing
 pub mod Gathering
-pub mod Seeing
+pub mod Viewing
 pub mod Keeping
 pub mod Storied
 pub mod Rowing

@@ -11,7 +11,8 @@ use Rattle.rpc_view.specs.Message.{message_of_bytes}
 use Rattle.rpc_view.proofs.Deeper.{is_one}
 use Rattle.vat_log.specs.declared.body.Body.{Body}
 use Rattle.vat_log.specs.declared.body.Body.TheVariants as body
-use Rattle.link_check.specs.Prefix.{IsPrefix, frame_sent, frame_received, frames_sent, frames_received}
+use Rattle.link_check.specs.Prefix.{IsPrefix, frames_sent, frames_received}
+use Rattle.vat_log.specs.Passages.{frame_sent, frame_received}
 use Rattle.vat_rules.specs.Audit.{Found, reads_within, read_as}
 use Rattle.vat_rules.specs.Events.{event_of}
 use Rattle.vat_rules.specs.Types.{Later}

@@ -202,11 +202,6 @@ ends_said v p es steps (Fault c) s says h = subst (λ s. ends v p s ≡ false) (
 ends_said v p es steps (Wire true k c rs m) s says h = subst (λ s. ends v p s ≡ false) (form v es steps (Wire true k c rs m) s says).2 refl
 ends_said v p es steps (Wire false k c rs m) s says h = subst (λ s. ends v p s ≡ false) (sym says.step) refl
 
--- a promise that stays was neither kept nor broken
-never_stays : (o : Option Next) → unwrap_or o stays ≡ stays → (o ≡ None) ⊎ (o ≡ Some stays)
-never_stays None h = inl refl
-never_stays (Some n) h = inr (ap (λ n. Some n) h)
-
 keeps_moves : (p : ℕ) (es : Past) (e : DecodedRecord) → keeps p es e ≡ Some stays → ⊥
 keeps_moves p es (Fulfil r to) h = at (is_promise p (view_of_reference es r)) (view_of_reference es to) h
   where

@@ -13,7 +13,7 @@ use Rattle.agree.proofs.Cuts.{row_cut, turned, shared_linked}
 use Rattle.agree.proofs.Openings.{passing_is}
 use Rattle.agree.proofs.Points.{through, before_it, at_each_before, lifted}
 use Rattle.vat_log.specs.declared.body.Body.{Body}
-use Rattle.merge_order.specs.Fits.{sends_frame, receives_frame}
+use Rattle.vat_log.specs.Passages.{sends_frame, receives_frame}
 use Rattle.vat_rules.specs.Audit.{Found, reads_within}
 use Rattle.vat_rules.specs.Events.{event_of}
 use Rattle.vat_rules.specs.Judged.{IsGood}

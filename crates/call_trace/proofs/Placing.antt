@@ -10,7 +10,7 @@ use Rattle.vat_view.specs.Calls.{brings, takes, request_of, delivers, boots, has
 use Rattle.vat_view.specs.Calls.{moves as log_moves}
 use Rattle.vat_view.specs.Views.{view_of_reference, view_of_target}
 use Rattle.vat_view.specs.Questions.{is_late, call_of}
-use Rattle.vat_view.specs.declared.asked.Asked.{Asked as AskedOf}
+use Rattle.vat_view.specs.declared.request.Request.{Request as AskedOf}
 use Rattle.vat_rules.specs.Judged.{IsGood}
 use Rattle.vat_rules.specs.Ways.{LeadsTo}
 use Rattle.vat_rules.specs.declared.rule.Rule.TheVariants as rule

@@ -14,13 +14,13 @@ use Rattle.cap_reader.specs.declared.limits.Limits.{Limits}
 use Rattle.vat_log.specs.Log.{Log}
 use Rattle.vat_log.specs.declared.body.Body.{Body}
 use Rattle.vat_log.specs.declared.body.Body.TheVariants as body
-use Rattle.link_check.specs.Prefix.{frame_sent, frame_received}
-use Rattle.merge_order.specs.Fits.{sends_frame, receives_frame}
+use Rattle.vat_log.specs.Passages.{frame_sent, frame_received, sends_frame, receives_frame}
 use Rattle.vat_rules.specs.declared.outcome.Why.{Why}
 use Rattle.vat_rules.specs.declared.outcome.Outcome.{Outcome}
 use Rattle.vat_rules.specs.declared.outcome.Outcome.TheVariants as outcome
 use Rattle.vat_rules.specs.Audit.{Found, IsTrueOf, reads_within}
-use Rattle.vat_rules.specs.Events.{Reader, event_of, event_or_none, with_message}
+use Rattle.vat_rules.specs.Events.{Reader, event_of, event_or_none}
+use Rattle.vat_view.specs.Decoding.{made_with}
 use Rattle.vat_rules.specs.First.{IsGoodAt, AllGood}
 use Rattle.vat_rules.specs.Types.{Later}
 use Rattle.vat_rules.proofs.Editions.{good_logs_good}
@@ -79,7 +79,7 @@ each_good f all (suc n) le =
 
 -- ---- how many messages passed
 
-pub with_is : (event : RpcMessage → DecodedRecord) (r : Result RpcMessage Why) (e : DecodedRecord) → with_message event r ≡ Ok e → (m : RpcMessage) × (r ≡ Ok m) × (e ≡ event m)
+pub with_is : (event : RpcMessage → DecodedRecord) (r : Result RpcMessage Why) (e : DecodedRecord) → made_with event r ≡ Ok e → (m : RpcMessage) × (r ≡ Ok m) × (e ≡ event m)
 with_is event (Ok m) e h = (m, refl, let same : e ≡ event m = cc in same)
 with_is event (Err why) e h = absurd (let no : ⊥ = cc in no)
 
@@ -162,7 +162,7 @@ frame_if true m get frame e = sym e
 frame_if false m get frame e = refl
 
 frame_passed : (k on c : ℕ) (rs frame : List ℕ) (s : Bool) (get : List ℕ → Option RpcMessage) (r : Result RpcMessage Why) → beq s s ≡ true → get frame ≡ message_or_none r →
-    option_and_then (passing k s) (event_or_none (with_message (Wire s on c rs) r)) ≡ option_and_then get (if on == k then Some frame else None)
+    option_and_then (passing k s) (event_or_none (made_with (Wire s on c rs) r)) ≡ option_and_then get (if on == k then Some frame else None)
 frame_passed k on c rs frame s get (Ok m) same e =
     ap (λ b. if (k == on) && b then Some m else None) same ∙ ap (λ b. if b && true then Some m else None) (eqb_turns k on) ∙ frame_if (on == k) (Some m) get frame e
 frame_passed k on c rs frame s get (Err why) same e = nothing (on == k)
@@ -171,7 +171,7 @@ frame_passed k on c rs frame s get (Err why) same e = nothing (on == k)
     nothing true = sym e
     nothing false = refl
 
-none_passed : (k on c : ℕ) (rs : List ℕ) (s t : Bool) (r : Result RpcMessage Why) → beq s t ≡ false → option_and_then (passing k s) (event_or_none (with_message (Wire t on c rs) r)) ≡ None
+none_passed : (k on c : ℕ) (rs : List ℕ) (s t : Bool) (r : Result RpcMessage Why) → beq s t ≡ false → option_and_then (passing k s) (event_or_none (made_with (Wire t on c rs) r)) ≡ None
 none_passed k on c rs s t (Err why) apart = refl
 none_passed k on c rs s t (Ok m) apart = ap (λ b. if (k == on) && b then Some m else None) apart ∙ at (k == on)
   where

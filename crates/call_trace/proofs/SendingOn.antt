@@ -1,5 +1,5 @@
 -- A call that came to a vat, and for which a question of that vat's stands, was sent on by it.
-use Rattle.std.proofs.Common.{◌≡◌, ◌⊎◌, inl, inr, refl, sym, ◌∙◌, ap, ap₂, subst, ℕ, ◌==◌, List, [], ◌∷◌, ◌++◌, Bool, true, false, not, ◌||◌, ◌&&◌, Option, Some, None, if◌then◌else◌, option_and_then}
+use Rattle.std.proofs.Common.{◌≡◌, ◌⊎◌, inl, inr, refl, sym, ◌∙◌, ap, ap₂, subst, ℕ, ◌==◌, List, [], ◌∷◌, ◌++◌, Bool, true, false, not, Option, Some, None, option_and_then}
 use Rattle.std.specs.List.{list_any}
 use Rattle.std.proofs.lemmas.Bool.{and_from, or_left, or_right, eq-eqb, false≢true}
 use Rattle.agree.specs.Points.{GoesOn}
@@ -21,7 +21,7 @@ use Rattle.call_trace.proofs.Asking.{call_in_use, found_there}
 use Rattle.call_trace.proofs.Carried.{paired_at, each_after}
 use Rattle.call_trace.proofs.Making.{form, only}
 use Rattle.call_trace.proofs.Naming.{mapped_is, call_keeps}
-use Rattle.call_trace.proofs.Within.{StandsIn, stands_in}
+use Rattle.call_trace.proofs.Within.{stands_in}
 use Rattle.run_model.specs.Legal.{sends_on}
 use Rattle.run_model.specs.Steps.{OneOf, is_same_call, vat_of}
 use Rattle.run_model.proofs.Sending.{passes_later}

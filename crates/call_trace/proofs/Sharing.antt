@@ -18,7 +18,8 @@ use Rattle.vat_log.specs.Log.{Log}
 use Rattle.vat_log.specs.declared.body.Body.{Body}
 use Rattle.vat_log.specs.declared.body.Body.TheVariants as body
 use Rattle.merge_order.proofs.Greedy.{eqb_apart}
-use Rattle.merge_order.specs.Fits.{Part, sends_frame, receives_frame, sent_so_far, received_so_far, sent_by_the_others, may_come, may_come_from, may_follow, part_of, used_up}
+use Rattle.merge_order.specs.Fits.{Part, sent_so_far, received_so_far, sent_by_the_others, may_come, may_come_from, may_follow, part_of, used_up}
+use Rattle.vat_log.specs.Passages.{sends_frame, receives_frame}
 use Rattle.vat_rules.specs.declared.outcome.Why.{Why}
 use Rattle.vat_rules.specs.Audit.{Found, IsTrueOf, reads_within}
 use Rattle.vat_rules.specs.Events.{Reader, event_of, event_or_none}

@@ -4,7 +4,7 @@ use Rattle.std.proofs.lemmas.List.{reverse-append}
 use Rattle.std.proofs.lemmas.Option.{slice_get_past, slice_get-map}
 use Rattle.vat_rules.specs.Audit.{Found, IsTrueOf, reads_within}
 use Rattle.vat_rules.specs.LogFacts.{Entry, Told}
-use Rattle.vat_rules.specs.Telling.{seen_of, entry_of, entries_back, told_of}
+use Rattle.vat_rules.specs.Telling.{facts_of, entry_of, entries_back, told_of}
 use Rattle.call_trace.specs.Types.{DecodedRecord}
 use Rattle.call_trace.specs.Findings.{is_good}
 use Rattle.call_trace.specs.Named.{past_before}
@@ -118,12 +118,12 @@ event_told f story first is i =
     at None = refl
     at (Some e) = refl
 
--- what is seen of it
-pub seen_told : (f : Found) (story : Told) → IsTrueOf f.log f.limits f.outcome → story_in f.outcome ≡ Some story → (i : ℕ) →
-    slice_get (map (λ (entry : Entry). entry.seen) story.entries) i ≡ option_map (λ e. seen_of (past_before f i) e) (record_in f i)
-seen_told f story first is i =
-    slice_get-map (λ (entry : Entry). entry.seen) story.entries i ∙ ap (option_map (λ (entry : Entry). entry.seen)) (entry_told f story first is i) ∙ at (record_in f i)
+-- its facts
+pub facts_told : (f : Found) (story : Told) → IsTrueOf f.log f.limits f.outcome → story_in f.outcome ≡ Some story → (i : ℕ) →
+    slice_get (map (λ (entry : Entry). entry.facts) story.entries) i ≡ option_map (λ e. facts_of (past_before f i) e) (record_in f i)
+facts_told f story first is i =
+    slice_get-map (λ (entry : Entry). entry.facts) story.entries i ∙ ap (option_map (λ (entry : Entry). entry.facts)) (entry_told f story first is i) ∙ at (record_in f i)
   where
-    at : (o : Option DecodedRecord) → option_map (λ (entry : Entry). entry.seen) (option_map (λ e. entry_of (past_before f i) e) o) ≡ option_map (λ e. seen_of (past_before f i) e) o
+    at : (o : Option DecodedRecord) → option_map (λ (entry : Entry). entry.facts) (option_map (λ e. entry_of (past_before f i) e) o) ≡ option_map (λ e. facts_of (past_before f i) e) o
     at None = refl
     at (Some e) = refl

@@ -2,7 +2,7 @@
 use Rattle.std.proofs.Common.{◌≡◌, refl, sym, ◌∙◌, ap, subst, ℕ, List, ◌∷◌, map, reverse, Bool, true, false, Option, Some, None, option_and_then, option_map, slice_get}
 use Rattle.std.specs.Prelude.{IsSome}
 use Rattle.agree.specs.Rows.{Row, log_of_vat}
-use Rattle.vat_rules.specs.LogFacts.{Sight}
+use Rattle.vat_rules.specs.LogFacts.{Facts}
 use Rattle.vat_rules.specs.OfCaps.{is_received}
 use Rattle.vat_view.specs.Past.{Past}
 use Rattle.vat_view.specs.Views.{view_of_reference}
@@ -176,15 +176,15 @@ step_there : (v : ℕ) (e : DecodedRecord) (row : Row) (before : List Step) → 
 step_there v e row before so_far on = some_if _ (λ none. not_none _ on (row_none v e row before so_far none))
 
 -- that of a record that isn't received
-pub own_there : (e : DecodedRecord) (seen : Sight) (trail : RunBuilder) (ledger : VatLedger) → ComesNext e seen trail ledger →
-    HasStep (λ v es own before. step_of v es own before e) e seen trail.steps.items ledger
-own_there e seen trail ledger on = record {
+pub own_there : (e : DecodedRecord) (facts : Facts) (trail : RunBuilder) (ledger : VatLedger) → ComesNext e facts trail ledger →
+    HasStep (λ v es own before. step_of v es own before e) e facts trail.steps.items ledger
+own_there e facts trail ledger on = record {
   vat = on.vat;
   past = log_of_vat on.vat on.row;
   own = steps_by on.vat on.before;
   before = on.before;
   kept = kept_in on.vat on.row on.before trail.steps.items ledger on.next.trail.steps on.next.kept;
-  sight = on.next.sight;
+  known = on.next.known;
   there = step_there on.vat e on.row on.before on.next.so_far on.goes_on;
 }
 
@@ -201,14 +201,14 @@ step_by_message e h sent k c references m is = subst (λ e. is_received e ≡ tr
 
 -- that of a record that is received, by the message that comes
 pub received_there : (e : DecodedRecord) → is_received e ≡ true → (sent : Bool) (k c : ℕ) (references : List ℕ) (m : RpcMessage) → Wire sent k c references m ≡ e →
-    (seen : Sight) (trail : RunBuilder) (ledger : VatLedger) (message : Message) (on : ComesNext e seen trail ledger) → coming_next on.vat k on.before ≡ Some message →
-    HasStep (λ v es own before. received_step v es own e message) e seen trail.steps.items ledger
-received_there e h sent k c references m is seen trail ledger message on coming = record {
+    (facts : Facts) (trail : RunBuilder) (ledger : VatLedger) (message : Message) (on : ComesNext e facts trail ledger) → coming_next on.vat k on.before ≡ Some message →
+    HasStep (λ v es own before. received_step v es own e message) e facts trail.steps.items ledger
+received_there e h sent k c references m is facts trail ledger message on coming = record {
   vat = on.vat;
   past = log_of_vat on.vat on.row;
   own = steps_by on.vat on.before;
   before = on.before;
   kept = kept_in on.vat on.row on.before trail.steps.items ledger on.next.trail.steps on.next.kept;
-  sight = on.next.sight;
+  known = on.next.known;
   there = step_by_message e h sent k c references m is on.vat message (log_of_vat on.vat on.row) (steps_by on.vat on.before) on.before coming (step_there on.vat e on.row on.before on.next.so_far on.goes_on);
 }

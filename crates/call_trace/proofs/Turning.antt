@@ -7,8 +7,8 @@ use Rattle.std.proofs.lemmas.Option.{slice_get_past}
 use Rattle.agree.specs.Rows.{Row, log_of_vat}
 use Rattle.vat_log.specs.declared.body.Body.{Body}
 use Rattle.vat_rules.specs.Audit.{Found, IsTrueOf}
-use Rattle.vat_rules.specs.LogFacts.{Sight}
-use Rattle.vat_rules.specs.Telling.{seen_of}
+use Rattle.vat_rules.specs.LogFacts.{Facts}
+use Rattle.vat_rules.specs.Telling.{facts_of}
 use Rattle.vat_view.specs.Past.{Past}
 use Rattle.call_trace.specs.declared.records.vat_ledger.VatLedger.{VatLedger}
 use Rattle.call_trace.specs.declared.steps.run_builder.RunBuilder.{RunBuilder}
@@ -66,7 +66,7 @@ counted f all n = at (within_or n (length f.log.records))
           past = ap (past_before f) long ∙ sym (past_beyond f n le);
         }
 
--- what is kept of a vat knows its next record, and what is seen of it
+-- what is kept of a vat knows its next record, and its facts
 pub record IsNextOf (findings : List Found) (turns : List ℕ) (v : ℕ) (f : Found) (number : ℕ) : Type 0 where
   pub next : next_record findings turns v ≡ record_in f number
   pub past : past_before f number ≡ log_of_vat v (taken_by findings turns)
@@ -95,13 +95,13 @@ longer : (findings : List Found) (turns : List ℕ) (v : ℕ) (e : DecodedRecord
 longer findings turns v e next = ap (λ o. cons_option (option_map (λ e. (v, e)) o) (taken_by findings turns)) next
 
 -- the record of a turn comes next
-pub comes_next : (f : Found) (e : DecodedRecord) (seen : Sight) (trail : RunBuilder) (ledger : VatLedger) (t : HasTurn f trail ledger) → next_record t.findings t.turns t.vat ≡ Some e →
-    seen ≡ seen_of (log_of_vat t.vat (taken_by t.findings t.turns)) e → ComesNext e seen trail ledger
-comes_next f e seen trail ledger t next sight = record {
+pub comes_next : (f : Found) (e : DecodedRecord) (facts : Facts) (trail : RunBuilder) (ledger : VatLedger) (t : HasTurn f trail ledger) → next_record t.findings t.turns t.vat ≡ Some e →
+    facts ≡ facts_of (log_of_vat t.vat (taken_by t.findings t.turns)) e → ComesNext e facts trail ledger
+comes_next f e facts trail ledger t next known = record {
   vat = t.vat;
   row = taken_by t.findings t.turns;
   before = t.before;
-  next = record { so_far = t.turn.so_far; trail = t.turn.trail; kept = t.turn.kept.0; sight = sight };
+  next = record { so_far = t.turn.so_far; trail = t.turn.trail; kept = t.turn.kept.0; known = known };
   goes_on = subst (λ row. IsSome (steps_of_row row)) (longer t.findings t.turns t.vat e next) t.goes_on;
 }
 
@@ -129,5 +129,5 @@ pub so_many : (v : ℕ) (row : Row) (before : List Step) (ledger : VatLedger) �
 so_many v row before ledger kept =
     sym (length-map ledger.numbers.items (slice_get (reverse before))) ∙ ap length kept.0.numbers ∙ length-map (reverse (steps_of_vat v before)) Some ∙ length-reverse (steps_of_vat v before) ∙ kept.1
 
-pub some_seen : {x y : Sight} → ◌≡◌ {A = Option Sight} (Some x) (Some y) → x ≡ y
-some_seen e = cc
+pub some_facts : {x y : Facts} → ◌≡◌ {A = Option Facts} (Some x) (Some y) → x ≡ y
+some_facts e = cc

@@ -3,7 +3,8 @@ use Rattle.std.specs.Prelude.{ℕ, List, Bool, true, false, map, All, IsTrue, Co
 use Rattle.std.specs.List.{list_any, list_all}
 use Rattle.vat_rules.specs.declared.outcome.Outcome.{Outcome}
 use Rattle.link_check.specs.Prefix.{IsPrefix, frames_received, frames_sent}
-use Rattle.merge_order.specs.Fits.{IsRising, IsFitting, sends_frame, receives_frame}
+use Rattle.merge_order.specs.Fits.{IsRising, IsFitting}
+use Rattle.vat_log.specs.Passages.{sends_frame, receives_frame}
 use Rattle.vat_log.specs.Log.{Log}
 use Rattle.vat_rules.specs.Audit.{Found, IsTrueOf}
 use Rattle.vat_rules.specs.declared.outcome.Outcome.TheVariants.{Good}

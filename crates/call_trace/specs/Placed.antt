@@ -5,7 +5,7 @@ use Rattle.call_trace.specs.Naming.{call_named, cap_named}
 use Rattle.run_model.specs.Places.{Asked, at_vat}
 use Rattle.vat_view.specs.Calls.{request_of}
 use Rattle.vat_view.specs.Past.{Past}
-use Rattle.vat_view.specs.declared.asked.Asked.{Asked as AskedOf}
+use Rattle.vat_view.specs.declared.request.Request.{Request as AskedOf}
 
 -- what a log says that a call asks for is this: the goal by its name, and interface and method
 abbrev pub AsksFor : (View → Option Cap) → Asked → AskedOf → Type 0

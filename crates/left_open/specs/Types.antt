@@ -6,5 +6,5 @@ pub use Rattle.vat_view.specs.declared.record.decoded.DecodedRecord.{DecodedReco
 pub use Rattle.vat_view.specs.declared.record.decoded.DecodedRecord.TheVariants.{Vow, Wire}
 pub use Rattle.vat_view.specs.declared.view.View.TheVariants.{Promise as PromiseView}
 pub use Rattle.vat_view.specs.declared.record.table_key.TableKey.{TableKey}
-pub use Rattle.left_open.specs.declared.kinds.Open.{Open}
-pub use Rattle.left_open.specs.declared.kinds.Open.TheVariants.{Question, Unfinished, Loopback, Promise, Number}
+pub use Rattle.left_open.specs.declared.open_things.Open.{Open}
+pub use Rattle.left_open.specs.declared.open_things.Open.TheVariants.{Question, Unfinished, Loopback, Promise, Number}

@@ -3,11 +3,11 @@
 ghost use Rattle.std.specs.Prelude.{◌≡◌, ◌↔◌, IfOk, IfSome, MatchOption, AllPairs, Contains, reverse};
 ghost use Rattle.vat_view.specs.Past.{Each};
 ghost use Rattle.vat_view.specs.Sound.{IsSound};
-ghost use Rattle.left_open.specs.declared.kinds.Open.{Open};
+ghost use Rattle.left_open.specs.declared.open_things.Open.{Open};
 ghost use Rattle.left_open.specs.Left.{IsOpen, ComesBefore};
 
-use crate::kinds::Open;
 use crate::listing::list_open;
+use crate::open_things::Open;
 use crate::watching::{Watched, watch};
 use std::alloc::{AllocError, Global};
 use vat_view::DecodedRecord;

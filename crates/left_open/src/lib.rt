@@ -8,10 +8,9 @@
 
 mod begun;
 mod ending;
-mod kinds;
 mod listing;
-mod parts;
+mod open_things;
 mod watching;
 
 pub use ending::open_at_end;
-pub use kinds::Open;
+pub use open_things::Open;

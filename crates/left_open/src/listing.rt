@@ -2,14 +2,11 @@
 
 ghost use Rattle.std.specs.Prelude.{◌≡◌, ◌++◌, IfOk, OnOk, option_to_list};
 ghost use Rattle.vat_view.specs.Lives.{descriptors};
-ghost use Rattle.left_open.specs.Glue.{begun_in, question_by, loopback_by, promise_by, number_by, numbers_from, opened_by, opened_from};
+ghost use Rattle.left_open.specs.Glue.{begun_in, question_by, loopback_by, promise_by, reference_vowed, number_by, numbers_from, opened_by, opened_from};
 ghost use Rattle.left_open.specs.Left.{is_unresolved};
 
 use crate::begun::Begun;
-use crate::kinds::Open;
-use crate::parts::{
-    noted_call, number_introduced, question_opened, reference_vowed, sender_loopback,
-};
+use crate::open_things::Open;
 use crate::watching::{Watched, held};
 use rpc_view::Descriptor;
 use std::alloc::{AllocError, Global};
@@ -25,8 +22,8 @@ fn open_question(
     ensures { result
         ≡ question_by (begun_in questions.now) (begun_in unfinished.now) at event.now }
 {
-    let question = question_opened(event)?;
-    let call = noted_call(event);
+    let question = event.question_opened()?;
+    let call = event.noted_call();
     if questions.is_at(question, at, 0) {
         return Some(Open::Question { question, call, at });
     }
@@ -40,11 +37,21 @@ fn open_question(
 fn open_loopback(loopbacks: &Begun, at: usize, event: &DecodedRecord) -> Option<Open>
     ensures { result ≡ loopback_by (begun_in loopbacks.now) at event.now }
 {
-    let number = sender_loopback(event)?;
+    let number = event.sender_loopback()?;
     if loopbacks.is_at(number, at, 0) {
         Some(Open::Loopback { number, at })
     } else {
         None
+    }
+}
+
+/// The reference that a record vows.
+fn reference_vowed(event: &DecodedRecord) -> Option<u64>
+    ensures { result ≡ reference_vowed event.now }
+{
+    match event {
+        DecodedRecord::Vow { reference } => Some(*reference),
+        _ => None,
     }
 }
 
@@ -82,7 +89,7 @@ fn open_number(
     ensures { result
         ≡ number_by (begun_in lives.now) state.now at event.now place descriptor.now }
 {
-    let number = number_introduced(event, descriptor)?;
+    let number = event.number_introduced(descriptor)?;
     if !lives.is_at(number, at, place) {
         return None;
     }

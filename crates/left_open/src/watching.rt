@@ -11,10 +11,6 @@ ghost use Rattle.vat_view.specs.Sound.{IsSound};
 ghost use Rattle.left_open.specs.Glue.{begun_in, begins_at, begins_from, names_new, IsWatched};
 
 use crate::begun::Begun;
-use crate::parts::{
-    number_introduced, question_finished, question_opened, question_returned,
-    question_returned_lightly, receiver_loopback, sender_loopback,
-};
 use rpc_view::Descriptor;
 use std::alloc::{AllocError, Global};
 use vat_view::{DecodedRecord, Number, TableKey, VatState};
@@ -43,25 +39,6 @@ pub(crate) fn held(state: &VatState, number: TableKey) -> u64
     }
 }
 
-/// Whether a record may be applied next.
-fn may_apply(state: &VatState, event: &DecodedRecord) -> Result<bool, AllocError>
-    ensures { IfOk result (λ may. Decides may (IsSound state.now event.now)) }
-{
-    if !state.refers(event)? {
-        return Ok(false);
-    }
-    if !state.uses_questions(event) {
-        return Ok(false);
-    }
-    if !state.uses_numbers(event) {
-        return Ok(false);
-    }
-    if !state.gives_back_held(event)? {
-        return Ok(false);
-    }
-    Ok(state.notes_each(event))
-}
-
 /// A record opens or returns a question.
 fn note_question(questions: &mut Begun, at: usize, event: &DecodedRecord) -> Result<(), AllocError>
     ensures { OnOk result
@@ -70,8 +47,8 @@ fn note_question(questions: &mut Begun, at: usize, event: &DecodedRecord) -> Res
         else if names q (question_returned event.now) then None
         else begun_in questions.old q)) }
 {
-    questions.end(question_returned(event));
-    questions.begin(question_opened(event), at, 0)
+    questions.end(event.question_returned());
+    questions.begin(event.question_opened(), at, 0)
 }
 
 /// A record opens or finishes a question, or returns one and says that no Finish is needed.
@@ -87,9 +64,9 @@ fn note_unfinished(
         else if names q (question_returned_lightly event.now) then None
         else begun_in unfinished.old q)) }
 {
-    unfinished.end(question_returned_lightly(event));
-    unfinished.end(question_finished(event));
-    unfinished.begin(question_opened(event), at, 0)
+    unfinished.end(event.question_returned_lightly());
+    unfinished.end(event.question_finished());
+    unfinished.begin(event.question_opened(), at, 0)
 }
 
 /// A record asks for an echo, or is one.
@@ -100,8 +77,8 @@ fn note_loopback(loopbacks: &mut Begun, at: usize, event: &DecodedRecord) -> Res
         else if names i (sender_loopback event.now) then Some (at, 0)
         else begun_in loopbacks.old i)) }
 {
-    loopbacks.begin(sender_loopback(event), at, 0)?;
-    loopbacks.end(receiver_loopback(event));
+    loopbacks.begin(event.sender_loopback(), at, 0)?;
+    loopbacks.end(event.receiver_loopback());
     Ok(())
 }
 
@@ -113,7 +90,7 @@ fn number_begun(
 ) -> Option<TableKey>
     ensures { (i : TableKey) → names i result ≡ names_new state.now event.now i descriptor.now }
 {
-    let number = number_introduced(event, descriptor)?;
+    let number = event.number_introduced(descriptor)?;
     if held(state, number) == 0 {
         Some(number)
     } else {
@@ -198,7 +175,7 @@ pub(crate) fn watch(
 {
     let mut state = VatState::new(alloc);
     for (at, event) in records.iter().enumerate() {
-        if !may_apply(&state, event)? {
+        if !state.is_sound(event)? {
             return Ok(None);
         }
         watched.note(&state, at, event)?;

@@ -27,7 +27,8 @@ use Rattle.vat_rules.specs.Judged.{IsGoodBy}
 use Rattle.vat_rules.specs.OfConnections.{IsOpen, KeepsEmbargo}
 use Rattle.vat_rules.specs.OfResults.{ReturnsTaken, ReturnsKnown}
 use Rattle.vat_rules.specs.LogFacts.{Told}
-use Rattle.vat_rules.specs.Events.{Reader, with_message, event_of, event_or_none, events_before, past_at}
+use Rattle.vat_rules.specs.Events.{Reader, event_of, event_or_none, events_before, past_at}
+use Rattle.vat_view.specs.Decoding.{made_with}
 use Rattle.vat_rules.specs.Telling.{entries_back, is_delivery, told_of}
 use Rattle.vat_rules.specs.First.{AllGood, IsFirst}
 use Rattle.vat_rules.specs.Audit.{read_as, why_of, reads_by, reads_within, edition_of_version, edition_of, IsTrueOf}
@@ -144,8 +145,8 @@ frame_more limits bytes m h = ap read_as (more_in_frame (segments_of bytes) limi
 frame_plain : (limits : Limits) (bytes : List ℕ) (m : RpcMessage) → reads_by First limits bytes ≡ Ok m → is_light m ≡ false
 frame_plain limits bytes m h = (more_in_frame (segments_of bytes) limits m (was_read (message_of_bytes First bytes limits) m h)).1
 
-with_more : (f : RpcMessage → DecodedRecord) (r s : Result RpcMessage Why) (e : DecodedRecord) → ((m : RpcMessage) → r ≡ Ok m → s ≡ Ok m) → with_message f r ≡ Ok e → with_message f s ≡ Ok e
-with_more f (Ok m) s e so h = ap (with_message f) (so m refl) ∙ h
+with_more : (f : RpcMessage → DecodedRecord) (r s : Result RpcMessage Why) (e : DecodedRecord) → ((m : RpcMessage) → r ≡ Ok m → s ≡ Ok m) → made_with f r ≡ Ok e → made_with f s ≡ Ok e
+with_more f (Ok m) s e so h = ap (made_with f) (so m refl) ∙ h
 with_more f (Err why) s e so h = absurd (read_outside e why (sym h))
 
 event_more : (limits : Limits) (b : Body) (e : DecodedRecord) → event_of (reads_by First limits) b ≡ Ok e → event_of (reads_within limits) b ≡ Ok e
@@ -218,7 +219,7 @@ plain_message sent k c rs _ h = refl
 plain_if : (a e : DecodedRecord) → IsPlain a → as_read a ≡ as_read e → IsPlain e
 plain_if a e h is = subst IsPlain (event_is a e is) h
 
-plain_with : (sent : Bool) (k c : ℕ) (rs : List ℕ) (r : Result RpcMessage Why) (e : DecodedRecord) → ((m : RpcMessage) → r ≡ Ok m → is_light m ≡ false) → with_message (Wire sent k c rs) r ≡ Ok e → IsPlain e
+plain_with : (sent : Bool) (k c : ℕ) (rs : List ℕ) (r : Result RpcMessage Why) (e : DecodedRecord) → ((m : RpcMessage) → r ≡ Ok m → is_light m ≡ false) → made_with (Wire sent k c rs) r ≡ Ok e → IsPlain e
 plain_with sent k c rs (Ok m) e so h = plain_if (Wire sent k c rs m) e (plain_message sent k c rs m (so m refl)) h
 plain_with sent k c rs (Err why) e so h = absurd (read_outside e why (sym h))
 

@@ -1,12 +1,14 @@
 pub mod Placing
 pub mod Judging
-pub mod Messages
+pub mod Noted
+pub mod Owning
 pub mod Firsts
 pub mod Taken
+pub mod Unread
 pub mod SlimOutcomes
 pub mod Unique
 pub mod Once
 pub mod Entries
 pub mod Editions
-pub mod Asked
+pub mod Sufficing
 pub mod Twice

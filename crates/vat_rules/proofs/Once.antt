@@ -10,7 +10,7 @@ use Rattle.vat_rules.specs.Judged.{IsGood}
 use Rattle.vat_rules.specs.OfCalls.{distinct_paths}
 use Rattle.vat_rules.specs.OfPromises.{IsUnkept, is_unresolved}
 use Rattle.vat_rules.proofs.Judging.{good_sound}
-use Rattle.vat_view.specs.declared.asked.Asked.{Asked}
+use Rattle.vat_view.specs.declared.request.Request.{Request}
 use Rattle.vat_view.specs.declared.record.table_key.TableKey.{TableKey}
 use Rattle.vat_view.specs.Past.{Past, point, id, is, names, same_id, last_answer, last_where, last_since, Each}
 use Rattle.vat_view.specs.Questions.{opens, opening, call_at, returns, is_opened, is_returned, return_of}
@@ -104,7 +104,7 @@ module _ (c : ℕ) where
   stayed_if true rest h = absurd (false≢true h)
   stayed_if false rest h = h
 
-  came_if : (a : Asked) (b : Bool) (rest : Option Bool) → b ≡ false →
+  came_if : (a : Request) (b : Bool) (rest : Option Bool) → b ≡ false →
       unwrap_or (option_or (if is_some (if b then Some a else None) then Some true else if false then Some false else None) rest) false ≡ true → unwrap_or rest false ≡ true
   came_if a b rest apart h = sym (ap (λ x. unwrap_or (option_or (if is_some (if x then Some a else None) then Some true else if false then Some false else None) rest) false) apart) ∙ h
 
@@ -118,7 +118,7 @@ module _ (c : ℕ) where
   effect : (before : Past) (e : DecodedRecord) → IsGood before e → Effect before e
   effect before (Make d r f m) good = elim (cases_Bool (d == c)) [
     | inl same ↦ makes (fresh before d (good rule.Ref).unused_call same) refl refl refl refl
-    | inr apart ↦ quiet refl refl refl refl (let a : Asked = record { goal = view_of_reference before r; interface = f; method = m } in came_if a (d == c) (last_answer (moves c) before) apart)
+    | inr apart ↦ quiet refl refl refl refl (let a : Request = record { goal = view_of_reference before r; interface = f; method = m } in came_if a (d == c) (last_answer (moves c) before) apart)
   ]
   effect before (Deliver d object) good = elim (cases_Bool (d == c)) [
     | inl same ↦ serves (named (λ x. is_at_vat x before) d (good rule.Here) same) refl refl (left_if (d == c) (last_answer (moves c) before) same)
@@ -156,7 +156,7 @@ module _ (c : ℕ) where
   effect before (Wire false k d rs (Call q t f m p yourself)) good = elim (cases_Bool (d == c)) [
     | inl same ↦ makes (fresh before d (good rule.Ref).unused_call same) refl refl refl refl
     | inr apart ↦ quiet refl refl refl refl
-        (let a : Asked = record { goal = view_of_target before (Wire false k d rs (Call q t f m p yourself)); interface = f; method = m } in came_if a (d == c) (last_answer (moves c) before) apart)
+        (let a : Request = record { goal = view_of_target before (Wire false k d rs (Call q t f m p yourself)); interface = f; method = m } in came_if a (d == c) (last_answer (moves c) before) apart)
   ]
   effect before (Wire true k d rs (Return q release Exception light)) good =
       quiet refl refl refl refl (stayed_if (is c (call_at (opening (id k false q) before))) (last_answer (moves c) before))

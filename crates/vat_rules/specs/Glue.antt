@@ -1,7 +1,7 @@
--- For the code's contracts, and no part of the meaning: how what is seen of a record is looked up and kept.
-pub mod Bare
+-- For the code's contracts, and no part of the meaning: how the facts of a record are looked up and kept.
+pub mod Asked
 pub mod Compact
 pub mod Facts
-pub mod Standing
+pub mod Roles
 pub mod Taking
 pub mod Viewed

@@ -4,7 +4,7 @@ use Rattle.vat_rules.specs.Types.{DecodedRecord, View}
 
 -- what the numbers of a record stand for: none where it has no such number, or one that stands for nothing; and whether it
 -- is a Return that is late
-pub record Sight : Type 0 where
+pub record Facts : Type 0 where
   pub references : List (Option View)
   pub question : Option View
   pub taken : Option View
@@ -17,7 +17,7 @@ pub record Sight : Type 0 where
 -- a record with what its numbers stand for
 pub record Entry : Type 0 where
   pub event : DecodedRecord
-  pub seen : Sight
+  pub facts : Facts
 
 -- its records, each with what its numbers stand for, and how many calls were delivered
 pub record Told : Type 0 where

@@ -2,7 +2,7 @@
 use Rattle.std.specs.Prelude.{◌≡◌, ℕ, List, [], ◌∷◌, Bool, true, not, ◌&&◌, ◌||◌, Some, IsTrue, IsSomeAnd, ⊤}
 use Rattle.std.specs.List.{list_any}
 use Rattle.std.specs.Str.{bytes_eq as same_path}
-use Rattle.vat_rules.specs.Types.{Call, DecodedRecord, Deliver, Answer, AnswerBy, Fault, Wire, Object}
+use Rattle.vat_rules.specs.Types.{Call, DecodedRecord, Host, Vow, Fulfil, Break, Make, Field, Deliver, Answer, AnswerBy, Fault, Wire, Object}
 use Rattle.vat_view.specs.Past.{Past}
 use Rattle.vat_view.specs.Views.{view_of_target}
 use Rattle.vat_view.specs.Calls.{request_of, goal_of, is_at_vat, is_served, is_settled}
@@ -38,4 +38,11 @@ abbrev pub MayAnswer : Past → DecodedRecord → Type 0
 MayAnswer before (Answer call results) = IsTrue (is_served call before && not (is_settled call before) && distinct_paths results)
 MayAnswer before (AnswerBy call by) = IsTrue (is_served call before && not (is_settled call before))
 MayAnswer before (Fault call) = IsTrue ((is_at_vat call before || is_served call before) && not (is_settled call before))
-MayAnswer before _ = ⊤
+MayAnswer before (Host r object) = ⊤
+MayAnswer before (Vow r) = ⊤
+MayAnswer before (Fulfil r to) = ⊤
+MayAnswer before (Break r) = ⊤
+MayAnswer before (Make call r interface method) = ⊤
+MayAnswer before (Field r call path) = ⊤
+MayAnswer before (Deliver call object) = ⊤
+MayAnswer before (Wire sent k call references m) = ⊤

@@ -1,7 +1,7 @@
 -- The rule on Returns: what is sent back is what came back.
 use Rattle.std.specs.Prelude.{◌≡◌, ◌⊎◌, ℕ, List, true, false, Option, Some, IsTrue, IsFalse, IsSomeAnd, slice_get, ⊤}
 use Rattle.std.specs.List.{AllByRecursion}
-use Rattle.vat_rules.specs.Types.{Edition, First, Later, Results, Canceled, Elsewhere, TakeFrom, Return, DecodedRecord, Wire, FieldOf}
+use Rattle.vat_rules.specs.Types.{Edition, First, Later, Results, Exception, Canceled, Elsewhere, TakeFrom, Bootstrap, Call, Return, Finish, Resolve, Release, Disembargo, Abort, DecodedRecord, Host, Vow, Fulfil, Break, Make, Field, Deliver, Answer, AnswerBy, Fault, Wire, FieldOf}
 use Rattle.vat_view.specs.Past.{Past, id}
 use Rattle.vat_view.specs.Questions.{is_finished, is_late, is_tail, opening, call_at, call_of}
 use Rattle.vat_view.specs.Lives.{descriptors}
@@ -42,4 +42,22 @@ ReturnsKnown edition before (Wire true k c rs (Return q release (TakeFrom n) lig
     is_late before (Wire true k c rs (Return q release (TakeFrom n) light)) ≡ false →
     IsSomeAnd (call_at (opening (id k false q) before)) (ReturnsTaken edition before (call_of (id k true n) before))
 ReturnsKnown edition before (Wire true k c rs (Return q release Canceled light)) = IsTrue (is_finished (id k false q) before)
-ReturnsKnown edition before _ = ⊤
+ReturnsKnown edition before (Wire true k c rs (Return q release Exception light)) = ⊤
+ReturnsKnown edition before (Wire true k c rs (Bootstrap q)) = ⊤
+ReturnsKnown edition before (Wire true k c rs (Call q target interface method params yourself)) = ⊤
+ReturnsKnown edition before (Wire true k c rs (Finish q release)) = ⊤
+ReturnsKnown edition before (Wire true k c rs (Resolve promise resolution)) = ⊤
+ReturnsKnown edition before (Wire true k c rs (Release n count)) = ⊤
+ReturnsKnown edition before (Wire true k c rs (Disembargo n loopback target)) = ⊤
+ReturnsKnown edition before (Wire true k c rs Abort) = ⊤
+ReturnsKnown edition before (Wire false k c rs m) = ⊤
+ReturnsKnown edition before (Host r object) = ⊤
+ReturnsKnown edition before (Vow r) = ⊤
+ReturnsKnown edition before (Fulfil r to) = ⊤
+ReturnsKnown edition before (Break r) = ⊤
+ReturnsKnown edition before (Make c r interface method) = ⊤
+ReturnsKnown edition before (Field r c path) = ⊤
+ReturnsKnown edition before (Deliver c object) = ⊤
+ReturnsKnown edition before (Answer c results) = ⊤
+ReturnsKnown edition before (AnswerBy c by) = ⊤
+ReturnsKnown edition before (Fault c) = ⊤

@@ -1,58 +1,53 @@
 -- What a log tells whose records are all good.
-use Rattle.std.specs.Prelude.{List, [], ◌∷◌, ◌++◌, map, reverse, length, count_by, Bool, true, false, not, Option, Some, None, option_and_then}
+use Rattle.std.specs.Prelude.{List, [], ◌∷◌, ◌++◌, map, reverse, length, count_by, Bool, true, false, Option, option_and_then}
 use Rattle.std.specs.Option.{option_or}
 use Rattle.vat_log.specs.declared.body.Body.{Body}
-use Rattle.vat_rules.specs.Types.{Release, DecodedRecord, Deliver, Wire, View}
-use Rattle.vat_view.specs.declared.record.table_key.TableKey.{TableKey}
-use Rattle.vat_view.specs.Past.{Past, id}
+use Rattle.vat_rules.specs.Types.{DecodedRecord, Deliver, View}
+use Rattle.vat_view.specs.Past.{Past}
 use Rattle.vat_view.specs.Questions.{question_returned, question_finished, question_taken, is_late}
 use Rattle.vat_view.specs.Lives.{promise_resolved}
+use Rattle.vat_view.specs.Uses.{number_released}
 use Rattle.vat_view.specs.Views.{field_view, view_of_reference, view_of_number, view_of_target, views_of_descriptors}
 use Rattle.vat_view.specs.Bindings.{new_references, named_references}
-use Rattle.vat_rules.specs.LogFacts.{Sight, Entry, Told}
+use Rattle.vat_rules.specs.LogFacts.{Facts, Entry, Told}
 use Rattle.vat_rules.specs.Events.{Reader, events_before}
 
 -- what the references that a record binds or names stand for, the record counted
-abbrev pub seen_references : Past → DecodedRecord → List (Option View)
-seen_references before e = map (view_of_reference (e ∷ before)) (new_references e ++ named_references e)
+abbrev pub reference_views : Past → DecodedRecord → List (Option View)
+reference_views before e = map (view_of_reference (e ∷ before)) (new_references e ++ named_references e)
 
 -- what the question that a record returns or finishes stands for: its call, as the field at the empty path
-abbrev pub seen_question : Past → DecodedRecord → Option View
-seen_question before e = option_and_then (λ q. field_view q [] before) (option_or (question_returned e) (question_finished e))
+abbrev pub question_view : Past → DecodedRecord → Option View
+question_view before e = option_and_then (λ q. field_view q [] before) (option_or (question_returned e) (question_finished e))
 
 -- what the question stands for whose results a record takes, the same
-abbrev pub seen_taken : Past → DecodedRecord → Option View
-seen_taken before e = option_and_then (λ q. field_view q [] before) (question_taken e)
+abbrev pub taken_view : Past → DecodedRecord → Option View
+taken_view before e = option_and_then (λ q. field_view q [] before) (question_taken e)
 
 -- what the promise that a record resolves stands for
-abbrev pub seen_promise : Past → DecodedRecord → Option View
-seen_promise before e = option_and_then (λ i. view_of_number i before) (promise_resolved e)
+abbrev pub promise_view : Past → DecodedRecord → Option View
+promise_view before e = option_and_then (λ i. view_of_number i before) (promise_resolved e)
 
--- the number that a Release gives back: one of the receiver's exports
-abbrev pub released_number : DecodedRecord → Option TableKey
-released_number (Wire sent k call references (Release n count)) = Some (id k (not sent) n)
-released_number _ = None
+-- what the number that a Release gives back stands for
+abbrev pub released_view : Past → DecodedRecord → Option View
+released_view before e = option_and_then (λ i. view_of_number i before) (number_released e)
 
--- what that stands for
-abbrev pub seen_released : Past → DecodedRecord → Option View
-seen_released before e = option_and_then (λ i. view_of_number i before) (released_number e)
-
--- what is seen of a record
-abbrev pub seen_of : Past → DecodedRecord → Sight
-seen_of before e = record {
-  references = seen_references before e;
-  question = seen_question before e;
-  taken = seen_taken before e;
-  promise = seen_promise before e;
+-- the facts of a record
+abbrev pub facts_of : Past → DecodedRecord → Facts
+facts_of before e = record {
+  references = reference_views before e;
+  question = question_view before e;
+  taken = taken_view before e;
+  promise = promise_view before e;
   target = view_of_target before e;
-  released = seen_released before e;
+  released = released_view before e;
   caps = views_of_descriptors before e;
   late = is_late before e;
 }
 
 -- a record with what its numbers stand for
 abbrev pub entry_of : Past → DecodedRecord → Entry
-entry_of before e = record { event = e; seen = seen_of before e }
+entry_of before e = record { event = e; facts = facts_of before e }
 
 -- the same for each record, the newest first
 abbrev pub entries_back : Past → List Entry

@@ -1,23 +1,23 @@
 //! The audit of one log.
 
-ghost use Rattle.std.specs.Prelude.{◌≡◌, ◌∷◌, [], ◌++◌, IfOk, OnOk, MatchOption, count_by, length, map, reverse};
+ghost use Rattle.std.specs.Prelude.{◌≡◌, [], IfOk, MatchOption, count_by, length, map, reverse};
 ghost use Rattle.std.specs.Arc.{arc_value};
-ghost use Rattle.vat_view.specs.Past.{Past};
-ghost use Rattle.vat_rules.specs.Telling.{is_delivery, entry_of, entries_back};
+ghost use Rattle.vat_rules.specs.Telling.{is_delivery, entries_back};
 ghost use Rattle.vat_rules.specs.Events.{past_at};
 ghost use Rattle.vat_rules.specs.First.{AllGood};
 ghost use Rattle.vat_rules.specs.Audit.{IsTrueOf, reads_by, edition_of};
-ghost use Rattle.vat_rules.specs.Glue.Taking.{IsKnown, IsOwnIfKnown, refused_at};
+ghost use Rattle.vat_rules.specs.Glue.Taking.{IsGathered, IsRefused, refused_at};
 
 use crate::facts::gathered::Gathered;
 use crate::facts::story::Story;
 use crate::finding::VatFinding;
 use crate::outcome::Outcome;
-use crate::taking::{Refusal, Taken, facts_of, take};
+use crate::taking::{Refusal, take};
+use crate::why::unread;
 use rpc_view::{Edition, Limits};
 use std::alloc::{AllocError, Global};
 use std::sync::Arc;
-use vat_log::VatLog;
+use vat_log::{Body, VatLog};
 use vat_view::{DecodedRecord, VatState};
 
 /// Whether a record delivers a call.
@@ -74,20 +74,31 @@ fn refused_at(at: u64, refusal: Refusal) -> Outcome
     }
 }
 
-/// Puts a record behind those that were gathered that was applied to the state last.
+/// Reads one record more and judges it by an edition; where it is good, applies it and puts it behind those that were
+/// gathered, with its facts; else why it isn't.
 fn gather(
     alloc: Global,
-    state: &VatState,
+    edition: Edition,
+    limits: Limits,
+    state: &mut VatState,
     gathered: &mut Gathered,
-    taken: Taken,
-) -> Result<(), AllocError>
-    requires { IsOwnIfKnown taken.event taken.known }
-    ensures { (before : Past) → state.now ≡ taken.event ∷ before → IsKnown before taken.event taken.known
-        → OnOk result (gathered.new ≡ gathered.old ++ entry_of before taken.event ∷ []) }
+    body: &Body,
+) -> Result<Option<Refusal>, AllocError>
+    ensures { IfOk result (λ r. MatchOption r
+        (IsGathered edition (reads_by edition limits) state.old body.now state.new gathered.old gathered.new)
+        (IsRefused edition (reads_by edition limits) state.old body.now)) }
 {
-    let Taken { event, known } = taken;
-    let seen = facts_of(alloc, state, &event, known)?;
-    gathered.push(event, seen)
+    let event = match DecodedRecord::read(alloc, body, limits, edition) {
+        Ok(event) => event,
+        Err(error) => return Ok(Some(unread(error)?)),
+    };
+    match take(alloc, edition, state, &event)? {
+        Ok(facts) => {
+            gathered.push(event, facts)?;
+            Ok(None)
+        }
+        Err(rule) => Ok(Some(Refusal::Broken(rule))),
+    }
 }
 
 /// Judges the records of a log in turn by the log's edition, to the first that is outside or breaks a rule, and applies
@@ -114,9 +125,8 @@ fn judge_each(
         let Some(stored) = log.get(at) else {
             unreachable!()
         };
-        match take(alloc, edition, limits, state, stored.body())? {
-            Ok(taken) => gather(alloc, state, gathered, taken)?,
-            Err(refusal) => return Ok(Some(refused_at(at as u64, refusal))),
+        if let Some(refusal) = gather(alloc, edition, limits, state, gathered, stored.body())? {
+            return Ok(Some(refused_at(at as u64, refusal)));
         }
     }
     Ok(None)

@@ -11,26 +11,18 @@
 //! ([`edition_of`]), and one that is good by it is good by the later edition, and tells the same ([`good_logs_are_good`]).
 #![tactic(auto)]
 
+mod asked;
 mod audit;
-mod bare;
-mod carrying;
-mod decode;
 mod facts;
 mod finding;
 mod judge;
 mod laws;
-mod leads;
-mod of_calls;
-mod of_caps;
-mod of_connections;
-mod of_promises;
-mod of_results;
 mod outcome;
-mod own;
-mod result_paths;
 mod rule;
+mod rules;
 mod slim;
 mod taking;
+mod why;
 
 pub use audit::{audit_vat, edition_of};
 pub use facts::compact::RecordFacts;

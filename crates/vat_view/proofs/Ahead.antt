@@ -6,8 +6,8 @@ use Rattle.std.proofs.lemmas.Bool.{and_parts, cases_Bool, false≢true, eqb-true
 use Rattle.vat_view.specs.declared.tables.questions.Questions.{Questions}
 use Rattle.vat_view.specs.declared.tables.exports_imports.ExportsImports.{ExportsImports}
 use Rattle.vat_view.specs.declared.tables.calls.Calls.{Calls}
-use Rattle.vat_view.specs.declared.tables.settlements.Settlements.{Settlements}
-use Rattle.vat_view.specs.declared.tables.settlements.Settling.{Settling}
+use Rattle.vat_view.specs.declared.tables.turns.settlements.Settlements.{Settlements}
+use Rattle.vat_view.specs.declared.tables.turns.settlements.Settling.{Settling}
 use Rattle.vat_view.specs.declared.walks.landing.Landing.{Landing}
 use Rattle.vat_view.specs.declared.tables.references.BoundReferences.{BoundReferences}
 use Rattle.vat_view.specs.declared.tables.references.Shortcut.{Shortcut}

@@ -8,7 +8,7 @@ use Rattle.vat_view.specs.declared.tables.exports_imports.ExportsImports.{Export
 use Rattle.vat_view.specs.declared.record.introduced.Introduced.{Introduced}
 use Rattle.vat_view.specs.declared.tables.references.BoundReferences.{BoundReferences}
 use Rattle.vat_view.specs.declared.tables.calls.Calls.{Calls}
-use Rattle.vat_view.specs.declared.tables.resolves.Resolves.{Resolves}
+use Rattle.vat_view.specs.declared.tables.turns.resolves.Resolves.{Resolves}
 use Rattle.vat_view.specs.Types.{Descriptor, SenderHosted, SenderPromise, DecodedRecord, Wire, TableKey}
 use Rattle.vat_view.specs.Past.{Past}
 use Rattle.vat_view.specs.Lives.{Birth, birth, gives_back, number_introduced, descriptors, is_resolved, is_of_kind, keeps_kind, KeepsKinds}

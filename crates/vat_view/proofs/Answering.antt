@@ -9,15 +9,15 @@ use Rattle.vat_view.specs.declared.tables.references.BoundReferences.{BoundRefer
 use Rattle.vat_view.specs.declared.tables.calls.Calls.{Calls}
 use Rattle.vat_view.specs.Types.{Descriptor, Target, Imported, Promised, TakeFrom, Return, Finish, DecodedRecord, Wire, View, FieldOf, TableKey}
 use Rattle.vat_view.specs.Past.{Past, Point, point, id, same_id, last_since, Each}
-use Rattle.vat_view.specs.Questions.{opens, returns, finishes, releases, takes_results, opening, return_of, is_opened, is_returned, is_returned_lightly, is_finished, is_released, is_tail, is_taken, is_free, is_unfinished, is_unreturned, is_late, closes, call_at, call_of}
-use Rattle.vat_view.specs.Lives.{introductions_at, gives_back, held, GivesBackHeld, descriptors}
+use Rattle.vat_view.specs.Questions.{opens, returns, finishes, releases, takes_results, opening, return_of, is_opened, is_returned, is_returned_lightly, is_finished, is_released, is_tail, is_taken, is_unfinished, is_unreturned, is_late, closes, call_at, call_of}
+use Rattle.vat_view.specs.Lives.{introductions_at, gives_back, GivesBackHeld, descriptors}
 use Rattle.vat_view.specs.Views.{view_of_reference, target_view, target_of, view_of_target, descriptor_view, view_of_descriptor, views_of_descriptors}
 use Rattle.vat_view.specs.Calls.{call_taken_from}
 use Rattle.vat_view.specs.Uses.{UsesQuestions}
 use Rattle.vat_view.specs.Bindings.{is_bound}
 use Rattle.vat_view.specs.Sound.{IsSound}
 use Rattle.vat_view.specs.Glue.Tables.{question_at, bound_at, late_by, given_back_by, results_released_in, params_introduced_in, results_introduced_in, count_released, call_by, origins_if, origins, first_in, AreBegun, view_by, count_at}
-use Rattle.vat_view.specs.Glue.Asking.{free_in, unfinished_in, finished_in, unreturned_in, tail_in, taken_in, opening_call_in, target_by, targeted_by, taken_from_by, given_by}
+use Rattle.vat_view.specs.Glue.Asking.{free_in, finished_in, tail_in, taken_in, opening_call_in, target_by, targeted_by, taken_from_by, given_by}
 use Rattle.vat_view.specs.Glue.Kept.{AreKept}
 use Rattle.vat_view.proofs.Naming.{same_id_is}
 use Rattle.vat_view.proofs.Knowing.{known_from, asked_at}
@@ -38,14 +38,6 @@ free_at : (q : TableKey) (past : Past) (o : Option Point) → free_in (option_ma
     ≡ ((not (is_some o) || (is_returned q past && is_finished q past)) || is_returned_lightly q past)
 free_at q past (Some p) = refl
 free_at q past None = refl
-
-unfinished_at : (q : TableKey) (past : Past) (o : Option Point) → unfinished_in (option_map (known_from q past) o) ≡ (is_some o && not (is_finished q past))
-unfinished_at q past (Some p) = refl
-unfinished_at q past None = refl
-
-unreturned_at : (q : TableKey) (past : Past) (o : Option Point) → unreturned_in (option_map (known_from q past) o) ≡ (is_some o && not (is_returned q past))
-unreturned_at q past (Some p) = refl
-unreturned_at q past None = refl
 
 tail_at : (q : TableKey) (past : Past) (o : Option Point) → tail_in (option_map (known_from q past) o) ≡ is_tail o
 tail_at q past (Some p) = refl
@@ -123,18 +115,9 @@ mapped f g same [] = refl
 mapped f g same (x ∷ xs) = ap (λ y. y ∷ map f xs) (same x) ∙ ap (λ ys. g x ∷ ys) (mapped f g same xs)
 
 module _ (past : Past) (questions : Questions) (lives : ExportsImports) (bound : BoundReferences) (calls : Calls) (kept : AreKept past questions lives bound calls) where
-  pub free_known : (q : TableKey) → free_in (question_at questions q) ≡ is_free q past
-  free_known q = ap (λ o. free_in o) (kept.tabled.tabled.known q) ∙ free_at q past (opening q past)
-
-  pub unfinished_known : (q : TableKey) → unfinished_in (question_at questions q) ≡ is_unfinished q past
-  unfinished_known q = ap (λ o. unfinished_in o) (kept.tabled.tabled.known q) ∙ unfinished_at q past (opening q past)
-
   pub finished_known : (q : TableKey) → finished_in (question_at questions q) ≡ is_finished q past
   finished_known q = ap (λ o. finished_in o) (kept.tabled.tabled.known q)
       ∙ finished_at q past (opening q past) (λ h. ap (λ o. is_some o) (unopened q (finishes q) (finishes_opened q) past kept.sound h))
-
-  pub unreturned_known : (q : TableKey) → unreturned_in (question_at questions q) ≡ is_unreturned q past
-  unreturned_known q = ap (λ o. unreturned_in o) (kept.tabled.tabled.known q) ∙ unreturned_at q past (opening q past)
 
   pub tail_known : (q : TableKey) → tail_in (question_at questions q) ≡ is_tail (opening q past)
   tail_known q = ap (λ o. tail_in o) (kept.tabled.tabled.known q) ∙ tail_at q past (opening q past)
@@ -163,9 +146,6 @@ module _ (past : Past) (questions : Questions) (lives : ExportsImports) (bound :
       ap₂ (λ b o. if b then None else o) (late_is (Wire false k c rs (Return q release (TakeFrom n) light)))
       (ap (λ o. call_by o) (kept.tabled.tabled.known (id k false n)) ∙ call_known (id k false n) past)
   taken_from_known _ = refl
-
-  pub alive_known : (i : TableKey) (count : ℕ) → count ≡ count_at lives i → count ≡ held i past
-  alive_known i count is_count = is_count ∙ kept.tabled.tabled.counted i
 
   pub bound_known : (r : ℕ) → is_some (bound_at bound r) ≡ is_bound past r
   bound_known r = ap (λ o. is_some o) (kept.tabled.bounds r) ∙ elim (cases_Bool (is_bound past r)) [

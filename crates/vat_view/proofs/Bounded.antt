@@ -9,11 +9,11 @@ use Rattle.std.proofs.lemmas.List.{length-map}
 use Rattle.std.proofs.lemmas.Nat.{mul-add-lt, div-mul-add, mod-mul-add}
 use Rattle.std.proofs.lemmas.Slice.Eq.{bytes_eq-Decides}
 use Rattle.rising_table.specs.Entries.{entry_at}
-use Rattle.vat_view.specs.declared.tables.settlements.Settlements.{Settlements}
+use Rattle.vat_view.specs.declared.tables.turns.settlements.Settlements.{Settlements}
 use Rattle.vat_view.specs.declared.tables.references.BoundReferences.{BoundReferences}
 use Rattle.vat_view.specs.declared.tables.references.Binding.{Binding}
-use Rattle.vat_view.specs.declared.tables.handovers.Handover.{Handover}
-use Rattle.vat_view.specs.declared.tables.handovers.HandedCall.{HandedCall}
+use Rattle.vat_view.specs.declared.tables.turns.handovers.Handover.{Handover}
+use Rattle.vat_view.specs.declared.tables.turns.handovers.HandedCall.{HandedCall}
 use Rattle.vat_view.specs.declared.walks.landing.Landing.{Landing}
 use Rattle.vat_view.specs.declared.walks.landing.Landing.TheVariants.{Reference as ToReference, Call as ToCall}
 use Rattle.vat_view.specs.Types.{View, Object, Promise, FieldOf, Import}

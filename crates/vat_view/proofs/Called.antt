@@ -1,6 +1,6 @@
 -- The table of calls after a record.
 use Rattle.std.proofs.Common.{◌≡◌, inl, inr, refl, sym, ◌∙◌, ap, ap₂, subst, ℕ, ◌==◌, ◌∷◌, Bool, true, false, ◌||◌, Option, Some, None, if◌then◌else◌}
-use Rattle.std.specs.Prelude.{is_some, option_and_then, unwrap_or}
+use Rattle.std.specs.Prelude.{option_and_then, unwrap_or}
 use Rattle.std.proofs.lemmas.Bool.{cases_Bool, eqb-true}
 use Rattle.vat_view.specs.declared.tables.questions.Questions.{Questions}
 use Rattle.vat_view.specs.declared.tables.exports_imports.ExportsImports.{ExportsImports}
@@ -69,13 +69,6 @@ module _ (past : Past) (questions : Questions) (lives : ExportsImports) (bound :
     | inl good ↦ ap (λ b. f (so_far c past b)) good ∙ there
     | inr bad ↦ ap (λ b. f (so_far c past b)) bad ∙ nowhere (unknown past kept.sound c bad)
   ]
-
-  pub bound_call_known : is_some (call_state_at calls c) ≡ is_bound_call past c
-  bound_call_known = ap (λ p. is_some p) (kept.called c) ∙ found (is_bound_call past c)
-    where
-      found : (b : Bool) → is_some (so_far c past b) ≡ b
-      found true = refl
-      found false = refl
 
   pub asked_known : request_in (call_state_at calls c) ≡ request_of c past
   asked_known = either (λ p. request_in p) (request_of c past) refl (λ u. sym u.asked)

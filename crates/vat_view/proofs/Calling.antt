@@ -8,7 +8,7 @@ use Rattle.vat_view.specs.declared.tables.call_state.CallState.{CallState}
 use Rattle.vat_view.specs.declared.tables.call_state.CallChange.{CallChange}
 use Rattle.vat_view.specs.declared.tables.call_state.CallChange.TheVariants.{Left, Delivered, Faulted, Answered, Known}
 use Rattle.vat_view.specs.Glue.CallTables.{Nothing, Begins}
-use Rattle.vat_view.specs.Types.{Bootstrap, Call, Return, Results, Exception, Canceled, TakeFrom, DecodedRecord, Make, Deliver, Answer, AnswerBy, Fault, Wire, View, Asked, TableKey}
+use Rattle.vat_view.specs.Types.{Bootstrap, Call, Return, Results, Exception, Canceled, TakeFrom, DecodedRecord, Make, Deliver, Answer, AnswerBy, Fault, Wire, View, Request, TableKey}
 use Rattle.vat_view.specs.Past.{Past, Point, point, id, is, last_answer, last_where, Each}
 use Rattle.vat_view.specs.Questions.{opening, call_at, is_late}
 use Rattle.vat_view.specs.Views.{view_of_reference, view_of_target}
@@ -46,14 +46,14 @@ news_same named viewed target goal late tardy taken from opened other names same
 -- ---- what is known of a call, where b says whether the record now speaks of it
 
 module _ (c : ℕ) (before : Past) where
-  abbrev so_far : Option Asked → Bool → Bool → Bool → Bool → CallState
+  abbrev so_far : Option Request → Bool → Bool → Bool → Bool → CallState
   so_far a v s t k = record { asked = a; at_vat = v; served = s; settled = t; known = k }
 
-  same_progress : (a : Option Asked) (v s t k : Bool) → s ≡ false → t ≡ false → k ≡ false → Some (so_far a v s t k) ≡ Some (so_far a v false false false)
+  same_progress : (a : Option Request) (v s t k : Bool) → s ≡ false → t ≡ false → k ≡ false → Some (so_far a v s t k) ≡ Some (so_far a v false false false)
   same_progress a v s t k e f g = ap (λ x. Some (so_far a v x t k)) e ∙ ap (λ x. Some (so_far a v false x k)) f ∙ ap (λ x. Some (so_far a v false false x)) g
 
   -- it comes to the vat
-  abbrev brought : Asked → Bool → Option CallState
+  abbrev brought : Request → Bool → Option CallState
   brought a b =
       if (b || false) || is_bound_call before c then Some (so_far (option_or (if b then Some a else None) (request_of c before))
       (unwrap_or (option_or (if is_some (if b then Some a else None) then Some true else if false then Some false else None) (last_answer (moves c) before)) false)
@@ -62,7 +62,7 @@ module _ (c : ℕ) (before : Past) where
   served_none : IsUnknown c before → is_served c before ≡ false
   served_none unknown = ap (λ b. b || has_passed (boots c) before) unknown.delivered ∙ unknown.booted
 
-  brought_step : (a : Asked) (b : Bool) → (b ≡ true → IsUnknown c before) → brought a b ≡ (if b then Some (so_far (Some a) true false false false) else call_state_of c before)
+  brought_step : (a : Request) (b : Bool) → (b ≡ true → IsUnknown c before) → brought a b ≡ (if b then Some (so_far (Some a) true false false false) else call_state_of c before)
   brought_step a true h = let u : IsUnknown c before = h refl in
       same_progress (Some a) true (is_served c before) (is_settled c before) (is_known c before) (served_none u) u.settled u.known
   brought_step a false h = refl
@@ -73,7 +73,7 @@ module _ (c : ℕ) (before : Past) where
       if (b || false) || is_bound_call before c then Some (so_far (request_of c before) (is_at_vat c before)
       (has_passed (delivers c) before || is_some (if received && b then Some p else last_where (boots c) before)) (is_settled c before) (is_known c before)) else None
 
-  same_begun : (a : Option Asked) (v s t k r : Bool) → a ≡ None → v ≡ false → s ≡ r → t ≡ false → k ≡ false → Some (so_far a v s t k) ≡ Some (so_far None false r false false)
+  same_begun : (a : Option Request) (v s t k r : Bool) → a ≡ None → v ≡ false → s ≡ r → t ≡ false → k ≡ false → Some (so_far a v s t k) ≡ Some (so_far None false r false false)
   same_begun a v s t k r d e f g h =
       ap (λ x. Some (so_far x v s t k)) d ∙ ap (λ x. Some (so_far None x s t k)) e ∙ ap (λ x. Some (so_far None false x t k)) f
       ∙ ap (λ x. Some (so_far None false r x k)) g ∙ ap (λ x. Some (so_far None false r false x)) h

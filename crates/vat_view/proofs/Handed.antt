@@ -3,7 +3,7 @@ use Rattle.std.proofs.Common.{◌≡◌, ◌<◌, inl, inr, refl, sym, ◌∙◌
 use Rattle.std.specs.Option.{option_or}
 use Rattle.std.proofs.lemmas.Bool.{cases_Bool, eq-eqb, ne_eqb}
 use Rattle.vat_view.specs.declared.record.unsettled.Unsettled.TheVariants.{Results as ResultsOf}
-use Rattle.vat_view.specs.declared.tables.handovers.Handover.{Handover}
+use Rattle.vat_view.specs.declared.tables.turns.handovers.Handover.{Handover}
 use Rattle.vat_view.specs.Types.{Return, TakeFrom, DecodedRecord, AnswerBy, Wire}
 use Rattle.vat_view.specs.Past.{Past, Point, point, id, record_index}
 use Rattle.vat_view.specs.Questions.{call_at, opening}

@@ -8,11 +8,11 @@ use Rattle.std.proofs.lemmas.Bool.{and_parts, false≢true, eqb-true, eq-eqb, lt
 use Rattle.std.proofs.lemmas.Slice.Eq.{bytes_eq-Decides}
 use Rattle.std.proofs.lemmas.List.Folds.{Any-from_list_any}
 use Rattle.vat_view.specs.declared.tables.calls.Calls.{Calls}
-use Rattle.vat_view.specs.declared.tables.goal_key.GoalKey.{GoalKey}
-use Rattle.vat_view.specs.declared.tables.queued_call.QueuedCall.{QueuedCall}
-use Rattle.vat_view.specs.declared.tables.waiting_calls.Receipt.{Receipt}
-use Rattle.vat_view.specs.declared.tables.waiting_calls.WaitingCalls.{WaitingCalls}
-use Rattle.vat_view.specs.declared.tables.loopbacks.Unechoed.{Unechoed}
+use Rattle.vat_view.specs.declared.tables.turns.goal_key.GoalKey.{GoalKey}
+use Rattle.vat_view.specs.declared.tables.waits.queued_call.QueuedCall.{QueuedCall}
+use Rattle.vat_view.specs.declared.tables.waits.waiting_calls.Receipt.{Receipt}
+use Rattle.vat_view.specs.declared.tables.waits.waiting_calls.WaitingCalls.{WaitingCalls}
+use Rattle.vat_view.specs.declared.tables.waits.loopbacks.Unechoed.{Unechoed}
 use Rattle.vat_view.specs.Types.{View, Object, Promise, FieldOf, Import}
 use Rattle.vat_view.specs.Glue.CallTables.{call_state_at, goal_in}
 use Rattle.vat_view.specs.Glue.Queues.{goal_key_of, queued_at, queued_cmp, is_queued, from_first, up_to}

@@ -3,9 +3,9 @@ use Rattle.std.proofs.Common.{◌≡◌, ◌⊎◌, ◌<◌, ◌≤◌, refl, sy
 use Rattle.std.specs.Prelude.{unwrap_or}
 use Rattle.std.proofs.lemmas.Bool.{cases_lt}
 use Rattle.rising_table.specs.Entries.{entry_at}
-use Rattle.vat_view.specs.declared.tables.settlements.Settlements.{Settlements}
+use Rattle.vat_view.specs.declared.tables.turns.settlements.Settlements.{Settlements}
 use Rattle.vat_view.specs.declared.tables.references.BoundReferences.{BoundReferences}
-use Rattle.vat_view.specs.declared.tables.handovers.Handovers.{Handovers}
+use Rattle.vat_view.specs.declared.tables.turns.handovers.Handovers.{Handovers}
 use Rattle.vat_view.specs.declared.tables.references.Binding.{Binding}
 use Rattle.vat_view.specs.declared.tables.references.Shortcut.{Shortcut}
 use Rattle.vat_view.specs.declared.walks.landing.Landing.{Landing}
@@ -38,9 +38,6 @@ pub own_ahead : (turn : View → Option View) (table : BoundReferences) (r : ℕ
 own_ahead turn table r q some own =
     let it = ahead_bound table r q some in
     let here : IsAhead turn table r (own_leap r) = (it.0, it.0, it.1, it.1, refl) in subst (λ l. IsAhead turn table r l) (sym own) here
-
-pub none_is_ahead : (turn : View → Option View) (table : BoundReferences) → ((r : ℕ) → bound_at table r ≡ None) → AreAhead turn table
-none_is_ahead turn table empty r q some = let it = ahead_bound table r q some in absurd (none_some it.0 (sym (empty r) ∙ it.1))
 
 -- ---- turns and landings
 
@@ -296,14 +293,6 @@ call_there None d h = absurd (none_some d h)
 pub call_turn : (table : Settlements) (bound : BoundReferences) (v : View) (d : ℕ) → landed_by table v ≡ Some (ToCall d) →
     turns_of table bound v ≡ Some (FieldOf d (field_path v))
 call_turn table bound v d h = lands_turn table bound v ∙ ap (λ o. option_and_then (landing_view (bound_at bound) (field_path v)) o) h
-
--- a walk by a turn to a call's field, and by the turns to the one ahead
-pub call_hop : (table : Settlements) (bound : BoundReferences) → HaveAhead table bound → (v : View) (d : ℕ) (leap : Shortcut) → landed_by table v ≡ Some (ToCall d) →
-    leap ≡ unwrap_or (call_ahead_in table.handovers d) (own_leap d) → TurnsAndThen (turns_of table bound) v leap.turns (FieldOf leap.to (field_path v))
-call_hop table bound ahead v d leap lands is =
-    let f : View → Option View = λ v. turns_of table bound v in
-    ap (λ o. after_turns f leap.turns o) (call_turn table bound v d lands)
-    ∙ subst (λ l. after_turns f l.turns (Some (FieldOf d (field_path v))) ≡ Some (FieldOf l.to (field_path v))) (sym is) (call_near f table.handovers ahead.1 d (field_path v))
 
 -- what is ahead of the call where the fields of the one ahead land is further ahead
 pub further_call_ahead : (table : Settlements) (bound : BoundReferences) → HaveAhead table bound → (c next count : ℕ) (near far : Shortcut) →

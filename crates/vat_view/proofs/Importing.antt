@@ -3,16 +3,13 @@ use Rattle.std.proofs.Common.{◌≡◌, ◌+◌, ◌≤◌, inl, inr, refl, sym
 use Rattle.std.specs.Prelude.{slice_get, is_some}
 use Rattle.std.specs.List.{list_any, position_from}
 use Rattle.std.specs.Option.{option_or}
-use Rattle.std.proofs.lemmas.Bool.{cases_Bool, false≢true, or_parts, eqb-true, eq-eqb, ne_eqb}
+use Rattle.std.proofs.lemmas.Bool.{cases_Bool, false≢true, or_parts, eqb-true, ne_eqb}
 use Rattle.vat_view.specs.declared.tables.arrivals.Arrivals.{Arrivals}
 use Rattle.vat_view.specs.Types.{Descriptor, NoCap, SenderHosted, SenderPromise, ReceiverHosted, ReceiverAnswer, RpcMessage, DecodedRecord, Wire, TableKey}
-use Rattle.vat_view.specs.Past.{Past, id, names, record_at, record_index, last_answer}
-use Rattle.vat_view.specs.Lives.{Birth, begins, began_promised, descriptors, descriptors_of, is_promised, number_introduced}
+use Rattle.vat_view.specs.Past.{Past, record_at}
+use Rattle.vat_view.specs.Lives.{descriptors, descriptors_of}
 use Rattle.vat_view.specs.Arrivals.{Arrival, brings, brought_at, arrived}
 use Rattle.vat_view.specs.Glue.ArrivalTables.{hosted_in, arriving_over, arrival_over, brought_over, arrival_at, AreArrived}
-use Rattle.vat_view.proofs.Naming.{same_id_is}
-use Rattle.vat_view.proofs.Promising.{birth_below}
-use Rattle.vat_view.proofs.Viewed.{begins_parts, cases_option}
 
 some_same : {A : Type 0} {x y : A} → Some x ≡ Some y → x ≡ y
 some_same e = cc
@@ -125,36 +122,3 @@ found_there test (x ∷ xs) p q h = elim (cases_Bool (test x)) [
 -- the import of a number of the peer's that was introduced so
 abbrev pub imported : TableKey → Bool → Arrival
 imported i promised = record { connection = i.connection; hosted = not promised }
-
-introduced_brings : (i : TableKey) (e : DecodedRecord) (d : Descriptor) → i.ours ≡ false → names i (number_introduced e d) ≡ true → brings e d ≡ Some (imported i (is_promised (Some d)))
-introduced_brings i (Wire false k c rs m) (SenderHosted n) peers h = ap (λ x. Some (arrival_over x true)) (sym (ap (λ j. j.connection) (same_id_is i (id k false n) h)))
-introduced_brings i (Wire false k c rs m) (SenderPromise n) peers h = ap (λ x. Some (arrival_over x false)) (sym (ap (λ j. j.connection) (same_id_is i (id k false n) h)))
-introduced_brings i (Wire true k c rs m) (SenderHosted n) peers h = absurd (false≢true (sym peers ∙ ap (λ j. j.ours) (same_id_is i (id k true n) h)))
-introduced_brings i (Wire true k c rs m) (SenderPromise n) peers h = absurd (false≢true (sym peers ∙ ap (λ j. j.ours) (same_id_is i (id k true n) h)))
-introduced_brings i _ _ peers h = absurd (false≢true h)
-
--- the life of an import began with what its view names: it came in over the connection of its number, and as senderHosted
--- just where the life didn't begin with a senderPromise
-pub life_arrived : (i : TableKey) (past : Past) (b : Birth) → i.ours ≡ false → last_answer (begins i) past ≡ Some b →
-    arrived past (record_index b.from) b.place ≡ Some (imported i (began_promised b))
-life_arrived i [] b peers h = absurd (none_some h)
-life_arrived i (e ∷ before) b peers h = arrived_next before e (record_index b.from) b.place ∙ elim (cases_option (begins i before e)) [
-  | inl some ↦
-      let same : begins i before e ≡ Some b = some.1 ∙ sym (ap (λ o. option_or o (last_answer (begins i) before)) some.1) ∙ h in
-      let parts = begins_parts i before e b same in
-      let found = found_there (λ d. names i (number_introduced e d)) (descriptors e) 0 parts.0 parts.1 in
-      let from : record_index b.from ≡ length before = ap (λ x. record_index x.from) parts.2 in
-      let place : b.place ≡ found.0 = let at : b.place ≡ parts.0 = ap (λ x. x.place) parts.2 in let sum = found.2 in omega (arith, at, sum) in
-      let stands : slice_get (descriptors e) b.place ≡ Some found.1 = ap (λ q. slice_get (descriptors e) q) place ∙ found.3 in
-      ap (λ x. if x then brought_at e b.place else arrived before (record_index b.from) b.place) (eq-eqb (length before) (record_index b.from) (sym from))
-      ∙ ap (λ o. option_and_then (brings e) o) stands
-      ∙ introduced_brings i e found.1 peers found.4
-      ∙ ap (λ o. Some (imported i (is_promised o))) (sym stands)
-      ∙ ap (λ x. Some (imported i (is_promised (slice_get (descriptors x) b.place)))) (sym (ap (λ x. x.from.event) parts.2))
-  | inr none ↦
-      let old : last_answer (begins i) before ≡ Some b = sym (ap (λ o. option_or o (last_answer (begins i) before)) none) ∙ h in
-      let below = birth_below i before b old in
-      ap (λ x. if x then brought_at e b.place else arrived before (record_index b.from) b.place)
-      (ne_eqb (length before) (record_index b.from) (λ same. let no : ⊥ = omega (arith, same, below) in no))
-      ∙ life_arrived i before b peers old
-]

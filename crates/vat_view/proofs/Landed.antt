@@ -583,7 +583,3 @@ pub reference_unmet : (e : DecodedRecord) (ds : List Descriptor) (place : ℕ) �
 reference_unmet e ds place all past =
     sym (reference_counted e place (count_by is_cap (take place (descriptors e))) refl
     ∙ ap (λ o. option_and_then (λ d. reference_by (references e) (count_by is_cap (take place (descriptors e))) d) o) (ap (λ l. slice_get l place) (sym all) ∙ slice_get_past ds place past))
-
-pub field_reference : (f : ℕ → Option ℕ) (o : Option (List ℕ × ℕ)) (place : ℕ) → Some place ≡ option_map (λ field. field.1) o → f place ≡ option_and_then (λ field. f field.1) o
-field_reference f (Some field) place h = ap (λ p. f p) (some_same h)
-field_reference f None place h = absurd (none_some (sym h))

@@ -6,11 +6,11 @@ use Rattle.vat_view.specs.declared.tables.questions.Questions.{Questions}
 use Rattle.vat_view.specs.declared.tables.exports_imports.ExportsImports.{ExportsImports}
 use Rattle.vat_view.specs.declared.tables.references.BoundReferences.{BoundReferences}
 use Rattle.vat_view.specs.declared.tables.calls.Calls.{Calls}
-use Rattle.vat_view.specs.declared.tables.waiting_calls.Receipt.{Receipt}
-use Rattle.vat_view.specs.declared.tables.waiting_calls.WaitingCalls.{WaitingCalls}
+use Rattle.vat_view.specs.declared.tables.waits.waiting_calls.Receipt.{Receipt}
+use Rattle.vat_view.specs.declared.tables.waits.waiting_calls.WaitingCalls.{WaitingCalls}
 use Rattle.vat_view.specs.declared.tables.question.Question.{Question}
-use Rattle.vat_view.specs.declared.tables.loopbacks.Unechoed.{Unechoed}
-use Rattle.vat_view.specs.declared.tables.embargoes.Embargoes.{Embargoes}
+use Rattle.vat_view.specs.declared.tables.waits.loopbacks.Unechoed.{Unechoed}
+use Rattle.vat_view.specs.declared.tables.waits.embargoes.Embargoes.{Embargoes}
 use Rattle.vat_view.specs.Types.{Return, Exception, Canceled, Disembargo, Sender, DecodedRecord, Wire, View, TableKey}
 use Rattle.vat_view.specs.Past.{Past, Point, point, id, is, names, record_index}
 use Rattle.vat_view.specs.Questions.{call_at, opening}

@@ -6,7 +6,7 @@ use Rattle.std.proofs.lemmas.Bool.{cases_Bool, lt-ltb, le-ltb}
 use Rattle.vat_view.specs.declared.record.origin.Origin.{Origin}
 use Rattle.vat_view.specs.declared.tables.questions.Questions.{Questions}
 use Rattle.vat_view.specs.declared.tables.exports_imports.ExportsImports.{ExportsImports}
-use Rattle.vat_view.specs.declared.tables.resolves.Resolves.{Resolves}
+use Rattle.vat_view.specs.declared.tables.turns.resolves.Resolves.{Resolves}
 use Rattle.vat_view.specs.Types.{DecodedRecord, TableKey}
 use Rattle.vat_view.specs.Past.{Past, Point, point, names, record_index, last_answer, last_where, last_since}
 use Rattle.vat_view.specs.Lives.{Birth, birth, begins, promise_resolved, is_resolved, is_in_life, began_promised}

@@ -10,15 +10,15 @@ use Rattle.std.specs.Ordering.{nat_cmp, ordering_then, ordering_reverse, is_eq, 
 use Rattle.std.specs.Cmp.{Equal-is, nat_cmp_total, tied_itself, alike_right, unsigned_ties}
 use Rattle.std.specs.BTreeMap.{get}
 use Rattle.std.specs.BTreeMap.Range.{range_contains}
-use Rattle.std.proofs.lemmas.Bool.{cases_Bool, or_left, or_right, false≢true, eqb-true, eq-eqb, lt-ltb}
-use Rattle.vat_view.specs.declared.tables.goal_key.GoalKey.{GoalKey}
-use Rattle.vat_view.specs.declared.tables.queued_call.QueuedCall.{QueuedCall}
-use Rattle.vat_view.specs.contracts.tables.goal_key.GoalKeyOrd.TheImpl as heading_order
-use Rattle.vat_view.specs.contracts.tables.goal_key.GoalKeyOrd.TheImpl.Laws as heading_laws
-use Rattle.vat_view.specs.contracts.tables.queued_call.QueuedCallOrd.TheImpl.Laws as queued_laws
+use Rattle.std.proofs.lemmas.Bool.{cases_Bool, or_left, or_right, false≢true, eqb-true, lt-ltb}
+use Rattle.vat_view.specs.declared.tables.turns.goal_key.GoalKey.{GoalKey}
+use Rattle.vat_view.specs.declared.tables.waits.queued_call.QueuedCall.{QueuedCall}
+use Rattle.vat_view.specs.contracts.tables.turns.goal_key.GoalKeyOrd.TheImpl as heading_order
+use Rattle.vat_view.specs.contracts.tables.turns.goal_key.GoalKeyOrd.TheImpl.Laws as heading_laws
+use Rattle.vat_view.specs.contracts.tables.waits.queued_call.QueuedCallOrd.TheImpl.Laws as queued_laws
 use Rattle.vat_view.specs.declared.tables.calls.Calls.{Calls}
-use Rattle.vat_view.specs.declared.tables.waiting_calls.Receipt.{Receipt}
-use Rattle.vat_view.specs.declared.tables.waiting_calls.WaitingCalls.{WaitingCalls}
+use Rattle.vat_view.specs.declared.tables.waits.waiting_calls.Receipt.{Receipt}
+use Rattle.vat_view.specs.declared.tables.waits.waiting_calls.WaitingCalls.{WaitingCalls}
 use Rattle.vat_view.specs.Past.{is as taken_is}
 use Rattle.vat_view.specs.Glue.CallTables.{call_state_at, goal_in}
 use Rattle.vat_view.specs.Glue.Queues.{queued_at, queued_cmp, is_queued, ahead_of}
@@ -98,13 +98,6 @@ tied_call p q tied =
     eqb-true p.call q.call
     (unsigned_ties p.call q.call ∙ last (nat_cmp p.number q.number) (nat_cmp p.call q.call)
     (last (heading_cmp p.heading q.heading) numbers (last (nat_cmp p.connection q.connection) (ordering_then (heading_cmp p.heading q.heading) numbers) tied)))
-
--- a place of another call isn't taken for it
-pub not_tied : (p q : QueuedCall) (c : ℕ) → p.call ≡ c → (c == q.call) ≡ false → is_eq (queued_cmp p q) ≡ false
-not_tied p q c is apart = elim (cases_Bool (is_eq (queued_cmp p q))) [
-  | inl tied ↦ absurd (false≢true (sym apart ∙ eq-eqb c q.call (sym is ∙ tied_call p q tied)))
-  | inr other ↦ other
-]
 
 -- a call that is taken out of both tables has left the queue
 pub has_left : (old : WaitingCalls) (calls : Calls) (taken : Option ℕ) (c : ℕ) → taken ≡ Some c → (found : Receipt) → get nat_cmp old.entries c ≡ Some (Some found) →

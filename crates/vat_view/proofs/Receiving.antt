@@ -4,8 +4,8 @@ use Rattle.std.specs.Prelude.{is_some, option_and_then, unwrap_or}
 use Rattle.std.specs.List.{list_all}
 use Rattle.std.specs.Option.{option_or}
 use Rattle.std.proofs.lemmas.Bool.{cases_Bool, and_parts, or_parts, false≢true, eqb-true, eq-eqb, not-true}
-use Rattle.vat_view.specs.declared.tables.waiting_calls.Receipt.{Receipt}
-use Rattle.vat_view.specs.Types.{Call, Return, Exception, Canceled, DecodedRecord, Make, Deliver, Fault, Wire, Asked}
+use Rattle.vat_view.specs.declared.tables.waits.waiting_calls.Receipt.{Receipt}
+use Rattle.vat_view.specs.Types.{Call, Return, Exception, Canceled, DecodedRecord, Make, Deliver, Fault, Wire, Request}
 use Rattle.vat_view.specs.Past.{Past, Point, point, id, is, record_index, last_answer, last_where, last_since, Each}
 use Rattle.vat_view.specs.Questions.{call_at, opening}
 use Rattle.vat_view.specs.Views.{view_of_reference, view_of_target}
@@ -58,9 +58,9 @@ received_once c before e r refers h = no_receipt c before e (not_new c before e 
 
 not_brought : (c : ℕ) (before : Past) (e : DecodedRecord) → contains c (new_calls e) ≡ false → brings c before e ≡ None
 not_brought c before (Make d r f m) h =
-    let a : Asked = record { goal = view_of_reference before r; interface = f; method = m } in ap (λ b. if b then Some a else None) (or_parts (d == c) false h).0
+    let a : Request = record { goal = view_of_reference before r; interface = f; method = m } in ap (λ b. if b then Some a else None) (or_parts (d == c) false h).0
 not_brought c before (Wire false k d rs (Call q t f m p yourself)) h =
-    let a : Asked = record { goal = view_of_target before (Wire false k d rs (Call q t f m p yourself)); interface = f; method = m } in
+    let a : Request = record { goal = view_of_target before (Wire false k d rs (Call q t f m p yourself)); interface = f; method = m } in
     ap (λ b. if b then Some a else None) (or_parts (d == c) false h).0
 not_brought c before _ h = refl
 
@@ -70,7 +70,7 @@ goal_stays c before e r refers h = ap (λ o. option_and_then (λ a. a.goal) (opt
 -- it is what the target stands for of the record that receives the call
 pub goal_received : (c n : ℕ) (before : Past) (e : DecodedRecord) (x : ℕ × Receipt) → call_received_by n e ≡ Some x → (x.0 == c) ≡ true → goal_of c (e ∷ before) ≡ view_of_target before e
 goal_received c n before (Wire false k d rs (Call q t f m p yourself)) x h same =
-    let a : Asked = record { goal = view_of_target before (Wire false k d rs (Call q t f m p yourself)); interface = f; method = m } in
+    let a : Request = record { goal = view_of_target before (Wire false k d rs (Call q t f m p yourself)); interface = f; method = m } in
     let named : d ≡ x.0 = ap (λ y. y.0) (some_same h) in
     ap (λ b. option_and_then (λ a. a.goal) (option_or (if b then Some a else None) (request_of c before))) (ap (λ y. y == c) named ∙ same)
 goal_received c n before _ x h same = absurd (none_some h)
@@ -87,7 +87,7 @@ module _ (c : ℕ) (before : Past) where
   took false = refl
 
   -- it is received
-  came : (r : Receipt) (a : Asked) (b : Bool) → (if b then Some r else receipt_here c before) ≡
+  came : (r : Receipt) (a : Request) (b : Bool) → (if b then Some r else receipt_here c before) ≡
       (if unwrap_or (option_or (if is_some (if b then Some a else None) then Some true else if false then Some false else None) (last_answer (moves c) before)) false
       then option_or (if b then Some r else None) (receipt_of c before) else None)
   came r a true = refl
@@ -98,7 +98,7 @@ module _ (c : ℕ) (before : Past) where
   nowhere false h = refl
 
   -- it is made
-  made : (a : Asked) (b : Bool) → (b ≡ true → receipt_of c before ≡ None) →
+  made : (a : Request) (b : Bool) → (b ≡ true → receipt_of c before ≡ None) →
       receipt_here c before ≡ here (unwrap_or (option_or (if is_some (if b then Some a else None) then Some true else if false then Some false else None) (last_answer (moves c) before)) false)
   made a true h = nowhere (is_at_vat c before) (h refl) ∙ sym (h refl)
   made a false h = refl

@@ -7,9 +7,8 @@ use Rattle.vat_view.specs.declared.tables.connections.Connections.{Connections}
 use Rattle.vat_view.specs.declared.walks.reachable.Sought.TheVariants.{Over, Elsewhere}
 use Rattle.vat_view.specs.Types.{Edition, First, Later, View, Object, Promise, FieldOf, Import}
 use Rattle.vat_view.specs.Past.{Past, is}
-use Rattle.vat_view.specs.Walks.{Next, next, Leads}
+use Rattle.vat_view.specs.Walks.{Next, next, Leads, turned_to}
 use Rattle.vat_view.specs.Connections.{reached_over, is_elsewhere}
-use Rattle.vat_view.specs.Glue.TurnTables.{turned_to}
 use Rattle.vat_view.specs.Glue.ArrivalTables.{AreArrived}
 use Rattle.vat_view.specs.Glue.ConnectionTables.{AreConnected, over_by, is_elsewhere_by, sought_by, ReachesOne}
 use Rattle.vat_view.proofs.Walking.{none_some, some_same, step, reached_same, leads_reach, reached_leads}

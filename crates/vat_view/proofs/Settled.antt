@@ -4,10 +4,10 @@ use Rattle.std.proofs.lemmas.Bool.{cases_Bool, ltb-true, ltb-false, eq-eqb}
 use Rattle.vat_view.specs.declared.tables.questions.Questions.{Questions}
 use Rattle.vat_view.specs.declared.tables.exports_imports.ExportsImports.{ExportsImports}
 use Rattle.vat_view.specs.declared.tables.references.BoundReferences.{BoundReferences}
-use Rattle.vat_view.specs.declared.tables.settlements.Settlements.{Settlements}
-use Rattle.vat_view.specs.declared.tables.settlements.Settling.{Settling}
-use Rattle.vat_view.specs.declared.tables.turned.Turned.{Turned}
-use Rattle.vat_view.specs.declared.tables.handovers.Handover.{Handover}
+use Rattle.vat_view.specs.declared.tables.turns.settlements.Settlements.{Settlements}
+use Rattle.vat_view.specs.declared.tables.turns.settlements.Settling.{Settling}
+use Rattle.vat_view.specs.declared.tables.turns.turned.Turned.{Turned}
+use Rattle.vat_view.specs.declared.tables.turns.handovers.Handover.{Handover}
 use Rattle.vat_view.specs.declared.record.unsettled.Unsettled.TheVariants.{Promise as PromiseToKeep, Results as ResultsOf, Import as ImportToResolve}
 use Rattle.vat_view.specs.Types.{Return, Resolve, DecodedRecord, Fulfil, Break, Answer, AnswerBy, Fault, Wire, View, Object, Promise, FieldOf, Import, TableKey}
 use Rattle.std.specs.Option.{option_or}
@@ -16,12 +16,12 @@ use Rattle.vat_view.specs.Questions.{call_at, opening}
 use Rattle.vat_view.specs.Lives.{Birth, birth, begins, held, is_in_life}
 use Rattle.vat_view.specs.Views.{view_of_reference}
 use Rattle.vat_view.specs.Calls.{call_taken_from}
-use Rattle.vat_view.specs.Walks.{on_to, next}
+use Rattle.vat_view.specs.Walks.{on_to, next, turned_to}
 use Rattle.vat_view.specs.Glue.Tables.{question_at, count_at, origin_at, origin_of, held_origin, bound_at, AreTabled, IsFit}
-use Rattle.vat_view.specs.Glue.TurnTables.{is_this, field_path, promise_of, import_at, unless_elsewhere, results_by, import_by, settlement_of, settled_by, turn_target, target_in, Settler, Turning, turning_of, goes, goes_to, landing_of, landing_view, settler, settler_at_point, settler_of, last_settler, settled_as, settled_at, settles, handing, handover_of, handover_at, handover_after, SaysSameTurns, IsNoted, by_handover, AreSettled, call_behind_by, turning_by, goes_by, turned_to}
+use Rattle.vat_view.specs.Glue.TurnTables.{is_this, field_path, promise_of, import_at, unless_elsewhere, results_by, import_by, settlement_of, settled_by, turn_target, target_in, Settler, Turning, turning_of, goes, goes_to, landing_of, landing_view, settler, settler_at_point, settler_of, last_settler, settled_as, settles, handing, handover_of, handover_at, handover_after, SaysSameTurns, IsNoted, by_handover, AreSettled, call_behind_by, turning_by, goes_by}
 use Rattle.vat_view.proofs.Knowing.{known_from}
 use Rattle.vat_view.proofs.Raising.{positive}
-use Rattle.vat_view.proofs.Landed.{still, going_step, lands_bound}
+use Rattle.vat_view.proofs.Landed.{going_step, lands_bound}
 use Rattle.vat_view.proofs.Handed.{answerer_settles, handed_step, matched}
 
 -- ---- what a record settles, by the tables before it
@@ -76,12 +76,6 @@ settled_if : (v : View) (b : Bool) (before : Past) (e : DecodedRecord) (number :
 settled_if v true before e number turned o place is_turned = ap₂ (λ n r. Some (n, r)) place (is_turned refl)
 settled_if v false before e number turned o place is_turned = refl
 
-none_settled : (v : View) → None ≡ option_map (settled_as v) (last_settler v [])
-none_settled (Object object) = refl
-none_settled (Promise p) = refl
-none_settled (FieldOf call path) = refl
-none_settled (Import i place) = refl
-
 -- a table that says the same
 pub settled_same : (past : Past) (table other : Settlements) → SaysSameTurns table other → AreSettled past table → AreSettled past other
 settled_same past table other same kept = record {
@@ -114,10 +108,6 @@ settled_more before e table other number s fit place is_settled taken is_turned 
   going = λ v. going_step before e fit.refers fit.notes kept.landed v (kept.going v);
   landed = (lands_bound before e fit.refers, kept.landed);
 }
-
--- before any record
-pub settled_first : (table : Settlements) → ((v : View) → settled_at table v ≡ None) → ((c : ℕ) → handover_at table c ≡ None) → AreSettled [] table
-settled_first table settlers handed = record { settlers = λ v. settlers v ∙ none_settled v; handed = handed; going = λ v. still v; landed = tt }
 
 -- after one more, for which room was made
 pub turns_applied : (before : Past) (e : DecodedRecord) (number : ℕ) (s : Settling) (questions : Questions) (lives : ExportsImports) (bound : BoundReferences) (table room more : Settlements) →

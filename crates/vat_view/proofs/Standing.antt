@@ -4,9 +4,9 @@ use Rattle.std.proofs.Common.{◌≡◌, inl, refl, sym, ℕ, true, false, Optio
 use Rattle.std.proofs.lemmas.Bool.{false≢true}
 use Rattle.vat_view.specs.declared.tables.question.Question.{Question}
 use Rattle.vat_view.specs.declared.tables.exports_imports.ExportsImports.{ExportsImports}
-use Rattle.vat_view.specs.declared.tables.settlements.Settlements.{Settlements}
-use Rattle.vat_view.specs.declared.tables.settlements.Settling.{Settling}
-use Rattle.vat_view.specs.declared.tables.turned.Turned.TheVariants.{Nowhere}
+use Rattle.vat_view.specs.declared.tables.turns.settlements.Settlements.{Settlements}
+use Rattle.vat_view.specs.declared.tables.turns.settlements.Settling.{Settling}
+use Rattle.vat_view.specs.declared.tables.turns.turned.Turned.TheVariants.{Nowhere}
 use Rattle.vat_view.specs.declared.tables.connections.Connections.{Connections}
 use Rattle.vat_view.specs.Types.{Return, Resolve, DecodedRecord, Fulfil, Break, Answer, AnswerBy, Fault, Wire, View, Object, Promise, FieldOf, Import, TableKey}
 use Rattle.vat_view.specs.Lives.{promise_resolved}

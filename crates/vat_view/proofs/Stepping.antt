@@ -163,9 +163,6 @@ pub counted_step : (before : Past) (e : DecodedRecord) → ((i : TableKey) → r
     held i before + introduces i before e - gives_back i before e ≡ held i (e ∷ before)
 counted_step before e below held_so i = held_step (introduced_count i before) (released_count i before) (introduces i before e) (gives_back i before e) (held_so i) (below i)
 
-two_steps : (a b c d : ℕ) → d ≡ b + c → a - b - c ≡ a - d
-two_steps a b c d e = omega (arith, e)
-
 -- ---- the tables after a record
 
 pub three_ok : {T E P Q R S : Type 0} (r : Result T E) → (P → Q → R → S) → OnOk r P → OnOk r Q → OnOk r R → OnOk r S

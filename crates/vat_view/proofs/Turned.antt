@@ -6,10 +6,10 @@ use Rattle.std.proofs.lemmas.Bool.{cases_lt, false≢true, eqb-true}
 use Rattle.std.proofs.lemmas.Option.{slice_get_past}
 use Rattle.std.specs.BTreeMap.{get}
 use Rattle.rising_table.specs.Entries.{entry_at}
-use Rattle.vat_view.specs.declared.tables.turned.Turned.{Turned}
-use Rattle.vat_view.specs.declared.tables.settlements.Settlements.{Settlements}
-use Rattle.vat_view.specs.declared.record.unsettled.Unsettled.TheVariants.{Promise as PromiseToKeep, Results as ResultsOf, Import as ImportToResolve}
-use Rattle.vat_view.specs.declared.tables.turned.Turned.TheVariants.{Nowhere, Reference as ToOne, Field as OneField, Fields as ManyFields}
+use Rattle.vat_view.specs.declared.tables.turns.turned.Turned.{Turned}
+use Rattle.vat_view.specs.declared.tables.turns.settlements.Settlements.{Settlements}
+use Rattle.vat_view.specs.declared.record.unsettled.Unsettled.TheVariants.{Results as ResultsOf, Import as ImportToResolve}
+use Rattle.vat_view.specs.declared.tables.turns.turned.Turned.TheVariants.{Nowhere, Reference as ToOne, Field as OneField, Fields as ManyFields}
 use Rattle.vat_view.specs.Types.{Descriptor, DecodedRecord, View, Object, Promise, FieldOf, Import}
 use Rattle.vat_view.specs.Lives.{descriptors}
 use Rattle.vat_view.specs.Glue.FieldTargets.{target_among}
@@ -61,13 +61,6 @@ noted_whole e ds noted k all whole before place = elim (cases_lt place k) [
 
 -- ---- one result, and several
 
-pub answered_alone : (r : ℕ) (at path : List ℕ) → target_in path (OneField r at) ≡ answered_at path ((r, at) ∷ [])
-answered_alone r at path = inner (same_path at path)
-  where
-    inner : (b : Bool) → (if b then Some r else None) ≡ option_map (λ (answer : ℕ × List ℕ). answer.0) (if b then Some (r, at) else None)
-    inner true = refl
-    inner false = refl
-
 pub answers_found : (results : List (ℕ × List ℕ)) (path : List ℕ) → option_and_then (λ field. field.0) (find (λ field. same_path field.1 path) (map answer_target results)) ≡ answered_at path results
 answers_found [] path = refl
 answers_found (x ∷ results) path = inner (same_path x.1 path) (answers_found results path)
@@ -77,13 +70,6 @@ answers_found (x ∷ results) path = inner (same_path x.1 path) (answers_found r
         ≡ option_map (λ answer. answer.0) (if b then Some x else find (λ answer. same_path answer.1 path) results)
     inner true rest = refl
     inner false rest = rest
-
-pub returned_one : (noted : ℕ → Option ℕ) (at : List ℕ) (place : ℕ) (path : List ℕ) → (if same_path at path then noted place else None) ≡ returned_at noted path ((at, place) ∷ [])
-returned_one noted at place path = inner (same_path at path)
-  where
-    inner : (b : Bool) → (if b then noted place else None) ≡ option_and_then (λ (field : List ℕ × ℕ). noted field.1) (if b then Some (at, place) else None)
-    inner true = refl
-    inner false = refl
 
 pub results_found : (noted : ℕ → Option ℕ) (results : List (List ℕ × ℕ)) (path : List ℕ) →
     option_and_then (λ field. field.0) (find (λ field. same_path field.1 path) (map (field_target noted) results)) ≡ returned_at noted path results
@@ -104,14 +90,6 @@ answers_kept results fields kept is same path = same path ∙ ap (λ l. target_a
 pub results_kept : (noted : ℕ → Option ℕ) (results : List (List ℕ × ℕ)) (fields kept : List (Option ℕ × List ℕ)) → fields ≡ map (field_target noted) results →
     ((path : List ℕ) → target_among path kept ≡ target_among path fields) → (path : List ℕ) → target_in path (ManyFields kept) ≡ returned_at noted path results
 results_kept noted results fields kept is same path = same path ∙ ap (λ l. target_among path l) is ∙ results_found noted results path
-
--- a field whose result has a reference, or has none
-pub field_some : (b : Bool) (r : ℕ) (o : Option ℕ) → o ≡ Some r → (if b then Some r else None) ≡ (if b then o else None)
-field_some b r o is = ap (λ x. if b then x else None) (sym is)
-
-pub field_none : (b : Bool) (o : Option ℕ) → o ≡ None → None ≡ (if b then o else None)
-field_none true o is = sym is
-field_none false o is = refl
 
 -- ---- the row of what calls' results are turned to
 
@@ -159,25 +137,3 @@ call_settled old new call number turned promises imports results fields (Promise
 call_settled old new call number turned promises imports results fields (FieldOf c path) =
     ap₂ (λ t o. settled_with (target_in path t) o) (fields c) (results c) ∙ results_noted (call == c) number path turned (turned_in old.turned c) (number_in old.results c)
 call_settled old new call number turned promises imports results fields (Import i place) = ap (λ t. option_and_then ended (get pending_cmp t (ImportToResolve i place))) imports
-
--- a promise ended so by the record of this number
-pub promise_settled : (old new : Settlements) (promise number : ℕ) (to : Option ℕ) (turned : Turned) → to ≡ target_in [] turned → new.results ≡ old.results → new.turned ≡ old.turned → new.imports ≡ old.imports →
-    ((k : ℕ) → ended_in new.promises k ≡ (if promise == k then Some (number, to) else ended_in old.promises k)) →
-    (v : View) → settled_at new v ≡ (if settles v (Some (PromiseToKeep promise)) then Some (number, target_in (field_path v) turned) else settled_at old v)
-promise_settled old new promise number to turned is results fields imports promises (Object object) = refl
-promise_settled old new promise number to turned is results fields imports promises (Promise p) =
-    promises p ∙ ap (λ t. if promise == p then Some (number, t) else ended_in old.promises p) is
-promise_settled old new promise number to turned is results fields imports promises (FieldOf c path) =
-    ap₂ (λ t l. settled_with (target_in path (turned_in t c)) (number_in l c)) fields results
-promise_settled old new promise number to turned is results fields imports promises (Import i place) =
-    ap (λ t. option_and_then ended (get pending_cmp t (ImportToResolve i place))) imports
-
--- an import ended so, and none of the others
-pub import_settled : (old new : Settlements) (brought there number : ℕ) (to : Option ℕ) (turned : Turned) → to ≡ target_in [] turned →
-    ((v : View) → settled_at new v ≡ (if settles v (Some (ImportToResolve brought there)) then Some (number, to) else settled_at old v)) →
-    (v : View) → settled_at new v ≡ (if settles v (Some (ImportToResolve brought there)) then Some (number, target_in (field_path v) turned) else settled_at old v)
-import_settled old new brought there number to turned is settlers (Object object) = settlers (Object object)
-import_settled old new brought there number to turned is settlers (Promise p) = settlers (Promise p)
-import_settled old new brought there number to turned is settlers (FieldOf c path) = settlers (FieldOf c path)
-import_settled old new brought there number to turned is settlers (Import i place) =
-    settlers (Import i place) ∙ ap (λ t. if settles (Import i place) (Some (ImportToResolve brought there)) then Some (number, t) else settled_at old (Import i place)) is

@@ -4,7 +4,7 @@ use Rattle.std.specs.Prelude.{is_some}
 use Rattle.std.specs.List.{list_all}
 use Rattle.std.specs.Option.{option_or}
 use Rattle.std.proofs.lemmas.Bool.{cases_Bool, and_parts, and_from, or_parts, or_left, or_right, false≢true, eqb-true}
-use Rattle.vat_view.specs.Types.{Bootstrap, Call, Return, Results, Exception, Canceled, TakeFrom, DecodedRecord, Make, Deliver, Answer, AnswerBy, Fault, Wire, Asked, TableKey}
+use Rattle.vat_view.specs.Types.{Bootstrap, Call, Return, Results, Exception, Canceled, TakeFrom, DecodedRecord, Make, Deliver, Answer, AnswerBy, Fault, Wire, Request, TableKey}
 use Rattle.vat_view.specs.Past.{Past, point, id, is, last_answer, last_where, Each}
 use Rattle.vat_view.specs.Questions.{opens, opening, call_at, is_late}
 use Rattle.vat_view.specs.Views.{view_of_reference, view_of_target}
@@ -72,7 +72,7 @@ module _ (c : ℕ) (before : Past) (sound : Each IsSound before) (unbound : is_b
 
   nothing : (e : DecodedRecord) → Refers before e → contains c (new_calls e) ≡ false → IsApart c before e
   nothing (Make d r f m) refers h = record {
-    brings = (let a : Asked = record { goal = view_of_reference before r; interface = f; method = m } in ap (λ b. if b then Some a else None) (not_new d h));
+    brings = (let a : Request = record { goal = view_of_reference before r; interface = f; method = m } in ap (λ b. if b then Some a else None) (not_new d h));
     takes = refl;
     delivers = refl;
     boots = refl;
@@ -87,7 +87,7 @@ module _ (c : ℕ) (before : Past) (sound : Each IsSound before) (unbound : is_b
   nothing (Fault d) refers h = record { brings = refl; takes = not_named d refers.bound_call; delivers = refl; boots = refl; settles = not_named d refers.bound_call; knows = refl }
   nothing (Wire false k d rs (Bootstrap q)) refers h = record { brings = refl; takes = refl; delivers = refl; boots = not_new d h; settles = refl; knows = refl }
   nothing (Wire false k d rs (Call q t f m p yourself)) refers h = record {
-    brings = (let a : Asked = record { goal = view_of_target before (Wire false k d rs (Call q t f m p yourself)); interface = f; method = m } in ap (λ b. if b then Some a else None) (not_new d h));
+    brings = (let a : Request = record { goal = view_of_target before (Wire false k d rs (Call q t f m p yourself)); interface = f; method = m } in ap (λ b. if b then Some a else None) (not_new d h));
     takes = refl;
     delivers = refl;
     boots = refl;
@@ -118,7 +118,7 @@ module _ (c : ℕ) (before : Past) (sound : Each IsSound before) (unbound : is_b
 passed_apart : (test : Past → DecodedRecord → Bool) (before : Past) (e : DecodedRecord) → test before e ≡ false → has_passed test before ≡ false → has_passed test (e ∷ before) ≡ false
 passed_apart test before e apart rest = ap (λ b. is_some (if b then Some (point before e) else last_where test before)) apart ∙ rest
 
-moves_none : (o : Option Asked) (b : Bool) → o ≡ None → b ≡ false → (if is_some o then Some true else if b then Some false else None) ≡ None
+moves_none : (o : Option Request) (b : Bool) → o ≡ None → b ≡ false → (if is_some o then Some true else if b then Some false else None) ≡ None
 moves_none o b none apart = ap (λ x. if is_some x then Some true else if b then Some false else None) none ∙ ap (λ x. if x then Some false else None) apart
 
 pub unknown : (past : Past) → Each IsSound past → (c : ℕ) → is_bound_call past c ≡ false → IsUnknown c past

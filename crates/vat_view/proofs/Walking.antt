@@ -4,8 +4,8 @@ use Rattle.std.specs.Prelude.{Option, Some, None, option_and_then, if◌then◌e
 use Rattle.std.proofs.lemmas.Bool.{cases_eq, cases_lt}
 use Rattle.vat_view.specs.Types.{View}
 use Rattle.vat_view.specs.Past.{Past}
-use Rattle.vat_view.specs.Walks.{Next, turns, stops, stays, next, Leads, here, onward, LeadsByTurns, turned}
-use Rattle.vat_view.specs.Glue.TurnTables.{after_turns, turned_to, Reaches, ReachesByTurns}
+use Rattle.vat_view.specs.Walks.{Next, turns, stops, stays, next, Leads, here, onward, LeadsByTurns, turned, turned_to}
+use Rattle.vat_view.specs.Glue.TurnTables.{after_turns, Reaches, ReachesByTurns}
 
 pub some_same : {A : Type 0} (x y : A) → Some x ≡ Some y → x ≡ y
 some_same x y e = cc

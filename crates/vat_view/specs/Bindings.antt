@@ -2,7 +2,7 @@
 use Rattle.std.specs.Prelude.{◌≡◌, ℕ, ◌==◌, length, List, [], ◌∷◌, map, Bool, true, false, not, ◌&&◌, if◌then◌else◌, is_none, IsTrue}
 use Rattle.std.specs.Bool.{beq}
 use Rattle.std.specs.List.{list_any, list_all}
-use Rattle.vat_view.specs.Types.{Bootstrap, Call, DecodedRecord, Host, Vow, Fulfil, Break, Make, Field, Deliver, Answer, AnswerBy, Fault, Wire}
+use Rattle.vat_view.specs.Types.{Bootstrap, Call, Return, Finish, Resolve, Release, Disembargo, Abort, DecodedRecord, Host, Vow, Fulfil, Break, Make, Field, Deliver, Answer, AnswerBy, Fault, Wire}
 use Rattle.vat_view.specs.Past.{Past}
 use Rattle.vat_view.specs.Questions.{question_opened, is_late}
 use Rattle.vat_view.specs.Views.{places, references}
@@ -13,7 +13,14 @@ new_references (Host r object) = r ∷ []
 new_references (Vow r) = r ∷ []
 new_references (Field r call path) = r ∷ []
 new_references (Wire false k call noted m) = noted
-new_references _ = []
+new_references (Fulfil r to) = []
+new_references (Break r) = []
+new_references (Make call r interface method) = []
+new_references (Deliver call object) = []
+new_references (Answer call results) = []
+new_references (AnswerBy call by) = []
+new_references (Fault call) = []
+new_references (Wire true k call noted m) = []
 
 -- the other references that it names
 abbrev pub named_references : DecodedRecord → List ℕ
@@ -22,14 +29,35 @@ named_references (Break r) = r ∷ []
 named_references (Make call r interface method) = r ∷ []
 named_references (Answer call results) = map (λ answer. answer.0) results
 named_references (Wire true k call noted m) = noted
-named_references _ = []
+named_references (Host r object) = []
+named_references (Vow r) = []
+named_references (Field r call path) = []
+named_references (Deliver call object) = []
+named_references (AnswerBy call by) = []
+named_references (Fault call) = []
+named_references (Wire false k call noted m) = []
 
 -- the call that it newly binds: of MAKE, a sent or received Bootstrap, a received Call
 abbrev pub new_calls : DecodedRecord → List ℕ
 new_calls (Make call r interface method) = call ∷ []
 new_calls (Wire sent k call noted (Bootstrap q)) = call ∷ []
 new_calls (Wire false k call noted (Call q target interface method params yourself)) = call ∷ []
-new_calls _ = []
+new_calls (Wire true k call noted (Call q target interface method params yourself)) = []
+new_calls (Wire sent k call noted (Return q release outcome light)) = []
+new_calls (Wire sent k call noted (Finish q release)) = []
+new_calls (Wire sent k call noted (Resolve promise resolution)) = []
+new_calls (Wire sent k call noted (Release n count)) = []
+new_calls (Wire sent k call noted (Disembargo n loopback target)) = []
+new_calls (Wire sent k call noted Abort) = []
+new_calls (Host r object) = []
+new_calls (Vow r) = []
+new_calls (Fulfil r to) = []
+new_calls (Break r) = []
+new_calls (Field r call path) = []
+new_calls (Deliver call object) = []
+new_calls (Answer call results) = []
+new_calls (AnswerBy call by) = []
+new_calls (Fault call) = []
 
 -- the other calls that it names
 abbrev pub named_calls : DecodedRecord → List ℕ
@@ -39,7 +67,19 @@ named_calls (Answer call results) = call ∷ []
 named_calls (AnswerBy call by) = call ∷ by ∷ []
 named_calls (Fault call) = call ∷ []
 named_calls (Wire true k call noted (Call q target interface method params yourself)) = call ∷ []
-named_calls _ = []
+named_calls (Host r object) = []
+named_calls (Vow r) = []
+named_calls (Fulfil r to) = []
+named_calls (Break r) = []
+named_calls (Make call r interface method) = []
+named_calls (Wire true k call noted (Bootstrap q)) = []
+named_calls (Wire true k call noted (Finish q release)) = []
+named_calls (Wire true k call noted (Resolve promise resolution)) = []
+named_calls (Wire true k call noted (Release n count)) = []
+named_calls (Wire true k call noted (Disembargo n loopback target)) = []
+named_calls (Wire true k call noted Abort) = []
+named_calls (Wire true k call noted (Return q release outcome light)) = []
+named_calls (Wire false k call noted m) = []
 
 -- a number is in a list
 abbrev pub contains : ℕ → List ℕ → Bool

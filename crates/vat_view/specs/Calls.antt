@@ -1,14 +1,14 @@
 -- Calls at the vat, what they ask for, and what is known of their results (rpc.capnp, the comments of Call and
 -- Return).
 use Rattle.std.specs.Prelude.{ℕ, ◌==◌, Bool, true, false, not, ◌&&◌, ◌||◌, Option, Some, None, if◌then◌else◌, option_and_then, unwrap_or, is_some}
-use Rattle.vat_view.specs.Types.{Bootstrap, Call, Return, Results, Exception, Canceled, TakeFrom, DecodedRecord, Make, Deliver, Answer, AnswerBy, Fault, Wire, View, Asked}
+use Rattle.vat_view.specs.Types.{Bootstrap, Call, Return, Finish, Resolve, Release, Disembargo, Abort, Results, Exception, Canceled, Elsewhere, TakeFrom, DecodedRecord, Host, Vow, Fulfil, Break, Make, Field, Deliver, Answer, AnswerBy, Fault, Wire, View, Request}
 use Rattle.vat_view.specs.Past.{Past, id, is, last_answer, last_where}
 use Rattle.vat_view.specs.Questions.{call_at, call_of, opening, is_late}
 use Rattle.vat_view.specs.Views.{view_of_reference, view_of_target}
 
 -- MAKE brings a call to the vat, its goal the view of the reference; so does a received Call, its goal what the
 -- target stands for. A Bootstrap's call is never at a vat
-abbrev pub brings : ℕ → Past → DecodedRecord → Option Asked
+abbrev pub brings : ℕ → Past → DecodedRecord → Option Request
 brings call before (Make c r interface method) =
     if c == call then Some record { goal = view_of_reference before r; interface = interface; method = method } else None
 brings call before (Wire false k c rs (Call q target interface method params yourself)) =
@@ -17,7 +17,7 @@ brings call before (Wire false k c rs (Call q target interface method params you
 brings call before _ = None
 
 -- what a call asked for when it came to the vat
-abbrev pub request_of : ℕ → Past → Option Asked
+abbrev pub request_of : ℕ → Past → Option Request
 request_of call past = last_answer (brings call) past
 
 -- a call's goal
@@ -32,7 +32,24 @@ takes call before (Fault c) = c == call
 takes call before (Wire true k c rs (Call q target interface method params yourself)) = c == call
 takes call before (Wire true k c rs (Return q release Exception light)) = is call (call_at (opening (id k false q) before))
 takes call before (Wire true k c rs (Return q release Canceled light)) = is call (call_at (opening (id k false q) before))
-takes call before _ = false
+takes call before (Wire true k c rs (Return q release (Results payload) light)) = false
+takes call before (Wire true k c rs (Return q release Elsewhere light)) = false
+takes call before (Wire true k c rs (Return q release (TakeFrom n) light)) = false
+takes call before (Wire true k c rs (Bootstrap q)) = false
+takes call before (Wire true k c rs (Finish q release)) = false
+takes call before (Wire true k c rs (Resolve promise resolution)) = false
+takes call before (Wire true k c rs (Release n count)) = false
+takes call before (Wire true k c rs (Disembargo n loopback target)) = false
+takes call before (Wire true k c rs Abort) = false
+takes call before (Wire false k c rs m) = false
+takes call before (Host r object) = false
+takes call before (Vow r) = false
+takes call before (Fulfil r to) = false
+takes call before (Break r) = false
+takes call before (Make c r interface method) = false
+takes call before (Field r c path) = false
+takes call before (Answer c results) = false
+takes call before (AnswerBy c by) = false
 
 -- a record brings a call to the vat, or takes it away
 abbrev pub moves : ℕ → Past → DecodedRecord → Option Bool
@@ -57,7 +74,14 @@ abbrev pub settles : ℕ → Past → DecodedRecord → Bool
 settles call before (Answer c results) = c == call
 settles call before (AnswerBy c by) = c == call
 settles call before (Fault c) = c == call
-settles call before _ = false
+settles call before (Host r object) = false
+settles call before (Vow r) = false
+settles call before (Fulfil r to) = false
+settles call before (Break r) = false
+settles call before (Make c r interface method) = false
+settles call before (Field r c path) = false
+settles call before (Deliver c object) = false
+settles call before (Wire sent k c rs m) = false
 
 -- a record has passed this test
 abbrev pub has_passed : (Past → DecodedRecord → Bool) → Past → Bool
@@ -105,7 +129,25 @@ knows call before (Wire false k c rs (Return q release (Results payload) light))
 knows call before (Wire false k c rs (Return q release (TakeFrom n) light)) =
     is_some (answerer call before (Wire false k c rs (Return q release (TakeFrom n) light)))
 knows call before (AnswerBy c by) = c == call
-knows call before _ = false
+knows call before (Wire false k c rs (Return q release Exception light)) = false
+knows call before (Wire false k c rs (Return q release Canceled light)) = false
+knows call before (Wire false k c rs (Return q release Elsewhere light)) = false
+knows call before (Wire false k c rs (Bootstrap q)) = false
+knows call before (Wire false k c rs (Call q target interface method params yourself)) = false
+knows call before (Wire false k c rs (Finish q release)) = false
+knows call before (Wire false k c rs (Resolve promise resolution)) = false
+knows call before (Wire false k c rs (Release n count)) = false
+knows call before (Wire false k c rs (Disembargo n loopback target)) = false
+knows call before (Wire false k c rs Abort) = false
+knows call before (Wire true k c rs m) = false
+knows call before (Host r object) = false
+knows call before (Vow r) = false
+knows call before (Fulfil r to) = false
+knows call before (Break r) = false
+knows call before (Make c r interface method) = false
+knows call before (Field r c path) = false
+knows call before (Deliver c object) = false
+knows call before (Fault c) = false
 
 -- a call's results are known
 abbrev pub is_known : ℕ → Past → Bool

@@ -1,4 +1,5 @@
 pub mod Types
+pub mod Decoding
 pub mod Past
 pub mod Questions
 pub mod Lives

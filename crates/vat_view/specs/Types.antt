@@ -18,4 +18,4 @@ pub use Rattle.vat_view.specs.declared.record.decoded.DecodedRecord.TheVariants.
 pub use Rattle.vat_view.specs.declared.view.View.{View}
 pub use Rattle.vat_view.specs.declared.view.View.TheVariants.{Object, Promise, Field as FieldOf, Import}
 pub use Rattle.vat_view.specs.declared.record.table_key.TableKey.{TableKey}
-pub use Rattle.vat_view.specs.declared.asked.Asked.{Asked}
+pub use Rattle.vat_view.specs.declared.request.Request.{Request}

@@ -95,6 +95,12 @@ turn (Import i place) before e = resolves i place before e
 abbrev pub next : Past → View → Next
 next past v = unwrap_or (last_answer (turn v) past) stays
 
+-- the view to which a view turns, by where it goes next
+abbrev pub turned_to : Next → Option View
+turned_to (turns v) = Some v
+turned_to stops = None
+turned_to stays = None
+
 -- (rpc.capnp, Resolve.promiseId and Return: a promise is resolved once, and a question has one Return)
 -- a record turns or stops only views that stay before it: the rules on promises, answers, Returns and Resolves together
 abbrev pub TurnsOnce : Past → DecodedRecord → Type 0

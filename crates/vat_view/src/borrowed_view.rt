@@ -1,10 +1,12 @@
 //! Views that own no memory.
 
-ghost use Rattle.std.specs.Prelude.{◌≡◌, ◌↔◌, IsTrue};
+ghost use Rattle.std.specs.Prelude.{◌≡◌, ◌↔◌, IsTrue, IfOk};
 ghost use Rattle.vat_view.specs.Glue.TurnTables.{field_path};
 ghost use Rattle.vat_view.specs.Borrowed.{as_view};
 
 use crate::view::View;
+use cap_frame::Path;
+use std::alloc::{AllocError, Global};
 
 /// What a reference or a number stands for, as [`View`], with the path of a field lent by what has it: so a walk that
 /// comes to a field at the path of another takes no memory.
@@ -33,6 +35,22 @@ impl<'a> BorrowedView<'a> {
             View::Field(call, path) => BorrowedView::Field(*call, path.as_slice()),
             View::Import(number, place) => BorrowedView::Import(*number, *place),
         }
+    }
+
+    /// The same view, with a path of its own.
+    ///
+    /// # Errors
+    ///
+    /// Out of memory.
+    pub fn to_view(self, alloc: Global) -> Result<View, AllocError>
+        ensures { IfOk result (λ view. view ≡ as_view self.entry) }
+    {
+        Ok(match self {
+            BorrowedView::Object(object) => View::Object(object),
+            BorrowedView::Promise(reference) => View::Promise(reference),
+            BorrowedView::Field(call, path) => { View::Field(call, Path::from_slice(alloc, path)?) }
+            BorrowedView::Import(number, place) => View::Import(number, place),
+        })
     }
 
     /// Whether another view is the same.

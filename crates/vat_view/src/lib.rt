@@ -13,18 +13,17 @@
 #![tactic(auto)]
 
 mod apply;
-mod asked;
 mod borrowed_view;
 mod laws;
 mod lookups;
 mod preconditions;
 mod record;
+mod request;
 mod state;
 mod tables;
 mod view;
 mod walks;
 
-pub use asked::Asked;
 pub use borrowed_view::BorrowedView;
 pub use laws::{
     a_life_is_resolved_once, a_promise_is_kept_once, bound_references_have_views, ends_are_one,
@@ -32,7 +31,9 @@ pub use laws::{
     references_keep_views, turns_go_to_references, turns_only_grow,
 };
 pub use record::decoded::DecodedRecord;
+pub use record::effects::descriptors_of;
 pub use record::number::Number;
 pub use record::table_key::TableKey;
+pub use request::Request;
 pub use state::VatState;
 pub use view::View;

@@ -12,8 +12,8 @@ use Rattle.call_trace.specs.Types.{Descriptor, NoCap, Outcome, Results, Exceptio
 use Rattle.run_model.specs.Has.{call_in_message}
 use Rattle.run_model.specs.Legal.{caps_brought}
 use Rattle.run_model.specs.Steps.{call}
-use Rattle.vat_rules.specs.LogFacts.{Sight, Told}
-use Rattle.vat_rules.specs.Telling.{seen_of}
+use Rattle.vat_rules.specs.LogFacts.{Facts, Told}
+use Rattle.vat_rules.specs.Telling.{facts_of}
 use Rattle.vat_rules.specs.declared.outcome.Outcome.{Outcome as FoundOutcome}
 use Rattle.vat_rules.specs.declared.outcome.Outcome.TheVariants as outcome
 use Rattle.vat_view.specs.Lives.{descriptors_of}
@@ -60,13 +60,13 @@ cap_said names NoCap view = Some cap.Nothing
 cap_said names d view = option_and_then names.cap view
 
 -- the view of these at a place, if one is there
-abbrev pub seen_at : List (Option View) → ℕ → Option View
-seen_at views i = option_and_then (λ view. view) (slice_get views i)
+abbrev pub view_at : List (Option View) → ℕ → Option View
+view_at views i = option_and_then (λ view. view) (slice_get views i)
 
 -- the caps for which descriptors stand that have the views of these from a place on
 abbrev pub caps_from : Naming → List (Option View) → ℕ → List Descriptor → List (Option Cap)
 caps_from names views place [] = []
-caps_from names views place (d ∷ ds) = cap_said names d (seen_at views place) ∷ caps_from names views (place + 1) ds
+caps_from names views place (d ∷ ds) = cap_said names d (view_at views place) ∷ caps_from names views (place + 1) ds
 
 -- all of them
 abbrev pub caps_said : Naming → List (Option View) → List Descriptor → Option (List Cap)
@@ -90,34 +90,34 @@ abbrev pub resolve_said : Option Cap → Option (List Cap) → Option Message
 resolve_said promise caps = option_and_then (λ promise. option_map (say_resolve promise) caps) promise
 
 -- a Return that is sent, by what its numbers stand for, its descriptors for these caps
-abbrev pub return_said : (ℕ → Option Name) → Sight → Option (List Cap) → Outcome → Option Message
-return_said call seen caps (Results payload) = option_and_then (λ name. say_return seen.late payload.fields name caps) (answered_in call seen.question)
-return_said call seen caps Exception = option_map message.Failed (answered_in call seen.question)
-return_said call seen caps Canceled = option_map message.Failed (answered_in call seen.question)
-return_said call seen caps Elsewhere = option_map message.Elsewhere (answered_in call seen.question)
-return_said call seen caps (TakeFrom n) = option_and_then (λ name. say_taken seen.late name (answered_in call seen.taken)) (answered_in call seen.question)
+abbrev pub return_said : (ℕ → Option Name) → Facts → Option (List Cap) → Outcome → Option Message
+return_said call facts caps (Results payload) = option_and_then (λ name. say_return facts.late payload.fields name caps) (answered_in call facts.question)
+return_said call facts caps Exception = option_map message.Failed (answered_in call facts.question)
+return_said call facts caps Canceled = option_map message.Failed (answered_in call facts.question)
+return_said call facts caps Elsewhere = option_map message.Elsewhere (answered_in call facts.question)
+return_said call facts caps (TakeFrom n) = option_and_then (λ name. say_taken facts.late name (answered_in call facts.taken)) (answered_in call facts.question)
 
 -- the message that a record sends, by what its numbers stand for, its descriptors for these caps
-abbrev pub message_said : Naming → Sight → ℕ → Option (List Cap) → RpcMessage → Option Message
-message_said names seen c caps (Bootstrap q) = option_map message.Boot (names.call c)
-message_said names seen c caps (Call q target interface method params yourself) =
-    say_call interface method caps (names.call c) (option_and_then names.cap seen.target)
-message_said names seen c caps (Return q release came light) = return_said names.call seen caps came
-message_said names seen c caps (Resolve n resolution) = resolve_said (option_and_then names.cap seen.promise) caps
-message_said names seen c caps (Finish q release) = Some (message.Plain plain.Finish)
-message_said names seen c caps (Release n count) = Some (message.Plain plain.Release)
-message_said names seen c caps (Disembargo n loopback target) = Some (message.Plain plain.Disembargo)
-message_said names seen c caps Abort = Some (message.Plain plain.Abort)
+abbrev pub message_said : Naming → Facts → ℕ → Option (List Cap) → RpcMessage → Option Message
+message_said names facts c caps (Bootstrap q) = option_map message.Boot (names.call c)
+message_said names facts c caps (Call q target interface method params yourself) =
+    say_call interface method caps (names.call c) (option_and_then names.cap facts.target)
+message_said names facts c caps (Return q release came light) = return_said names.call facts caps came
+message_said names facts c caps (Resolve n resolution) = resolve_said (option_and_then names.cap facts.promise) caps
+message_said names facts c caps (Finish q release) = Some (message.Plain plain.Finish)
+message_said names facts c caps (Release n count) = Some (message.Plain plain.Release)
+message_said names facts c caps (Disembargo n loopback target) = Some (message.Plain plain.Disembargo)
+message_said names facts c caps Abort = Some (message.Plain plain.Abort)
 
 -- the same, with what its descriptors stand for looked up
-abbrev pub sent_said : Naming → Sight → ℕ → RpcMessage → Option Message
-sent_said names seen c m = message_said names seen c (caps_said names seen.caps (descriptors_of m)) m
+abbrev pub sent_said : Naming → Facts → ℕ → RpcMessage → Option Message
+sent_said names facts c m = message_said names facts c (caps_said names facts.caps (descriptors_of m)) m
 
 -- the results of a call, by what the references from a place on stand for
 abbrev pub results_from : Naming → List (Option View) → ℕ → List (ℕ × List ℕ) → List (Option (List ℕ × Cap))
 results_from names views place [] = []
 results_from names views place (result ∷ rest) =
-    option_map (λ c. (result.1, c)) (option_and_then names.cap (seen_at views place)) ∷ results_from names views (place + 1) rest
+    option_map (λ c. (result.1, c)) (option_and_then names.cap (view_at views place)) ∷ results_from names views (place + 1) rest
 
 -- all of them
 abbrev pub results_said : Naming → List (Option View) → List (ℕ × List ℕ) → Option (List (List ℕ × Cap))
@@ -128,9 +128,9 @@ abbrev pub named_said : Naming → List (Option View) → Option (List Cap)
 named_said names views = all_there (map (option_and_then names.cap) views)
 
 -- the step that keeps a promise, by what both references stand for
-abbrev pub fulfil_said : Naming → Sight → Option Step
-fulfil_said names seen =
-    option_and_then (λ p. option_map (λ c. step.Fulfil names.vat p c) (option_and_then names.cap (seen_at seen.references 1))) (promise_in (seen_at seen.references 0))
+abbrev pub fulfil_said : Naming → Facts → Option Step
+fulfil_said names facts =
+    option_and_then (λ p. option_map (λ c. step.Fulfil names.vat p c) (option_and_then names.cap (view_at facts.references 1))) (promise_in (view_at facts.references 0))
 
 -- the step of a record that names a call and no other cap
 abbrev pub of_call_said : ℕ → (ℕ → Option Name) → DecodedRecord → Option Step
@@ -144,38 +144,38 @@ abbrev pub answer_by_said : ℕ → (ℕ → Option Name) → ℕ → ℕ → Op
 answer_by_said v call c by = option_and_then (λ name. option_map (λ by. step.AnswerBy v name by) (call by)) (call c)
 
 -- the step that makes a call
-abbrev pub make_said : Naming → Sight → DecodedRecord → Option Step
-make_said names seen (Make c r interface method) =
-    option_map (λ to. step.Make names.vat c to r interface method) (option_and_then names.cap (seen_at seen.references 0))
-make_said names seen _ = None
+abbrev pub make_said : Naming → Facts → DecodedRecord → Option Step
+make_said names facts (Make c r interface method) =
+    option_map (λ to. step.Make names.vat c to r interface method) (option_and_then names.cap (view_at facts.references 0))
+make_said names facts _ = None
 
 -- the step that sends a message
-abbrev pub send_said : Naming → Sight → ℕ → ℕ → RpcMessage → Option Step
-send_said names seen k c m = option_map (λ sent_message. step.Send names.vat k sent_message) (sent_said names seen c m)
+abbrev pub send_said : Naming → Facts → ℕ → ℕ → RpcMessage → Option Step
+send_said names facts k c m = option_map (λ sent_message. step.Send names.vat k sent_message) (sent_said names facts c m)
 
 -- the step that answers a call with results
-abbrev pub answer_said : Naming → Sight → ℕ → List (ℕ × List ℕ) → Option Step
-answer_said names seen c results =
-    option_and_then (λ name. option_map (λ caps. step.Answer names.vat name caps) (results_said names seen.references results)) (names.call c)
+abbrev pub answer_said : Naming → Facts → ℕ → List (ℕ × List ℕ) → Option Step
+answer_said names facts c results =
+    option_and_then (λ name. option_map (λ caps. step.Answer names.vat name caps) (results_said names facts.references results)) (names.call c)
 
 -- the step of another record of what the vat makes by itself
-abbrev pub own_said : Naming → Sight → DecodedRecord → Option Step
-own_said names seen (Host r object) = Some (step.Host names.vat object)
-own_said names seen (Vow r) = Some (step.Vow names.vat r)
-own_said names seen (Fulfil r to) = fulfil_said names seen
-own_said names seen (Break r) = option_map (λ p. step.Break names.vat p) (promise_in (seen_at seen.references 0))
-own_said names seen (Make c r interface method) = make_said names seen (Make c r interface method)
-own_said names seen (Answer c results) = answer_said names seen c results
-own_said names seen _ = None
+abbrev pub own_said : Naming → Facts → DecodedRecord → Option Step
+own_said names facts (Host r object) = Some (step.Host names.vat object)
+own_said names facts (Vow r) = Some (step.Vow names.vat r)
+own_said names facts (Fulfil r to) = fulfil_said names facts
+own_said names facts (Break r) = option_map (λ p. step.Break names.vat p) (promise_in (view_at facts.references 0))
+own_said names facts (Make c r interface method) = make_said names facts (Make c r interface method)
+own_said names facts (Answer c results) = answer_said names facts c results
+own_said names facts _ = None
 
 -- the step that a record says, by what its numbers stand for
-abbrev pub step_by : Naming → Sight → DecodedRecord → Option Step
-step_by names seen (Field r c path) = of_call_said names.vat names.call (Field r c path)
-step_by names seen (Deliver c object) = of_call_said names.vat names.call (Deliver c object)
-step_by names seen (AnswerBy c by) = answer_by_said names.vat names.call c by
-step_by names seen (Fault c) = of_call_said names.vat names.call (Fault c)
-step_by names seen (Wire sent k c references m) = send_said names seen k c m
-step_by names seen e = own_said names seen e
+abbrev pub step_by : Naming → Facts → DecodedRecord → Option Step
+step_by names facts (Field r c path) = of_call_said names.vat names.call (Field r c path)
+step_by names facts (Deliver c object) = of_call_said names.vat names.call (Deliver c object)
+step_by names facts (AnswerBy c by) = answer_by_said names.vat names.call c by
+step_by names facts (Fault c) = of_call_said names.vat names.call (Fault c)
+step_by names facts (Wire sent k c references m) = send_said names facts k c m
+step_by names facts e = own_said names facts e
 
 -- these steps, and behind them this one, if it is there
 abbrev pub pushed : Option Step → List Step → List Step
@@ -214,15 +214,15 @@ pub record IsKept (v : ℕ) (es : Past) (own run : List Step) (ledger : VatLedge
   pub numbers : map (slice_get run) ledger.numbers.items ≡ map Some (reverse own)
   pub calls : (c : ℕ) → call_name_in ledger c ≡ call_named v es own c
 
--- a record comes that has a step: what is kept of its vat is that of records and their steps, after which this was seen of
--- it and it has one
-pub record HasStep (step : ℕ → Past → List Step → List Step → Option Step) (e : DecodedRecord) (seen : Sight) (run : List Step) (ledger : VatLedger) : Type 0 where
+-- a record comes that has a step: what is kept of its vat is that of records and their steps, after which these are its
+-- facts and it has one
+pub record HasStep (step : ℕ → Past → List Step → List Step → Option Step) (e : DecodedRecord) (facts : Facts) (run : List Step) (ledger : VatLedger) : Type 0 where
   pub vat : ℕ
   pub past : Past
   pub own : List Step
   pub before : List Step
   pub kept : IsKept vat past own run ledger
-  pub sight : seen ≡ seen_of past e
+  pub known : facts ≡ facts_of past e
   pub there : IsSome (step vat past own before)
 
 -- a record took this step: it stands behind those before, and what is kept of its vat goes on by it

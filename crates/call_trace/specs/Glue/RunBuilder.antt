@@ -9,8 +9,8 @@ use Rattle.call_trace.specs.Types.{DecodedRecord, Step}
 use Rattle.call_trace.specs.declared.records.vat_ledger.VatLedger.{VatLedger}
 use Rattle.call_trace.specs.declared.steps.run_builder.RunBuilder.{RunBuilder}
 use Rattle.run_model.specs.Steps.{vat_of}
-use Rattle.vat_rules.specs.LogFacts.{Sight}
-use Rattle.vat_rules.specs.Telling.{seen_of}
+use Rattle.vat_rules.specs.LogFacts.{Facts}
+use Rattle.vat_rules.specs.Telling.{facts_of}
 
 -- what is kept of a vat is that of its records of a row, and of their steps
 abbrev pub IsKeptAt : ℕ → Row → List Step → VatLedger → Type 0
@@ -21,19 +21,19 @@ pub record IsTrail (before : List Step) (trail : RunBuilder) : Type 0 where
   pub steps : trail.steps.items ≡ reverse before
   pub lines : AreLines before trail.lines
 
--- a record of a vat comes after those of a row, which took these steps, and this is seen of it
-pub record IsNextIn (v : ℕ) (row : Row) (before : List Step) (e : DecodedRecord) (seen : Sight) (builder : RunBuilder) (ledger : VatLedger) : Type 0 where
+-- a record of a vat comes after those of a row, which took these steps, and these are its facts
+pub record IsNextIn (v : ℕ) (row : Row) (before : List Step) (e : DecodedRecord) (facts : Facts) (builder : RunBuilder) (ledger : VatLedger) : Type 0 where
   pub so_far : steps_of_row row ≡ Some before
   pub trail : IsTrail before builder
   pub kept : IsKeptAt v row before ledger
-  pub sight : seen ≡ seen_of (log_of_vat v row) e
+  pub known : facts ≡ facts_of (log_of_vat v row) e
 
 -- it comes after such a row, and has a step
-pub record ComesNext (e : DecodedRecord) (seen : Sight) (builder : RunBuilder) (ledger : VatLedger) : Type 0 where
+pub record ComesNext (e : DecodedRecord) (facts : Facts) (builder : RunBuilder) (ledger : VatLedger) : Type 0 where
   pub vat : ℕ
   pub row : Row
   pub before : List Step
-  pub next : IsNextIn vat row before e seen builder ledger
+  pub next : IsNextIn vat row before e facts builder ledger
   pub goes_on : IsSome (steps_of_row ((vat, e) ∷ row))
 
 -- a record of a vat came after those of a row, and took its step

@@ -3,9 +3,9 @@
 ghost use Rattle.std.specs.Prelude.{◌≡◌, Option, OnOk};
 ghost use Rattle.std.specs.Option.{option_copied};
 ghost use Rattle.call_trace.specs.Part.{promise_in};
-ghost use Rattle.call_trace.specs.Glue.Ledgers.{names_in, call_name_in, seen_at, sent_said, results_said, fulfil_said, answer_by_said, of_call_said, make_said, answer_said, send_said, own_said, step_by, pushed};
+ghost use Rattle.call_trace.specs.Glue.Ledgers.{names_in, call_name_in, view_at, sent_said, results_said, fulfil_said, answer_by_said, of_call_said, make_said, answer_said, send_said, own_said, step_by, pushed};
 
-use crate::records::saying::{results_said, seen_at, sent_said};
+use crate::records::saying::{results_said, sent_said, view_at};
 use crate::records::vat_ledger::VatLedger;
 use cap_frame::Path;
 use rpc_view::RpcMessage;
@@ -28,14 +28,14 @@ fn promise_in(view: Option<&View>) -> Option<u64>
 fn push_fulfil(
     ledger: &VatLedger,
     steps: &mut Vec<Step>,
-    seen: &RecordFacts,
+    facts: &RecordFacts,
 ) -> Result<(), AllocError>
     ensures { OnOk result (steps.new.items
-        ≡ pushed (fulfil_said (names_in steps.old.items ledger.now) seen.now) steps.old.items) }
+        ≡ pushed (fulfil_said (names_in steps.old.items ledger.now) facts.now) steps.old.items) }
 {
     let vat = ledger.vat;
-    let promise = promise_in(seen_at(seen.references(), 0));
-    let to = ledger.name_of_view(steps, seen_at(seen.references(), 1))?;
+    let promise = promise_in(view_at(facts.references(), 0));
+    let to = ledger.name_of_view(steps, view_at(facts.references(), 1))?;
     if let (Some(promise), Some(to)) = (promise, to) {
         steps.push(Step::Fulfil { vat, promise, to })?;
     }
@@ -90,11 +90,11 @@ fn answer_by_said(ledger: &VatLedger, call: u64, by: u64) -> Option<Step>
 fn push_make(
     ledger: &VatLedger,
     steps: &mut Vec<Step>,
-    seen: &RecordFacts,
+    facts: &RecordFacts,
     event: &DecodedRecord,
 ) -> Result<(), AllocError>
     ensures { OnOk result (steps.new.items
-        ≡ pushed (make_said (names_in steps.old.items ledger.now) seen.now event.now) steps.old.items) }
+        ≡ pushed (make_said (names_in steps.old.items ledger.now) facts.now event.now) steps.old.items) }
 {
     let DecodedRecord::Make {
         call,
@@ -105,7 +105,7 @@ fn push_make(
     else {
         return Ok(());
     };
-    if let Some(cap) = ledger.name_of_view(steps, seen_at(seen.references(), 0))? {
+    if let Some(cap) = ledger.name_of_view(steps, view_at(facts.references(), 0))? {
         steps.push(Step::Make {
             vat: ledger.vat,
             number: *call,
@@ -123,15 +123,15 @@ fn push_answer(
     alloc: Global,
     ledger: &VatLedger,
     steps: &mut Vec<Step>,
-    seen: &RecordFacts,
+    facts: &RecordFacts,
     call: u64,
     results: &[(u64, Path)],
 ) -> Result<(), AllocError>
     ensures { OnOk result (steps.new.items
-        ≡ pushed (answer_said (names_in steps.old.items ledger.now) seen.now call results.now)
+        ≡ pushed (answer_said (names_in steps.old.items ledger.now) facts.now call results.now)
         steps.old.items) }
 {
-    let said = results_said(alloc, ledger, steps, seen, results)?;
+    let said = results_said(alloc, ledger, steps, facts, results)?;
     if let (Some(call), Some(results)) = (ledger.call(call), said) {
         let vat = ledger.vat;
         steps.push(Step::Answer { vat, call, results })?;
@@ -145,16 +145,16 @@ fn push_sent(
     alloc: Global,
     ledger: &VatLedger,
     steps: &mut Vec<Step>,
-    seen: &RecordFacts,
+    facts: &RecordFacts,
     noted: (u32, u64),
     message: &RpcMessage,
 ) -> Result<(), AllocError>
     ensures { OnOk result (steps.new.items
-        ≡ pushed (send_said (names_in steps.old.items ledger.now) seen.now noted.0 noted.1 message.now)
+        ≡ pushed (send_said (names_in steps.old.items ledger.now) facts.now noted.0 noted.1 message.now)
         steps.old.items) }
 {
     let (connection, call) = noted;
-    if let Some(message) = sent_said(alloc, ledger, steps, seen, call, message)? {
+    if let Some(message) = sent_said(alloc, ledger, steps, facts, call, message)? {
         let vat = ledger.vat;
         steps.push(Step::Send {
             vat,
@@ -170,11 +170,11 @@ fn push_own(
     alloc: Global,
     ledger: &VatLedger,
     steps: &mut Vec<Step>,
-    seen: &RecordFacts,
+    facts: &RecordFacts,
     event: &DecodedRecord,
 ) -> Result<(), AllocError>
     ensures { OnOk result (steps.new.items
-        ≡ pushed (own_said (names_in steps.old.items ledger.now) seen.now event.now) steps.old.items) }
+        ≡ pushed (own_said (names_in steps.old.items ledger.now) facts.now event.now) steps.old.items) }
 {
     let vat = ledger.vat;
     match event {
@@ -186,15 +186,15 @@ fn push_own(
             let promise = *reference;
             steps.push(Step::Vow { vat, promise })?;
         }
-        DecodedRecord::Fulfil { .. } => push_fulfil(ledger, steps, seen)?,
+        DecodedRecord::Fulfil { .. } => push_fulfil(ledger, steps, facts)?,
         DecodedRecord::Break { .. } => {
-            if let Some(promise) = promise_in(seen_at(seen.references(), 0)) {
+            if let Some(promise) = promise_in(view_at(facts.references(), 0)) {
                 steps.push(Step::Break { vat, promise })?;
             }
         }
-        DecodedRecord::Make { .. } => push_make(ledger, steps, seen, event)?,
+        DecodedRecord::Make { .. } => push_make(ledger, steps, facts, event)?,
         DecodedRecord::Answer { call, results } => {
-            push_answer(alloc, ledger, steps, seen, *call, results.as_slice())?;
+            push_answer(alloc, ledger, steps, facts, *call, results.as_slice())?;
         }
         _ => {}
     }
@@ -206,11 +206,11 @@ pub(crate) fn push_said(
     alloc: Global,
     ledger: &VatLedger,
     steps: &mut Vec<Step>,
-    seen: &RecordFacts,
+    facts: &RecordFacts,
     event: &DecodedRecord,
 ) -> Result<(), AllocError>
     ensures { OnOk result (steps.new.items
-        ≡ pushed (step_by (names_in steps.old.items ledger.now) seen.now event.now) steps.old.items) }
+        ≡ pushed (step_by (names_in steps.old.items ledger.now) facts.now event.now) steps.old.items) }
 {
     match event {
         DecodedRecord::Wire {
@@ -218,7 +218,7 @@ pub(crate) fn push_said(
             call,
             message,
             ..
-        } => push_sent(alloc, ledger, steps, seen, (*connection, *call), message)?,
+        } => push_sent(alloc, ledger, steps, facts, (*connection, *call), message)?,
         DecodedRecord::Field { .. } | DecodedRecord::Deliver { .. } | DecodedRecord::Fault { .. } =>
             { push_of_call(ledger, steps, event)? }
         DecodedRecord::AnswerBy { call, by } => {
@@ -226,7 +226,7 @@ pub(crate) fn push_said(
                 steps.push(step)?;
             }
         }
-        _ => push_own(alloc, ledger, steps, seen, event)?,
+        _ => push_own(alloc, ledger, steps, facts, event)?,
     }
     Ok(())
 }

@@ -1,24 +1,23 @@
-//! What the messages that a vat sends say, and what stands at references and paths: by what is kept of the vat, and by what
-//! was seen of each record.
+//! What the messages that a vat sends say, and what stands at references and paths: by what is kept of the vat, and by the
+//! facts of each record.
 
 ghost use Rattle.std.specs.Prelude.{◌≡◌, Option, IfOk, option_map};
 ghost use Rattle.std.specs.Option.{option_copied};
 ghost use Rattle.call_trace.specs.Naming.{cap_at};
 ghost use Rattle.call_trace.specs.Said.{caps_at_paths, say_call, say_return, say_taken, say_resolve};
-ghost use Rattle.call_trace.specs.Glue.Ledgers.{names_in, view_in, call_name_in, cap_said, caps_said, call_of_question, seen_at, answered_in, resolve_said, return_said, message_said, sent_said, results_said, named_said};
-ghost use Rattle.vat_view.specs.Lives.{descriptors_of};
+ghost use Rattle.call_trace.specs.Glue.Ledgers.{names_in, view_in, call_name_in, cap_said, caps_said, call_of_question, view_at, answered_in, resolve_said, return_said, message_said, sent_said, results_said, named_said};
 
 use crate::records::vat_ledger::VatLedger;
 use cap_frame::Path;
-use rpc_view::{Descriptor, Outcome, Payload, Resolution, RpcMessage};
+use rpc_view::{Descriptor, Outcome, Payload, RpcMessage};
 use run_model::{Cap, Caps, Message, Name, Plain, Results, Step};
 use std::alloc::{AllocError, Global};
 use vat_rules::RecordFacts;
-use vat_view::View;
+use vat_view::{View, descriptors_of};
 
 /// The view of these at a place, if one is there.
-pub(crate) fn seen_at(views: &[Option<View>], place: usize) -> Option<&View>
-    ensures { option_copied result ≡ seen_at views.now place }
+pub(crate) fn view_at(views: &[Option<View>], place: usize) -> Option<&View>
+    ensures { option_copied result ≡ view_at views.now place }
 {
     views.get(place)?.as_ref()
 }
@@ -53,7 +52,7 @@ fn caps_said(
 {
     let mut caps = Vec::with_capacity(alloc, descriptors.len())?;
     for descriptor in descriptors {
-        let view = seen_at(views, caps.len());
+        let view = view_at(views, caps.len());
         match cap_said(ledger, steps, descriptor, view)? {
             Some(cap) => caps.push(cap)?,
             None => return Ok(None),
@@ -87,7 +86,7 @@ fn caps_at_paths(alloc: Global, caps: &[Cap], fields: &[(Path, u32)]) -> Result<
 }
 
 /// The call that a question stands for, by its view.
-fn call_seen(view: Option<&View>) -> Option<u64>
+fn call_of_view(view: Option<&View>) -> Option<u64>
     ensures { result ≡ call_of_question (option_copied view.entry) }
 {
     match view {
@@ -141,45 +140,27 @@ fn say_resolve(promise: Cap, caps: &Caps) -> Result<Message, AllocError>
     }
 }
 
-/// The descriptors of a message.
-fn descriptors_of(message: &RpcMessage) -> &[Descriptor]
-    ensures { result.now ≡ descriptors_of message.now }
-{
-    match message {
-        RpcMessage::Call { params, .. } => params.descriptors.as_slice(),
-        RpcMessage::Return {
-            outcome: Outcome::Results(payload),
-            ..
-        } => payload.descriptors.as_slice(),
-        RpcMessage::Resolve {
-            resolution: Resolution::Cap(descriptor),
-            ..
-        } => std::slice::from_ref(descriptor),
-        _ => &[],
-    }
-}
-
 /// The name of the call that a question stands for, by its view.
 fn call_answered(ledger: &VatLedger, view: Option<&View>) -> Option<Name>
     ensures { result ≡ answered_in (call_name_in ledger.now) (option_copied view.entry) }
 {
-    ledger.call(call_seen(view)?)
+    ledger.call(call_of_view(view)?)
 }
 
 /// A Call that is sent, where all that it names has a name.
 fn call_said(
     ledger: &VatLedger,
     steps: &[Step],
-    seen: &RecordFacts,
+    facts: &RecordFacts,
     call: u64,
     asked: (u64, u16),
     caps: Option<Caps>,
 ) -> Result<Option<Message>, AllocError>
     ensures { IfOk result
         (λ sent. sent ≡ say_call asked.0 asked.1 caps (call_name_in ledger.now call)
-        (view_in steps.now ledger.now seen.now.target)) }
+        (view_in steps.now ledger.now facts.now.target)) }
 {
-    let target = ledger.name_of_view(steps, seen.target())?;
+    let target = ledger.name_of_view(steps, facts.target())?;
     match (caps, ledger.call(call), target) {
         (Some(caps), Some(call), Some(target)) => {
             let (interface, method) = asked;
@@ -199,13 +180,13 @@ fn call_said(
 fn resolve_said(
     ledger: &VatLedger,
     steps: &[Step],
-    seen: &RecordFacts,
+    facts: &RecordFacts,
     caps: Option<Caps>,
 ) -> Result<Option<Message>, AllocError>
     ensures { IfOk result
-        (λ sent. sent ≡ resolve_said (view_in steps.now ledger.now seen.now.promise) caps) }
+        (λ sent. sent ≡ resolve_said (view_in steps.now ledger.now facts.now.promise) caps) }
 {
-    let promise = ledger.name_of_view(steps, seen.promise())?;
+    let promise = ledger.name_of_view(steps, facts.promise())?;
     match (promise, caps) {
         (Some(promise), Some(caps)) => Ok(Some(say_resolve(promise, &caps)?)),
         _ => Ok(None),
@@ -216,23 +197,23 @@ fn resolve_said(
 fn return_said(
     alloc: Global,
     ledger: &VatLedger,
-    seen: &RecordFacts,
+    facts: &RecordFacts,
     caps: Option<Caps>,
     outcome: &Outcome,
 ) -> Result<Option<Message>, AllocError>
     ensures { IfOk result
-        (λ sent. sent ≡ return_said (call_name_in ledger.now) seen.now caps outcome.now) }
+        (λ sent. sent ≡ return_said (call_name_in ledger.now) facts.now caps outcome.now) }
 {
-    let Some(call) = call_answered(ledger, seen.question()) else {
+    let Some(call) = call_answered(ledger, facts.question()) else {
         return Ok(None);
     };
     match outcome {
-        Outcome::Results(payload) => say_results(alloc, seen.is_late(), payload, call, caps),
+        Outcome::Results(payload) => say_results(alloc, facts.is_late(), payload, call, caps),
         Outcome::Exception | Outcome::Canceled => Ok(Some(Message::Failed(call))),
         Outcome::Elsewhere => Ok(Some(Message::Elsewhere(call))),
         Outcome::TakeFrom(_) => {
-            let by = call_answered(ledger, seen.taken());
-            Ok(say_taken(seen.is_late(), call, by))
+            let by = call_answered(ledger, facts.taken());
+            Ok(say_taken(facts.is_late(), call, by))
         }
     }
 }
@@ -243,14 +224,14 @@ fn message_said(
     alloc: Global,
     ledger: &VatLedger,
     steps: &[Step],
-    seen: &RecordFacts,
+    facts: &RecordFacts,
     call: u64,
     caps: Option<Caps>,
     message: &RpcMessage,
 ) -> Result<Option<Message>, AllocError>
     ensures { IfOk result
         (λ sent. sent ≡ message_said
-        (names_in steps.now ledger.now) seen.now call caps message.now) }
+        (names_in steps.now ledger.now) facts.now call caps message.now) }
 {
     match message {
         RpcMessage::Bootstrap { .. } => Ok(ledger.call(call).map(|name| Message::Boot(name))),
@@ -258,9 +239,9 @@ fn message_said(
             interface,
             method,
             ..
-        } => call_said(ledger, steps, seen, call, (*interface, *method), caps),
-        RpcMessage::Return { outcome, .. } => return_said(alloc, ledger, seen, caps, outcome),
-        RpcMessage::Resolve { .. } => resolve_said(ledger, steps, seen, caps),
+        } => call_said(ledger, steps, facts, call, (*interface, *method), caps),
+        RpcMessage::Return { outcome, .. } => return_said(alloc, ledger, facts, caps, outcome),
+        RpcMessage::Resolve { .. } => resolve_said(ledger, steps, facts, caps),
         RpcMessage::Finish { .. } => Ok(Some(Message::Plain(Plain::Finish))),
         RpcMessage::Release { .. } => Ok(Some(Message::Plain(Plain::Release))),
         RpcMessage::Disembargo { .. } => Ok(Some(Message::Plain(Plain::Disembargo))),
@@ -273,15 +254,15 @@ pub(crate) fn sent_said(
     alloc: Global,
     ledger: &VatLedger,
     steps: &[Step],
-    seen: &RecordFacts,
+    facts: &RecordFacts,
     call: u64,
     message: &RpcMessage,
 ) -> Result<Option<Message>, AllocError>
     ensures { IfOk result
-        (λ sent. sent ≡ sent_said (names_in steps.now ledger.now) seen.now call message.now) }
+        (λ sent. sent ≡ sent_said (names_in steps.now ledger.now) facts.now call message.now) }
 {
-    let caps = caps_said(alloc, ledger, steps, descriptors_of(message), seen.caps())?;
-    message_said(alloc, ledger, steps, seen, call, caps, message)
+    let caps = caps_said(alloc, ledger, steps, descriptors_of(message), facts.caps())?;
+    message_said(alloc, ledger, steps, facts, call, caps, message)
 }
 
 /// The results of a call, where each has a name.
@@ -289,16 +270,16 @@ pub(crate) fn results_said(
     alloc: Global,
     ledger: &VatLedger,
     steps: &[Step],
-    seen: &RecordFacts,
+    facts: &RecordFacts,
     results: &[(u64, Path)],
 ) -> Result<Option<Results>, AllocError>
     ensures { IfOk result
         (λ said. said ≡ results_said
-        (names_in steps.now ledger.now) seen.now.references results.now) }
+        (names_in steps.now ledger.now) facts.now.references results.now) }
 {
     let mut said = Vec::with_capacity(alloc, results.len())?;
     for (_, path) in results {
-        let view = seen_at(seen.references(), said.len());
+        let view = view_at(facts.references(), said.len());
         match ledger.name_of_view(steps, view)? {
             Some(cap) => said.push((path.copy()?, cap))?,
             None => return Ok(None),

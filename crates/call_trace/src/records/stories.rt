@@ -7,7 +7,7 @@ ghost use Rattle.call_trace.specs.Named.{past_before};
 ghost use Rattle.call_trace.specs.Taking.{record_in};
 ghost use Rattle.call_trace.specs.Glue.Ledgers.{story_in};
 ghost use Rattle.vat_rules.specs.Audit.{IsTrueOf};
-ghost use Rattle.vat_rules.specs.Telling.{seen_of};
+ghost use Rattle.vat_rules.specs.Telling.{facts_of};
 
 use vat_rules::{Outcome, RecordFacts, Story, VatFinding};
 use vat_view::DecodedRecord;
@@ -30,11 +30,11 @@ fn event_of(events: &[DecodedRecord], number: usize) -> Option<&DecodedRecord>
     events.get(number)
 }
 
-/// What was seen of the record of this number, of these.
-fn seen_of(seen: &[RecordFacts], number: usize) -> Option<&RecordFacts>
-    ensures { option_copied result ≡ slice_get seen.now number }
+/// The facts of the record of this number, among these.
+fn nth_facts(facts: &[RecordFacts], number: usize) -> Option<&RecordFacts>
+    ensures { option_copied result ≡ slice_get facts.now number }
 {
-    seen.get(number)
+    facts.get(number)
 }
 
 /// The record of this number of a good finding's log.
@@ -46,10 +46,10 @@ pub(crate) fn event_at(finding: &VatFinding, number: usize) -> Option<&DecodedRe
 }
 
 /// What the numbers of the record of this number stand for.
-pub(crate) fn seen_at(finding: &VatFinding, number: usize) -> Option<&RecordFacts>
+pub(crate) fn facts_at(finding: &VatFinding, number: usize) -> Option<&RecordFacts>
     requires { is_good finding.now.outcome ≡ true }
-    ensures { option_copied result ≡ option_map (λ e. seen_of (past_before finding.now number) e)
+    ensures { option_copied result ≡ option_map (λ e. facts_of (past_before finding.now number) e)
         (record_in finding.now number) }
 {
-    seen_of(story(finding)?.seen(), number)
+    nth_facts(story(finding)?.facts(), number)
 }

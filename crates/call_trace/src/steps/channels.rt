@@ -2,7 +2,7 @@
 //!
 //! A send is looked at twice for each vat that uses its connection, so a step takes a look-up or two, however long the run.
 
-ghost use Rattle.std.specs.Prelude.{◌≡◌, ◌==◌, ◌&&◌, ◌≤◌, ◌<◌, ◌∷◌, ◌++◌, ◌≢◌, ℕ, List, [], Some, length, take, get_or, option_and_then, if◌then◌else◌, IfOk, OnOk, OnErr};
+ghost use Rattle.std.specs.Prelude.{◌≡◌, ◌==◌, ◌&&◌, ◌<◌, ◌∷◌, ◌++◌, ◌≢◌, ℕ, List, [], Some, length, take, get_or, option_and_then, if◌then◌else◌, IfOk, OnOk, OnErr};
 ghost use Rattle.call_trace.specs.Glue.Channels.{sends_on, passed_on, by_others, message_by, AreLines};
 ghost use Rattle.call_trace.specs.Running.{coming_next};
 ghost use Rattle.call_trace.specs.Types.{Message, Cap, Step};

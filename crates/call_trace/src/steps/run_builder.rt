@@ -1,10 +1,8 @@
 //! The steps that the records of all vats took so far, and what they sent.
 
 ghost use Rattle.std.specs.Prelude.{◌≡◌, [], List, ℕ, true, IfOk, OnOk, option_and_then, slice_get};
-ghost use Rattle.std.specs.Option.{option_copied};
 ghost use Rattle.agree.specs.Rows.{Row};
 ghost use Rattle.call_trace.specs.Naming.{message_of_step};
-ghost use Rattle.call_trace.specs.Running.{coming_next};
 ghost use Rattle.call_trace.specs.Glue.RunBuilder.{IsTrail, IsNextIn, ComesNext, Comes};
 ghost use Rattle.call_trace.specs.Types.{Step as Steps};
 ghost use Rattle.vat_rules.specs.OfCaps.{is_received};
@@ -55,13 +53,13 @@ impl RunBuilder {
         alloc: Global,
         ledger: &mut VatLedger,
         event: &DecodedRecord,
-        seen: &RecordFacts,
+        facts: &RecordFacts,
     ) -> Result<(), AllocError>
         requires received { is_received event.now ≡ true }
-        requires goes_on { ComesNext event.now seen.now self.old ledger.old }
+        requires goes_on { ComesNext event.now facts.now self.old ledger.old }
         ensures { OnOk result
             ((v : ℕ) (row : Row) (before : List Steps)
-            → IsNextIn v row before event.now seen.now self.old ledger.old
+            → IsNextIn v row before event.now facts.now self.old ledger.old
             → Comes v event.now row before self.new ledger.new) }
     {
         let DecodedRecord::Wire { connection, .. } = event else {
@@ -73,7 +71,7 @@ impl RunBuilder {
         let Some(message) = message_at(&self.steps, number)? else {
             unreachable!()
         };
-        take_received(alloc, &mut self.steps, ledger, event, seen, message)
+        take_received(alloc, &mut self.steps, ledger, event, facts, message)
     }
 
     /// A record takes its step.
@@ -82,22 +80,24 @@ impl RunBuilder {
         alloc: Global,
         ledger: &mut VatLedger,
         event: &DecodedRecord,
-        seen: &RecordFacts,
+        facts: &RecordFacts,
     ) -> Result<(), AllocError>
-        requires { ComesNext event.now seen.now self.old ledger.old }
+        requires { ComesNext event.now facts.now self.old ledger.old }
         ensures { OnOk result
             ((v : ℕ) (row : Row) (before : List Steps)
-            → IsNextIn v row before event.now seen.now self.old ledger.old
+            → IsNextIn v row before event.now facts.now self.old ledger.old
             → Comes v event.now row before self.new ledger.new) }
     {
         match event {
-            DecodedRecord::Wire { sent: false, .. } => self.take_coming(alloc, ledger, event, seen),
+            DecodedRecord::Wire { sent: false, .. } => self.take_coming(
+                alloc, ledger, event, facts,
+            ),
             DecodedRecord::Wire { connection, .. } => {
                 let number = self.steps.len();
-                take_own(alloc, &mut self.steps, ledger, event, seen)?;
+                take_own(alloc, &mut self.steps, ledger, event, facts)?;
                 self.lines.note_sent(ledger.vat, *connection, number)
             }
-            _ => take_own(alloc, &mut self.steps, ledger, event, seen),
+            _ => take_own(alloc, &mut self.steps, ledger, event, facts),
         }
     }
 }

@@ -1,12 +1,12 @@
 //! The step that one record takes.
 
-ghost use Rattle.std.specs.Prelude.{◌≡◌, ℕ, List, None, true, false, IfOk, OnOk};
+ghost use Rattle.std.specs.Prelude.{◌≡◌, ℕ, List, None, true, false, OnOk};
 ghost use Rattle.std.specs.Option.{option_copied};
 ghost use Rattle.call_trace.specs.Glue.Ledgers.{call_bound_by, received_step, with_bound, IsBound, IsNoted, IsKept, HasStep, IsTaken};
 ghost use Rattle.call_trace.specs.Running.{step_of};
 ghost use Rattle.call_trace.specs.Types.{Step as Steps};
 ghost use Rattle.vat_rules.specs.OfCaps.{is_received};
-ghost use Rattle.vat_rules.specs.Telling.{seen_of};
+ghost use Rattle.vat_rules.specs.Telling.{facts_of};
 ghost use Rattle.vat_view.specs.Past.{Past};
 ghost use Rattle.run_model.specs.Has.{call_in_message};
 
@@ -90,20 +90,20 @@ pub(crate) fn take_own(
     steps: &mut Vec<Step>,
     ledger: &mut VatLedger,
     event: &DecodedRecord,
-    seen: &RecordFacts,
+    facts: &RecordFacts,
 ) -> Result<(), AllocError>
     requires own { is_received event.now ≡ false }
     requires has_step { HasStep (λ v es own before. step_of v es own before event.now)
-        event.now seen.now steps.old.items ledger.old }
+        event.now facts.now steps.old.items ledger.old }
     ensures { OnOk result
         ((v : ℕ) (es : Past) (own before : List Steps)
-        → IsKept v es own steps.old.items ledger.old → seen.now ≡ seen_of es event.now
+        → IsKept v es own steps.old.items ledger.old → facts.now ≡ facts_of es event.now
         → IsTaken v es event.now own
         (step_of v es own before event.now) steps.old.items steps.new.items ledger.new) }
 {
     let number = steps.len();
     ledger.bind(call_bound_by(ledger.vat, event, None))?;
-    push_said(alloc, ledger, steps, seen, event)?;
+    push_said(alloc, ledger, steps, facts, event)?;
     ledger.note(number)
 }
 
@@ -122,15 +122,15 @@ pub(crate) fn take_received(
     steps: &mut Vec<Step>,
     ledger: &mut VatLedger,
     event: &DecodedRecord,
-    seen: &RecordFacts,
+    facts: &RecordFacts,
     message: Message,
 ) -> Result<(), AllocError>
     requires received { is_received event.now ≡ true }
     requires has_step { HasStep (λ v es own before. received_step v es own event.now message)
-        event.now seen.now steps.old.items ledger.old }
+        event.now facts.now steps.old.items ledger.old }
     ensures { OnOk result
         ((v : ℕ) (es : Past) (own : List Steps)
-        → IsKept v es own steps.old.items ledger.old → seen.now ≡ seen_of es event.now
+        → IsKept v es own steps.old.items ledger.old → facts.now ≡ facts_of es event.now
         → IsTaken v es event.now own
         (received_step v es own event.now message) steps.old.items steps.new.items ledger.new) }
 {
@@ -146,7 +146,7 @@ pub(crate) fn take_received(
         message,
         bound: Caps::new(Vec::new(alloc)),
     })?;
-    let Some(bound) = named_said(alloc, ledger, steps, seen.references())? else {
+    let Some(bound) = named_said(alloc, ledger, steps, facts.references())? else {
         unreachable!()
     };
     bind_caps(&mut steps[number], bound);

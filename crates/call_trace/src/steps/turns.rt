@@ -9,7 +9,7 @@ ghost use Rattle.call_trace.specs.Glue.Turns.{IsTurnOf, HasTurn, TakesTurn, vats
 ghost use Rattle.call_trace.specs.Types.{Step as Steps};
 ghost use Rattle.vat_rules.specs.Audit.{Found, IsTrueOf};
 
-use crate::records::stories::{event_at, seen_at};
+use crate::records::stories::{event_at, facts_at};
 use crate::records::vat_ledger::VatLedger;
 use crate::steps::run_builder::RunBuilder;
 use run_model::Run;
@@ -34,10 +34,11 @@ impl RunBuilder {
             (taken_by findings (v ∷ turns)) before self.new ledger.new) }
     {
         let number = ledger.numbers.len();
-        let (Some(event), Some(seen)) = (event_at(finding, number), seen_at(finding, number)) else {
+        let (Some(event), Some(facts)) = (event_at(finding, number), facts_at(finding, number))
+        else {
             return Ok(());
         };
-        self.take(alloc, ledger, event, seen)
+        self.take(alloc, ledger, event, facts)
     }
 }
 

@@ -1,44 +1,43 @@
--- For the code's contracts, and no part of the meaning: what a record's numbers stand for
--- before it is applied, looked up at once.
-use Rattle.std.specs.Prelude.{ℕ, List, map, Option, None, slice_get, unwrap_or}
+-- For the code's contracts, and no part of the meaning: what a record's numbers stand for, as it is looked up.
+use Rattle.std.specs.Prelude.{ℕ, List, [], map, Option, None, slice_get, unwrap_or}
 use Rattle.std.specs.List.{zip}
 use Rattle.vat_rules.specs.Types.{DecodedRecord, View}
 use Rattle.vat_view.specs.Past.{Past}
 use Rattle.vat_view.specs.Views.{view_of_target, views_of_descriptors}
 use Rattle.vat_view.specs.Questions.{is_late}
-use Rattle.vat_rules.specs.Telling.{seen_question, seen_taken, seen_promise, seen_released}
-use Rattle.vat_rules.specs.Glue.Standing.{Standing}
-use Rattle.vat_rules.specs.LogFacts.{Sight, Entry}
+use Rattle.vat_rules.specs.Telling.{question_view, taken_view, promise_view, released_view}
+use Rattle.vat_rules.specs.LogFacts.{Facts, Entry}
 
--- what the numbers of a record stand for, apart from its references
-abbrev pub standing_of : Past → DecodedRecord → Standing
-standing_of before e = record {
-  question = seen_question before e;
-  taken = seen_taken before e;
-  promise = seen_promise before e;
+-- what the numbers of a record stand for before it is applied: of its references nothing is said yet
+abbrev pub facts_before : Past → DecodedRecord → Facts
+facts_before before e = record {
+  references = [];
+  question = question_view before e;
+  taken = taken_view before e;
+  promise = promise_view before e;
   target = view_of_target before e;
-  released = seen_released before e;
+  released = released_view before e;
   caps = views_of_descriptors before e;
   late = is_late before e;
+}
+
+-- the same, with what its references stand for
+abbrev pub with_references : List (Option View) → Facts → Facts
+with_references references facts = record {
+  references = references;
+  question = facts.question;
+  taken = facts.taken;
+  promise = facts.promise;
+  target = facts.target;
+  released = facts.released;
+  caps = facts.caps;
+  late = facts.late;
 }
 
 -- the view of these at a place, if one is there
 abbrev pub view_at : ℕ → List (Option View) → Option View
 view_at place views = unwrap_or (slice_get views place) None
 
--- records, each with what is seen of it
-abbrev pub entries_with : List DecodedRecord → List Sight → List Entry
-entries_with events seen = map (λ p. record { event = p.0; seen = p.1 }) (zip events seen)
-
--- what the references of a record and its other numbers stand for
-abbrev pub sight_with : List (Option View) → Standing → Sight
-sight_with references standing = record {
-  references = references;
-  question = standing.question;
-  taken = standing.taken;
-  promise = standing.promise;
-  target = standing.target;
-  released = standing.released;
-  caps = standing.caps;
-  late = standing.late;
-}
+-- records, each with its facts
+abbrev pub entries_with : List DecodedRecord → List Facts → List Entry
+entries_with events facts = map (λ p. record { event = p.0; facts = p.1 }) (zip events facts)

@@ -1,13 +1,13 @@
-//! How what is seen of a record is kept, in little room.
+//! How the facts of a record are kept, in little room.
 
-ghost use Rattle.std.specs.Prelude.{◌≡◌, ◌∷◌, [], Some, None, IfOk};
+ghost use Rattle.std.specs.Prelude.{◌≡◌, [], Some, None, false, IfOk};
 ghost use Rattle.std.specs.Option.{option_copied};
-ghost use Rattle.vat_rules.specs.Glue.Facts.{sight_with};
-ghost use Rattle.vat_rules.specs.Glue.Bare.{standing_alone, standing_returned};
-ghost use Rattle.vat_rules.specs.Glue.Compact.{in_role, standing_with, lists_of, sight_in, sight_of};
+ghost use Rattle.vat_rules.specs.Glue.Facts.{with_references};
+ghost use Rattle.vat_rules.specs.Glue.Compact.{in_role, lists_of, facts_in, facts_kept};
+ghost use Rattle.vat_rules.specs.Glue.Roles.{facts_by};
 
 use crate::facts::alike::are_one;
-use crate::facts::meanings::Meanings;
+use crate::facts::plain_facts::PlainFacts;
 use crate::facts::role::{Role, view_in_role};
 use crate::facts::view_list::ViewList;
 use std::alloc::{AllocError, Global};
@@ -32,14 +32,14 @@ enum Shape {
     Listed(Lists),
 }
 
-/// All that is seen of a record.
+/// All facts of a record.
 #[derive(Drop)]
 struct Parts {
     references: ViewList,
-    standing: Meanings,
+    facts: PlainFacts,
 }
 
-/// What is seen of a record, kept in little room: most records have one number at most, or a reference and a descriptor
+/// The facts of a record, kept in little room: most records have one number at most, or a reference and a descriptor
 /// that stand for the same. Here a number in a role is one that is neither a reference nor a descriptor.
 #[derive(Drop)]
 enum Compact {
@@ -72,12 +72,12 @@ pub struct RecordFacts {
 }
 
 impl Model for RecordFacts {
-    ghost use Rattle.vat_rules.specs.LogFacts.{Sight};
-    ghost use Rattle.vat_rules.specs.Glue.Compact.{sight_of};
+    ghost use Rattle.vat_rules.specs.LogFacts.{Facts};
+    ghost use Rattle.vat_rules.specs.Glue.Compact.{facts_kept};
 
-    ghost Value = { Sight };
+    ghost Value = { Facts };
 
-    ghost view = { λ seen. sight_of seen.kept };
+    ghost view = { λ facts. facts_kept facts.kept };
 }
 
 impl Debug for RecordFacts {
@@ -114,7 +114,7 @@ fn shape_of(lists: Lists) -> Shape
 
 /// What is kept of references alone.
 fn kept_references(references: ViewList) -> Compact
-    ensures { sight_of result ≡ sight_with references (standing_with None []) }
+    ensures { facts_kept result ≡ facts_in None references [] }
 {
     if references.is_empty() {
         return Compact::Nothing;
@@ -127,7 +127,7 @@ fn kept_references(references: ViewList) -> Compact
 
 /// What is kept of a record without a number in a role.
 fn kept_lists(alloc: Global, lists: Lists) -> Result<Compact, AllocError>
-    ensures { IfOk result (λ kept. sight_of kept ≡ sight_in None lists) }
+    ensures { IfOk result (λ kept. facts_kept kept ≡ facts_in None lists.references lists.caps) }
 {
     if lists.caps.is_empty() {
         return Ok(kept_references(lists.references));
@@ -140,7 +140,8 @@ fn kept_lists(alloc: Global, lists: Lists) -> Result<Compact, AllocError>
 
 /// What is kept of a record with one number in a role.
 fn kept_with(alloc: Global, number: (Role, View), lists: Lists) -> Result<Compact, AllocError>
-    ensures { IfOk result (λ kept. sight_of kept ≡ sight_in (Some number) lists) }
+    ensures { IfOk result
+        (λ kept. facts_kept kept ≡ facts_in (Some number) lists.references lists.caps) }
 {
     let (role, view) = number;
     if lists.references.is_empty() && lists.caps.is_empty() {
@@ -158,7 +159,8 @@ fn kept_parts(
     number: Option<(Role, View)>,
     lists: Lists,
 ) -> Result<Compact, AllocError>
-    ensures { IfOk result (λ kept. sight_of kept ≡ sight_in number lists) }
+    ensures { IfOk result
+        (λ kept. facts_kept kept ≡ facts_in number lists.references lists.caps) }
 {
     match number {
         Some(number) => kept_with(alloc, number, lists),
@@ -167,86 +169,31 @@ fn kept_parts(
 }
 
 impl RecordFacts {
-    /// Of a record of whose numbers none stands for anything.
-    pub(crate) fn nothing() -> RecordFacts
-        ensures { result ≡ sight_with [] (standing_with None []) }
-    {
-        RecordFacts {
-            kept: Compact::Nothing,
-        }
-    }
-
-    /// What the only number of a record stands for, a reference.
-    pub(crate) fn of_reference(view: Option<View>) -> RecordFacts
-        ensures { result ≡ sight_with (view ∷ []) (standing_with None []) }
-    {
-        RecordFacts {
-            kept: Compact::Reference(view),
-        }
-    }
-
-    /// What the only number of a record stands for, one in this role.
-    pub(crate) fn of_number(role: Role, view: Option<View>) -> RecordFacts
-        ensures { result ≡ sight_with [] (standing_alone role view) }
-    {
-        let kept = match view {
-            Some(view) => Compact::Alone(role, view),
-            None => Compact::Nothing,
-        };
-        RecordFacts { kept }
-    }
-
-    /// What the numbers of a Return stand for that has no references and no descriptors: its question, and the one whose
-    /// results it takes.
-    pub(crate) fn of_return(
-        alloc: Global,
-        question: Option<View>,
-        taken: Option<View>,
-        late: bool,
-    ) -> Result<RecordFacts, AllocError>
-        ensures { IfOk result (λ seen. seen ≡ sight_with []
-            (standing_returned question taken late)) }
-    {
-        if taken.is_none() && !late {
-            return Ok(RecordFacts::of_number(Role::Question, question));
-        }
-        let parts = Parts {
-            references: ViewList::new(Vec::new(alloc)),
-            standing: Meanings::of_return(alloc, question, taken, late),
-        };
-        Ok(RecordFacts {
-            kept: Compact::Several(Box::new(alloc, parts)?),
-        })
-    }
-
-    /// What the references of a record stand for that has no other numbers.
-    pub(crate) fn of_references(references: ViewList) -> RecordFacts
-        ensures { result ≡ sight_with references (standing_with None []) }
-    {
-        RecordFacts {
-            kept: kept_references(references),
-        }
-    }
-
     /// What the references of a record and its other numbers stand for.
     pub(crate) fn new(
         alloc: Global,
         references: ViewList,
-        standing: Meanings,
+        facts: PlainFacts,
     ) -> Result<RecordFacts, AllocError>
-        ensures { IfOk result (λ seen. seen ≡ sight_with references standing) }
+        ensures { IfOk result (λ kept. kept ≡ with_references references facts) }
     {
-        let kept = match standing.number_and_caps() {
+        let kept = match facts.number_and_caps() {
             Ok((number, caps)) => kept_parts(alloc, number, Lists { references, caps })?,
-            Err(standing) => {
-                let parts = Parts {
-                    references,
-                    standing,
-                };
+            Err(facts) => {
+                let parts = Parts { references, facts };
                 Compact::Several(Box::new(alloc, parts)?)
             }
         };
         Ok(RecordFacts { kept })
+    }
+
+    /// What the references of a record stand for that has no other number.
+    pub(crate) fn of_references(references: ViewList) -> RecordFacts
+        ensures { result ≡ with_references references (facts_by None None [] false) }
+    {
+        RecordFacts {
+            kept: kept_references(references),
+        }
     }
 
     /// What the references stand for that the record binds or names, in its order, with the record counted.
@@ -272,7 +219,7 @@ impl RecordFacts {
             Compact::Alone(role, view) => view_in_role(*role, view, wanted),
             Compact::WithBoth(role, view, _) => view_in_role(*role, view, wanted),
             Compact::WithLists(role, view, _) => view_in_role(*role, view, wanted),
-            Compact::Several(parts) => parts.standing.in_role(wanted),
+            Compact::Several(parts) => parts.facts.in_role(wanted),
             _ => None,
         }
     }
@@ -289,7 +236,7 @@ impl RecordFacts {
         ensures { option_copied result ≡ self.now.taken }
     {
         match &self.kept {
-            Compact::Several(parts) => parts.standing.taken(),
+            Compact::Several(parts) => parts.facts.taken(),
             _ => None,
         }
     }
@@ -326,7 +273,7 @@ impl RecordFacts {
             Compact::Both(view) => slice::from_ref(view),
             Compact::WithBoth(_, _, both) => slice::from_ref(&**both),
             Compact::Listed(lists) | Compact::WithLists(_, _, lists) => lists.caps.as_slice(),
-            Compact::Several(parts) => parts.standing.caps(),
+            Compact::Several(parts) => parts.facts.caps(),
         }
     }
 
@@ -336,7 +283,7 @@ impl RecordFacts {
         ensures { result ≡ self.now.late }
     {
         match &self.kept {
-            Compact::Several(parts) => parts.standing.is_late(),
+            Compact::Several(parts) => parts.facts.is_late(),
             _ => false,
         }
     }

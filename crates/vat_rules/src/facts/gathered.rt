@@ -11,7 +11,7 @@ use vat_view::DecodedRecord;
 #[derive(Debug, Drop)]
 pub(crate) struct Gathered {
     events: Vec<DecodedRecord>,
-    seen: Vec<RecordFacts>,
+    facts: Vec<RecordFacts>,
 }
 
 impl Model for Gathered {
@@ -21,30 +21,34 @@ impl Model for Gathered {
 
     ghost Value = { List Entry };
 
-    ghost view = { λ gathered. entries_with gathered.events.items gathered.seen.items };
+    ghost view = { λ gathered. entries_with gathered.events.items gathered.facts.items };
 
-    ghost invariant = { λ gathered. length gathered.events.items ≡ length gathered.seen.items };
+    ghost invariant = { λ gathered. length gathered.events.items ≡ length gathered.facts.items };
 }
 
 impl Gathered {
-    /// Nothing, with room for what is seen of so many records.
+    /// Nothing, with room for the facts of so many records.
     pub(crate) fn with_room(alloc: Global, records: usize) -> Result<Gathered, AllocError>
         ensures { IfOk result (λ gathered. gathered ≡ []) }
     {
         Ok(Gathered {
             events: Vec::new(alloc),
-            seen: Vec::with_capacity(alloc, records)?,
+            facts: Vec::with_capacity(alloc, records)?,
         })
     }
 
     /// Puts a record behind these, with what its numbers stand for. Where memory is refused, nothing changes.
-    pub(crate) fn push(&mut self, event: DecodedRecord, seen: RecordFacts) -> Result<(), AllocError>
+    pub(crate) fn push(
+        &mut self,
+        event: DecodedRecord,
+        facts: RecordFacts,
+    ) -> Result<(), AllocError>
         ensures ok { OnOk result
-            (self.new ≡ self.old ++ record { event = event; seen = seen } ∷ []) }
+            (self.new ≡ self.old ++ record { event = event; facts = facts } ∷ []) }
         ensures err { OnErr result (self.new ≡ self.old) }
     {
         self.events.reserve(1)?;
-        self.seen.push(seen)?;
+        self.facts.push(facts)?;
         self.events.push_reserved(event);
         Ok(())
     }
@@ -57,9 +61,9 @@ impl Gathered {
     }
 
     /// What the numbers of each record stand for, in the order of the records.
-    pub(crate) fn seen(&self) -> &[RecordFacts]
-        ensures { result.now ≡ map (λ entry. entry.seen) self.now }
+    pub(crate) fn facts(&self) -> &[RecordFacts]
+        ensures { result.now ≡ map (λ entry. entry.facts) self.now }
     {
-        &self.seen
+        &self.facts
     }
 }

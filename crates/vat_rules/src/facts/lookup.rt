@@ -1,25 +1,20 @@
 //! What the numbers of a record stand for.
 
-ghost use Rattle.std.specs.Prelude.{◌≡◌, ◌++◌, [], true, None, map, IfOk};
+ghost use Rattle.std.specs.Prelude.{◌≡◌, ◌++◌, [], map, option_and_then, IfOk};
 ghost use Rattle.vat_view.specs.Bindings.{new_references, named_references};
-ghost use Rattle.vat_view.specs.Views.{field_view, view_of_reference, view_of_target, views_of_descriptors};
-ghost use Rattle.vat_rules.specs.Telling.{seen_question, seen_taken, seen_promise, seen_released};
-ghost use Rattle.vat_rules.specs.Glue.Facts.{standing_of, sight_with};
-ghost use Rattle.vat_rules.specs.Glue.Standing.{view_in_role};
-ghost use Rattle.vat_rules.specs.Glue.Compact.{standing_with};
-ghost use Rattle.vat_rules.specs.Glue.Taking.{is_own};
-ghost use Rattle.vat_rules.specs.Glue.Bare.{IsBare, standing_alone, standing_returned};
-ghost use Rattle.vat_view.specs.Questions.{is_late};
+ghost use Rattle.vat_view.specs.Views.{field_view, view_of_number, view_of_reference, view_of_target, views_of_descriptors};
+ghost use Rattle.vat_rules.specs.Telling.{question_view, taken_view, promise_view, released_view};
+ghost use Rattle.vat_rules.specs.Glue.Facts.{facts_before};
+ghost use Rattle.vat_rules.specs.Glue.Roles.{view_in_role};
 ghost use Rattle.vat_rules.specs.declared.facts.role.Role.TheVariants.{Question, Promise, Target, Released};
 
-use crate::facts::compact::RecordFacts;
-use crate::facts::meanings::Meanings;
+use crate::facts::plain_facts::PlainFacts;
 use crate::facts::role::Role;
 use crate::facts::view_list::ViewList;
 use cap_frame::Path;
-use rpc_view::{Outcome, RpcMessage};
+use rpc_view::RpcMessage;
 use std::alloc::{AllocError, Global};
-use vat_view::{DecodedRecord, Number, TableKey, VatState, View};
+use vat_view::{DecodedRecord, TableKey, VatState, View};
 
 /// What a question stands for: its call, as the field at the empty path.
 fn view_of_question(
@@ -35,109 +30,53 @@ fn view_of_question(
     }
 }
 
+/// What a question stands for, if a record names one.
+fn view_of_named(
+    alloc: Global,
+    state: &VatState,
+    question: Option<TableKey>,
+) -> Result<Option<View>, AllocError>
+    ensures { IfOk result
+        (λ v. v ≡ option_and_then (λ q. field_view q [] state.now) question) }
+{
+    match question {
+        Some(question) => view_of_question(alloc, state, question),
+        None => Ok(None),
+    }
+}
+
+/// What an export or import number stands for, if a record names one.
+fn view_of_number(state: &VatState, number: Option<TableKey>) -> Result<Option<View>, AllocError>
+    ensures { IfOk result
+        (λ v. v ≡ option_and_then (λ i. view_of_number i state.now) number) }
+{
+    match number {
+        Some(number) => state.view_of_number(number),
+        None => Ok(None),
+    }
+}
+
 /// What the question stands for that a record returns or finishes.
-fn seen_question(
+fn question_view(
     alloc: Global,
     state: &VatState,
     event: &DecodedRecord,
 ) -> Result<Option<View>, AllocError>
-    ensures { IfOk result (λ v. v ≡ seen_question state.now event.now) }
+    ensures { IfOk result (λ v. v ≡ question_view state.now event.now) }
 {
-    let DecodedRecord::Wire {
-        sent,
-        connection,
-        message,
-        ..
-    } = event
-    else {
-        return Ok(None);
-    };
-    let number = match message {
-        RpcMessage::Return { answer, .. } if *sent => Number::Answer(*answer),
-        RpcMessage::Return { answer, .. } => Number::Question(*answer),
-        RpcMessage::Finish { question, .. } if *sent => Number::Question(*question),
-        RpcMessage::Finish { question, .. } => Number::Answer(*question),
-        _ => return Ok(None),
-    };
-    view_of_question(alloc, state, number.on(*connection))
+    let question = event.question_returned().or(event.question_finished());
+    view_of_named(alloc, state, question)
 }
 
 /// What the question stands for whose results a record takes.
-fn seen_taken(
+fn taken_view(
     alloc: Global,
     state: &VatState,
     event: &DecodedRecord,
 ) -> Result<Option<View>, AllocError>
-    ensures { IfOk result (λ v. v ≡ seen_taken state.now event.now) }
+    ensures { IfOk result (λ v. v ≡ taken_view state.now event.now) }
 {
-    let DecodedRecord::Wire {
-        sent,
-        connection,
-        message: RpcMessage::Return {
-            outcome: Outcome::TakeFrom(taken),
-            ..
-        },
-        ..
-    } = event
-    else {
-        return Ok(None);
-    };
-    let number = if *sent {
-        Number::Question(*taken)
-    } else {
-        Number::Answer(*taken)
-    };
-    view_of_question(alloc, state, number.on(*connection))
-}
-
-/// What the promise stands for that a record resolves.
-fn seen_promise(
-    alloc: Global,
-    state: &VatState,
-    event: &DecodedRecord,
-) -> Result<Option<View>, AllocError>
-    ensures { IfOk result (λ v. v ≡ seen_promise state.now event.now) }
-{
-    let DecodedRecord::Wire {
-        sent,
-        connection,
-        message: RpcMessage::Resolve { promise, .. },
-        ..
-    } = event
-    else {
-        return Ok(None);
-    };
-    let number = if *sent {
-        Number::Export(*promise)
-    } else {
-        Number::Import(*promise)
-    };
-    state.stands_for(*connection, number, &Path::new(Vec::new(alloc))?)
-}
-
-/// What the number stands for that a Release gives back.
-fn seen_released(
-    alloc: Global,
-    state: &VatState,
-    event: &DecodedRecord,
-) -> Result<Option<View>, AllocError>
-    ensures { IfOk result (λ v. v ≡ seen_released state.now event.now) }
-{
-    let DecodedRecord::Wire {
-        sent,
-        connection,
-        message: RpcMessage::Release { id, .. },
-        ..
-    } = event
-    else {
-        return Ok(None);
-    };
-    let number = if *sent {
-        Number::Import(*id)
-    } else {
-        Number::Export(*id)
-    };
-    state.stands_for(*connection, number, &Path::new(Vec::new(alloc))?)
+    view_of_named(alloc, state, event.question_taken())
 }
 
 /// What the descriptors of a record stand for that may be applied next. Most records have one at most.
@@ -162,13 +101,13 @@ fn number_in_role(
     event: &DecodedRecord,
 ) -> Result<Option<(Role, View)>, AllocError>
     ensures question { IfOk result
-        (λ n. view_in_role n Question ≡ seen_question state.now event.now) }
+        (λ n. view_in_role n Question ≡ question_view state.now event.now) }
     ensures promise { IfOk result
-        (λ n. view_in_role n Promise ≡ seen_promise state.now event.now) }
+        (λ n. view_in_role n Promise ≡ promise_view state.now event.now) }
     ensures target { IfOk result
         (λ n. view_in_role n Target ≡ view_of_target state.now event.now) }
     ensures released { IfOk result
-        (λ n. view_in_role n Released ≡ seen_released state.now event.now) }
+        (λ n. view_in_role n Released ≡ released_view state.now event.now) }
 {
     let DecodedRecord::Wire { message, .. } = event else {
         return Ok(None);
@@ -178,10 +117,20 @@ fn number_in_role(
             (Role::Target, state.view_of_target(event)?)
         }
         RpcMessage::Return { .. } | RpcMessage::Finish { .. } => {
-            (Role::Question, seen_question(alloc, state, event)?)
+            (Role::Question, question_view(alloc, state, event)?)
         }
-        RpcMessage::Resolve { .. } => (Role::Promise, seen_promise(alloc, state, event)?),
-        RpcMessage::Release { .. } => (Role::Released, seen_released(alloc, state, event)?),
+        RpcMessage::Resolve { .. } => {
+            (
+                Role::Promise,
+                view_of_number(state, event.promise_resolved())?,
+            )
+        }
+        RpcMessage::Release { .. } => {
+            (
+                Role::Released,
+                view_of_number(state, event.number_released())?,
+            )
+        }
         _ => return Ok(None),
     };
     match view {
@@ -191,104 +140,20 @@ fn number_in_role(
 }
 
 /// What the numbers of a record stand for that may be applied next, apart from its references.
-pub(crate) fn standing_of(
+pub(crate) fn facts_before(
     alloc: Global,
     state: &VatState,
     event: &DecodedRecord,
-) -> Result<Meanings, AllocError>
-    ensures { IfOk result (λ standing. standing ≡ standing_of state.now event.now) }
+) -> Result<PlainFacts, AllocError>
+    ensures { IfOk result (λ facts. facts ≡ facts_before state.now event.now) }
 {
     let DecodedRecord::Wire { .. } = event else {
-        return Ok(Meanings::nothing(alloc));
+        return Ok(PlainFacts::nothing(alloc));
     };
     let number = number_in_role(alloc, state, event)?;
-    let taken = seen_taken(alloc, state, event)?;
+    let taken = taken_view(alloc, state, event)?;
     let caps = views_of_descriptors(alloc, state, event)?;
-    Ok(Meanings::new(number, taken, caps, state.is_late(event)))
-}
-
-/// What the numbers of a Return stand for that has no references and no descriptors.
-fn facts_of_return(
-    alloc: Global,
-    state: &VatState,
-    event: &DecodedRecord,
-) -> Result<RecordFacts, AllocError>
-    ensures { IfOk result (λ seen. seen ≡ sight_with [] (standing_returned
-        (seen_question state.now event.now) (seen_taken state.now event.now) (is_late state.now event.now))) }
-{
-    let question = seen_question(alloc, state, event)?;
-    let taken = seen_taken(alloc, state, event)?;
-    RecordFacts::of_return(alloc, question, taken, state.is_late(event))
-}
-
-/// What the question stands for that a record finishes which has no other numbers.
-fn facts_of_finish(
-    alloc: Global,
-    state: &VatState,
-    event: &DecodedRecord,
-) -> Result<RecordFacts, AllocError>
-    ensures { IfOk result (λ seen. seen ≡ sight_with []
-        (standing_alone Question (seen_question state.now event.now))) }
-{
-    let question = seen_question(alloc, state, event)?;
-    Ok(RecordFacts::of_number(Role::Question, question))
-}
-
-/// What the promise stands for that a record resolves which has no other numbers.
-fn facts_of_resolve(
-    alloc: Global,
-    state: &VatState,
-    event: &DecodedRecord,
-) -> Result<RecordFacts, AllocError>
-    ensures { IfOk result (λ seen. seen ≡ sight_with []
-        (standing_alone Promise (seen_promise state.now event.now))) }
-{
-    let promise = seen_promise(alloc, state, event)?;
-    Ok(RecordFacts::of_number(Role::Promise, promise))
-}
-
-/// What the number stands for that a record gives back which has no other numbers.
-fn facts_of_release(
-    alloc: Global,
-    state: &VatState,
-    event: &DecodedRecord,
-) -> Result<RecordFacts, AllocError>
-    ensures { IfOk result (λ seen. seen ≡ sight_with []
-        (standing_alone Released (seen_released state.now event.now))) }
-{
-    let released = seen_released(alloc, state, event)?;
-    Ok(RecordFacts::of_number(Role::Released, released))
-}
-
-/// What the target of a record stands for that has no other numbers.
-fn facts_of_target(state: &VatState, event: &DecodedRecord) -> Result<RecordFacts, AllocError>
-    ensures { IfOk result (λ seen. seen ≡ sight_with []
-        (standing_alone Target (view_of_target state.now event.now))) }
-{
-    let target = state.view_of_target(event)?;
-    Ok(RecordFacts::of_number(Role::Target, target))
-}
-
-/// What the numbers of a record stand for that may be applied next, where its message carries no capability.
-pub(crate) fn facts_of_bare(
-    alloc: Global,
-    state: &VatState,
-    event: &DecodedRecord,
-) -> Result<RecordFacts, AllocError>
-    requires { IsBare event.now }
-    ensures { IfOk result (λ seen. seen ≡ sight_with [] (standing_of state.now event.now)) }
-{
-    let DecodedRecord::Wire { message, .. } = event else {
-        unreachable!()
-    };
-    match message {
-        RpcMessage::Call { .. } | RpcMessage::Disembargo { .. } => facts_of_target(state, event),
-        RpcMessage::Return { .. } => facts_of_return(alloc, state, event),
-        RpcMessage::Finish { .. } => facts_of_finish(alloc, state, event),
-        RpcMessage::Resolve { .. } => facts_of_resolve(alloc, state, event),
-        RpcMessage::Release { .. } => facts_of_release(alloc, state, event),
-        RpcMessage::Bootstrap { .. } | RpcMessage::Abort => Ok(RecordFacts::nothing()),
-    }
+    Ok(PlainFacts::new(number, taken, caps, state.is_late(event)))
 }
 
 /// What references stand for, each of several.
@@ -352,33 +217,5 @@ pub(crate) fn views_of_references(
         }
         DecodedRecord::Wire { references, .. } => views_of(alloc, state, references.as_slice()),
         _ => views_of(alloc, state, event.new_references()),
-    }
-}
-
-/// What the references stand for that a record without a message binds or names, which has no other numbers.
-pub(crate) fn own_facts(
-    alloc: Global,
-    state: &VatState,
-    event: &DecodedRecord,
-) -> Result<RecordFacts, AllocError>
-    requires { is_own event.now ≡ true }
-    ensures { IfOk result (λ seen. seen ≡ sight_with
-        (map (view_of_reference state.now) (new_references event.now ++ named_references event.now))
-        (standing_with None [])) }
-{
-    match event {
-        DecodedRecord::Host { reference, .. }
-        | DecodedRecord::Vow { reference }
-        | DecodedRecord::Break { reference }
-        | DecodedRecord::Make { reference, .. }
-        | DecodedRecord::Field { reference, .. } => {
-            let view = state.view_of_reference(*reference)?;
-            Ok(RecordFacts::of_reference(view))
-        }
-        DecodedRecord::Fulfil { .. } | DecodedRecord::Answer { .. } => {
-            let references = views_of_references(alloc, state, event)?;
-            Ok(RecordFacts::of_references(references))
-        }
-        _ => Ok(RecordFacts::nothing()),
     }
 }

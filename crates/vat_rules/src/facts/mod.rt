@@ -4,7 +4,7 @@ pub(crate) mod alike;
 pub(crate) mod compact;
 pub(crate) mod gathered;
 pub(crate) mod lookup;
-pub(crate) mod meanings;
+pub(crate) mod plain_facts;
 pub(crate) mod role;
 pub(crate) mod story;
 pub(crate) mod view_list;

@@ -2,7 +2,7 @@
 
 ghost use Rattle.std.specs.Prelude.{◌≡◌, Some};
 ghost use Rattle.std.specs.Option.{option_copied};
-ghost use Rattle.vat_rules.specs.Glue.Standing.{view_in_role};
+ghost use Rattle.vat_rules.specs.Glue.Roles.{view_in_role};
 
 use vat_view::View;
 

@@ -40,10 +40,10 @@ impl Story {
     }
 
     /// What the numbers of each record stand for, in the order of the records.
-    pub fn seen(&self) -> &[RecordFacts]
-        ensures { result.now ≡ map (λ entry. entry.seen) self.now.entries }
+    pub fn facts(&self) -> &[RecordFacts]
+        ensures { result.now ≡ map (λ entry. entry.facts) self.now.entries }
     {
-        self.gathered.seen()
+        self.gathered.facts()
     }
 
     /// How many records deliver a call.

@@ -7,16 +7,17 @@ ghost use Rattle.vat_rules.specs.Events.{past_at};
 ghost use Rattle.vat_rules.specs.First.{AllGood};
 ghost use Rattle.vat_rules.specs.Audit.{IsTrueOf, reads_by, edition_of};
 ghost use Rattle.vat_rules.specs.Slim.{outcome_in};
-ghost use Rattle.vat_rules.specs.Glue.Taking.{refused_at};
+ghost use Rattle.vat_rules.specs.Glue.Taking.{IsCounted, IsRefused, refused_at};
 
 use crate::audit::{edition_of, is_delivery};
 use crate::slim::finding::{SlimFinding, SlimOutcome};
 use crate::slim::story::SlimStory;
-use crate::taking::{Refusal, take};
-use rpc_view::Limits;
+use crate::taking::{Refusal, apply_if_good};
+use crate::why::unread;
+use rpc_view::{Edition, Limits};
 use std::alloc::{AllocError, Global};
 use std::sync::Arc;
-use vat_log::VatLog;
+use vat_log::{Body, VatLog};
 use vat_view::{DecodedRecord, VatState};
 
 /// The outcome of a log whose first record that isn't good is this, for this reason.
@@ -38,6 +39,32 @@ fn counted(delivered: u64, event: &DecodedRecord) -> u64
         delivered + 1
     } else {
         delivered
+    }
+}
+
+/// Reads one record more and judges it by an edition; where it is good, applies it, and counts the calls that were
+/// delivered; else why it isn't.
+fn count(
+    alloc: Global,
+    edition: Edition,
+    limits: Limits,
+    state: &mut VatState,
+    delivered: u64,
+    body: &Body,
+) -> Result<Result<u64, Refusal>, AllocError>
+    requires { delivered + 1 < 2 ^ 64 }
+    ensures { IfOk result (λ r. MatchResult r
+        (IsCounted edition (reads_by edition limits) state.old body.now state.new delivered)
+        (IsRefused edition (reads_by edition limits) state.old body.now)) }
+{
+    let read = DecodedRecord::read(alloc, body, limits, edition);
+    let event = match &read {
+        Ok(event) => event,
+        Err(error) => return Ok(Err(unread(*error)?)),
+    };
+    match apply_if_good(alloc, edition, state, event)? {
+        Some(rule) => Ok(Err(Refusal::Broken(rule))),
+        None => Ok(Ok(counted(delivered, event))),
     }
 }
 
@@ -65,11 +92,10 @@ fn judge_counting(
         let Some(stored) = log.get(at) else {
             unreachable!()
         };
-        let taken = match take(alloc, edition, limits, state, stored.body())? {
-            Ok(taken) => taken,
+        match count(alloc, edition, limits, state, delivered, stored.body())? {
+            Ok(more) => delivered = more,
             Err(refusal) => return Ok(Err(refused_at(at as u64, refusal))),
-        };
-        delivered = counted(delivered, &taken.event);
+        }
     }
     Ok(Ok(delivered))
 }

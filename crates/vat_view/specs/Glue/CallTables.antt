@@ -9,7 +9,7 @@ use Rattle.vat_view.specs.declared.tables.call_state.CallState.{CallState}
 use Rattle.vat_view.specs.declared.tables.call_state.CallEntry.{CallEntry}
 use Rattle.vat_view.specs.declared.tables.call_state.CallChange.{CallChange}
 use Rattle.vat_view.specs.declared.tables.call_state.CallChange.TheVariants.{Left, Delivered, Faulted, Answered, Known}
-use Rattle.vat_view.specs.Types.{Bootstrap, Call, Return, Results, Exception, Canceled, TakeFrom, DecodedRecord, Make, Deliver, Answer, AnswerBy, Fault, Wire, View, Asked, TableKey}
+use Rattle.vat_view.specs.Types.{Bootstrap, Call, Return, Results, Exception, Canceled, TakeFrom, DecodedRecord, Make, Deliver, Answer, AnswerBy, Fault, Wire, View, Request, TableKey}
 use Rattle.vat_view.specs.Past.{Past, id}
 use Rattle.vat_view.specs.Questions.{is_late, call_at, opening}
 use Rattle.vat_view.specs.Views.{view_of_reference, view_of_target}
@@ -46,7 +46,7 @@ abbrev pub AreCalled : Past → Calls → Type 0
 AreCalled past table = (c : ℕ) → call_state_at table c ≡ call_state_of c past
 
 -- what a call's entry says of it
-abbrev pub request_in : Option CallState → Option Asked
+abbrev pub request_in : Option CallState → Option Request
 request_in (Some p) = p.asked
 request_in None = None
 

@@ -6,7 +6,7 @@ use Rattle.std.specs.Option.{option_or, option_map_or}
 use Rattle.vat_view.specs.declared.tables.exports_imports.ExportsImports.{ExportsImports}
 use Rattle.vat_view.specs.declared.record.introduced.Introduced.{Introduced}
 use Rattle.vat_view.specs.declared.record.origin.Origin.{Origin}
-use Rattle.vat_view.specs.declared.tables.resolves.Resolves.{Resolves}
+use Rattle.vat_view.specs.declared.tables.turns.resolves.Resolves.{Resolves}
 use Rattle.vat_view.specs.Types.{Descriptor, DecodedRecord, TableKey}
 use Rattle.vat_view.specs.Past.{Past, Point, names, record_index, last_where}
 use Rattle.vat_view.specs.Lives.{number_introduced, is_promised, promise_resolved}

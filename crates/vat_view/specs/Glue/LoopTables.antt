@@ -6,12 +6,12 @@ use Rattle.std.specs.Str.{bytes_eq as same_path}
 use Rattle.vat_view.specs.declared.tables.question.Question.{Question}
 use Rattle.vat_view.specs.declared.tables.exports_imports.ExportsImports.{ExportsImports}
 use Rattle.vat_view.specs.declared.tables.calls.Calls.{Calls}
-use Rattle.vat_view.specs.declared.tables.waiting_calls.Receipt.{Receipt}
-use Rattle.vat_view.specs.declared.tables.waiting_calls.WaitingCalls.{WaitingCalls}
-use Rattle.vat_view.specs.declared.tables.queued_call.QueuedCall.{QueuedCall}
-use Rattle.vat_view.specs.declared.tables.loopbacks.Unechoed.{Unechoed}
-use Rattle.vat_view.specs.declared.tables.loopbacks.Loopbacks.{Loopbacks}
-use Rattle.vat_view.specs.declared.tables.embargoes.Embargoes.{Embargoes}
+use Rattle.vat_view.specs.declared.tables.waits.waiting_calls.Receipt.{Receipt}
+use Rattle.vat_view.specs.declared.tables.waits.waiting_calls.WaitingCalls.{WaitingCalls}
+use Rattle.vat_view.specs.declared.tables.waits.queued_call.QueuedCall.{QueuedCall}
+use Rattle.vat_view.specs.declared.tables.waits.loopbacks.Unechoed.{Unechoed}
+use Rattle.vat_view.specs.declared.tables.waits.loopbacks.Loopbacks.{Loopbacks}
+use Rattle.vat_view.specs.declared.tables.waits.embargoes.Embargoes.{Embargoes}
 use Rattle.vat_view.specs.Types.{Call, Return, Exception, Canceled, DecodedRecord, Deliver, Fault, Wire, View, Object, Promise, FieldOf, Import, TableKey}
 use Rattle.vat_view.specs.Past.{Past, Point, id, is, same_id, names, record_index, last_answer}
 use Rattle.vat_view.specs.Views.{view_of_target}

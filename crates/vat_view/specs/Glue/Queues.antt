@@ -5,12 +5,12 @@ use Rattle.std.specs.BTreeMap.{get}
 use Rattle.std.specs.declared.cmp.Ordering.{Ordering}
 use Rattle.std.specs.declared.ops.Bound.{Bound}
 use Rattle.std.specs.declared.ops.Bound.TheVariants.{Included, Excluded}
-use Rattle.vat_view.specs.declared.tables.goal_key.GoalKey.{GoalKey}
-use Rattle.vat_view.specs.declared.tables.goal_key.GoalKey.TheVariants.{Nowhere, ToObject, ToPromise, ToField, ToImport}
-use Rattle.vat_view.specs.declared.tables.queued_call.QueuedCall.{QueuedCall}
-use Rattle.vat_view.specs.declared.tables.waiting_calls.Receipt.{Receipt}
-use Rattle.vat_view.specs.declared.tables.waiting_calls.WaitingCalls.{WaitingCalls}
-use Rattle.vat_view.specs.contracts.tables.queued_call.QueuedCallOrd.TheImpl as queued_order
+use Rattle.vat_view.specs.declared.tables.turns.goal_key.GoalKey.{GoalKey}
+use Rattle.vat_view.specs.declared.tables.turns.goal_key.GoalKey.TheVariants.{Nowhere, ToObject, ToPromise, ToField, ToImport}
+use Rattle.vat_view.specs.declared.tables.waits.queued_call.QueuedCall.{QueuedCall}
+use Rattle.vat_view.specs.declared.tables.waits.waiting_calls.Receipt.{Receipt}
+use Rattle.vat_view.specs.declared.tables.waits.waiting_calls.WaitingCalls.{WaitingCalls}
+use Rattle.vat_view.specs.contracts.tables.waits.queued_call.QueuedCallOrd.TheImpl as queued_order
 use Rattle.vat_view.specs.Types.{View, Object, Promise, FieldOf, Import}
 use Rattle.vat_view.specs.Past.{is}
 

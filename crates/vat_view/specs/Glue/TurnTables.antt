@@ -14,15 +14,15 @@ use Rattle.vat_view.specs.declared.tables.references.Shortcut.{Shortcut}
 use Rattle.vat_view.specs.declared.record.origin.Origin.{Origin}
 use Rattle.vat_view.specs.declared.record.unsettled.Unsettled.{Unsettled}
 use Rattle.vat_view.specs.declared.record.unsettled.Unsettled.TheVariants.{Promise as PromiseToKeep, Results as ResultsOf, Import as ImportToResolve}
-use Rattle.vat_view.specs.declared.tables.settlements.Settlements.{Settlements}
-use Rattle.vat_view.specs.declared.tables.settlements.Settling.{Settling}
-use Rattle.vat_view.specs.declared.tables.turned.Turned.{Turned}
-use Rattle.vat_view.specs.declared.tables.turned.Turned.TheVariants.{Nowhere, Reference as ToOne, Field as OneField, Fields as ManyFields}
-use Rattle.vat_view.specs.declared.tables.turned.Ended.{Ended}
-use Rattle.vat_view.specs.declared.tables.turned.Ended.TheVariants.{Open as Unended, Nowhere as EndedNowhere, Reference as EndedAt}
-use Rattle.vat_view.specs.declared.tables.handovers.Handovers.{Handovers}
-use Rattle.vat_view.specs.declared.tables.handovers.Handover.{Handover}
-use Rattle.vat_view.specs.declared.tables.handovers.HandedCall.{HandedCall}
+use Rattle.vat_view.specs.declared.tables.turns.settlements.Settlements.{Settlements}
+use Rattle.vat_view.specs.declared.tables.turns.settlements.Settling.{Settling}
+use Rattle.vat_view.specs.declared.tables.turns.turned.Turned.{Turned}
+use Rattle.vat_view.specs.declared.tables.turns.turned.Turned.TheVariants.{Nowhere, Reference as ToOne, Field as OneField, Fields as ManyFields}
+use Rattle.vat_view.specs.declared.tables.turns.turned.Ended.{Ended}
+use Rattle.vat_view.specs.declared.tables.turns.turned.Ended.TheVariants.{Open as Unended, Nowhere as EndedNowhere, Reference as EndedAt}
+use Rattle.vat_view.specs.declared.tables.turns.handovers.Handovers.{Handovers}
+use Rattle.vat_view.specs.declared.tables.turns.handovers.Handover.{Handover}
+use Rattle.vat_view.specs.declared.tables.turns.handovers.HandedCall.{HandedCall}
 use Rattle.vat_view.specs.declared.walks.landing.Landing.{Landing}
 use Rattle.vat_view.specs.declared.walks.landing.Landing.TheVariants.{Reference as ToReference, Call as ToCall}
 use Rattle.vat_view.specs.contracts.record.unsettled.UnsettledOrd.TheImpl as pending_order
@@ -32,7 +32,7 @@ use Rattle.vat_view.specs.Questions.{call_at, opening}
 use Rattle.vat_view.specs.Lives.{Birth, birth}
 use Rattle.vat_view.specs.Views.{placed_references, view_of_reference}
 use Rattle.vat_view.specs.Calls.{answerer, call_taken_from}
-use Rattle.vat_view.specs.Walks.{Next, turns, stays, on_to, next}
+use Rattle.vat_view.specs.Walks.{Next, turns, stays, on_to, next, turned_to}
 use Rattle.vat_view.specs.Bindings.{is_bound}
 use Rattle.vat_view.specs.Glue.FieldTargets.{target_among}
 use Rattle.vat_view.specs.Glue.Tables.{bound_at, held_origin}
@@ -437,12 +437,7 @@ onward_by table bound r = option_and_then (reference_by table) (option_and_then 
 
 -- ---- walks
 
--- the view to which a view turns
-abbrev pub turned_to : Next → Option View
-turned_to (turns v) = Some v
-turned_to _ = None
-
--- the same by the table
+-- the view to which a view turns, by the table
 abbrev pub turn_by : Settlements → (ℕ → Option View) → View → Option View
 turn_by table named v = turned_to (goes_by table named v)
 

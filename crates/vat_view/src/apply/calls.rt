@@ -2,16 +2,16 @@
 
 ghost use Rattle.std.specs.Prelude.{◌≡◌, IfOk};
 ghost use Rattle.vat_view.specs.Glue.Tables.{bound_at, question_at, late_by};
-ghost use Rattle.vat_view.specs.Glue.Asking.{opening_call_in, targeted_by, taken_from_by};
+ghost use Rattle.vat_view.specs.Glue.Asking.{opening_call_in, taken_from_by};
 ghost use Rattle.vat_view.specs.Glue.CallTables.{arriving_call, bootstrap_call, begins_call, begun_by, moved, sent_step, received_step, step_by};
 
 use crate::apply::tables::is_late;
-use crate::asked::Asked;
 use crate::lookups::meaning::view_of_reference;
 use crate::lookups::settling::taken_from_by;
 use crate::lookups::table_answers::{opening_call, view_of_target};
 use crate::record::decoded::DecodedRecord;
 use crate::record::table_key::TableKey;
+use crate::request::Request;
 use crate::tables::call_state::{CallChange, CallState};
 use crate::tables::exports_imports::ExportsImports;
 use crate::tables::questions::Questions;
@@ -24,7 +24,7 @@ use std::alloc::AllocError;
 fn arriving_call(goal: Option<View>, interface: u64, method: u16) -> CallState
     ensures { result ≡ arriving_call goal interface method }
 {
-    let asked = Asked {
+    let asked = Request {
         goal,
         interface,
         method,
@@ -141,11 +141,7 @@ fn sent_step(questions: &Questions, event: &DecodedRecord) -> Option<(u64, CallC
             outcome: Outcome::Exception | Outcome::Canceled,
             ..
         } => {
-            let question = TableKey {
-                connection: *connection,
-                ours: false,
-                number: *number,
-            };
+            let question = TableKey::of_receiver(true, *connection, *number);
             moved(CallChange::Left, opening_call(questions, question))
         }
         _ => None,
@@ -177,11 +173,7 @@ fn received_step(questions: &Questions, event: &DecodedRecord) -> Option<(u64, C
             if is_late(questions, event) {
                 return None;
             }
-            let question = TableKey {
-                connection: *connection,
-                ours: true,
-                number: *number,
-            };
+            let question = TableKey::of_receiver(false, *connection, *number);
             moved(CallChange::Known, opening_call(questions, question))
         }
         RpcMessage::Return {
@@ -192,11 +184,7 @@ fn received_step(questions: &Questions, event: &DecodedRecord) -> Option<(u64, C
             if taken_from_by(questions, event).is_none() {
                 return None;
             }
-            let question = TableKey {
-                connection: *connection,
-                ours: true,
-                number: *number,
-            };
+            let question = TableKey::of_receiver(false, *connection, *number);
             moved(CallChange::Known, opening_call(questions, question))
         }
         _ => None,

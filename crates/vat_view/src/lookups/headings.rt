@@ -11,9 +11,9 @@ use crate::record::decoded::DecodedRecord;
 use crate::record::origin::Origin;
 use crate::record::table_key::TableKey;
 use crate::tables::exports_imports::ExportsImports;
-use crate::tables::goal_key::{GoalKey, digest, goal_key_of};
 use crate::tables::questions::Questions;
 use crate::tables::references::BoundReferences;
+use crate::tables::turns::goal_key::{GoalKey, digest, goal_key_of};
 use cap_frame::Path;
 use rpc_view::{RpcMessage, Target};
 

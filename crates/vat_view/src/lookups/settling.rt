@@ -14,7 +14,7 @@ use crate::record::unsettled::Unsettled;
 use crate::tables::exports_imports::ExportsImports;
 use crate::tables::questions::Questions;
 use crate::tables::references::BoundReferences;
-use crate::tables::settlements::Settling;
+use crate::tables::turns::settlements::Settling;
 use crate::view::View;
 use rpc_view::{Outcome, RpcMessage};
 use std::alloc::{AllocError, Global};
@@ -100,11 +100,7 @@ fn settled_by(
             ..
         } => results_of(
             questions,
-            TableKey {
-                connection: *connection,
-                ours: true,
-                number: *number,
-            },
+            TableKey::of_receiver(false, *connection, *number),
         ),
         DecodedRecord::Wire {
             sent: false,
@@ -114,14 +110,7 @@ fn settled_by(
                 ..
             },
             ..
-        } => import_of(
-            lives,
-            TableKey {
-                connection: *connection,
-                ours: false,
-                number: *number,
-            },
-        ),
+        } => import_of(lives, TableKey::of_sender(false, *connection, *number)),
         _ => None,
     }
 }

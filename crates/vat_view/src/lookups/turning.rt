@@ -7,8 +7,8 @@ ghost use Rattle.vat_view.specs.Glue.TurnTables.{reference_at, answered_at, retu
 use crate::record::bindings::reference_by;
 use crate::record::decoded::DecodedRecord;
 use crate::record::effects::{descriptors, is_cap, references};
-use crate::tables::field_targets::FieldTargets;
-use crate::tables::turned::Turned;
+use crate::tables::turns::field_targets::FieldTargets;
+use crate::tables::turns::turned::Turned;
 use cap_frame::Path;
 use rpc_view::{Outcome, RpcMessage};
 use std::alloc::{AllocError, Global};

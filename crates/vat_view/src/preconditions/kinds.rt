@@ -10,7 +10,7 @@ use crate::record::effects::{descriptors, is_promise, number_introduced};
 use crate::record::introduced::Introduced;
 use crate::record::origin::Origin;
 use crate::tables::exports_imports::ExportsImports;
-use crate::tables::resolves::Resolves;
+use crate::tables::turns::resolves::Resolves;
 use rpc_view::Descriptor;
 
 /// Whether the last Resolve of a number came in its life, by the records where that began and where it stands.

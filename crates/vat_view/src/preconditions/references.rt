@@ -1,6 +1,6 @@
 //! Whether a record names things as it should (docs/FORMATS.md).
 
-ghost use Rattle.std.specs.Prelude.{◌≡◌, not, Decides, IfOk, IfSome, option_to_list};
+ghost use Rattle.std.specs.Prelude.{◌≡◌, not, Decides, IfOk, IfSome};
 ghost use Rattle.std.specs.List.{list_all};
 ghost use Rattle.vat_view.specs.Bindings.{Refers, is_bound, is_bound_call, is_distinct, new_references, new_calls, named_references, named_calls, notes_call};
 ghost use Rattle.vat_view.specs.Glue.Plain.{IsNotedAlone, IsNamedAlone};

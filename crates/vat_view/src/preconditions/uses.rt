@@ -4,7 +4,7 @@ ghost use Rattle.std.specs.Prelude.{◌≡◌, ◌&&◌, not, count_by, Decides}
 ghost use Rattle.std.specs.List.{list_all};
 ghost use Rattle.vat_view.specs.Questions.{question_returned, question_taken, opening, is_tail, is_taken, is_unfinished, is_unreturned};
 ghost use Rattle.vat_view.specs.Lives.{descriptors, is_in_life};
-ghost use Rattle.vat_view.specs.Uses.{question_described, questions_used, number_described, numbers_used, OpensFree, UsesQuestions, UsesNumbers};
+ghost use Rattle.vat_view.specs.Uses.{question_described, questions_used, number_described, OpensFree, UsesQuestions, UsesNumbers};
 ghost use Rattle.vat_view.specs.Glue.Tables.{is_cap};
 ghost use Rattle.vat_view.specs.Bindings.{NotesEach};
 ghost use Rattle.vat_view.specs.Glue.Asking.{passes_if};

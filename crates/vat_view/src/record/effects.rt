@@ -3,7 +3,7 @@
 ghost use Rattle.std.specs.Prelude.{◌≡◌, [], IfOk, Some, if◌then◌else◌};
 ghost use Rattle.std.specs.List.{filter_map};
 ghost use Rattle.vat_view.specs.Questions.{question_opened, question_returned, question_returned_lightly, question_finished, question_released, question_taken, asks_elsewhere, noted_call};
-ghost use Rattle.vat_view.specs.Lives.{descriptors, number_introduced, is_promised, promise_resolved};
+ghost use Rattle.vat_view.specs.Lives.{descriptors_of, descriptors, number_introduced, is_promised, promise_resolved};
 ghost use Rattle.vat_view.specs.Views.{references};
 ghost use Rattle.vat_view.specs.Glue.Tables.{is_cap, origin_by, origins_from};
 ghost use Rattle.vat_view.specs.Glue.Plain.{has_message};
@@ -174,13 +174,10 @@ pub(crate) fn has_message(event: &DecodedRecord) -> bool
     matches!(event, DecodedRecord::Wire { .. })
 }
 
-/// The descriptors of a record, by place; a Resolve's stands at place 0.
-pub(crate) fn descriptors(event: &DecodedRecord) -> &[Descriptor]
-    ensures { result.now ≡ descriptors event.now }
+/// The descriptors of a message, by place, counted from 0; a Resolve's stands at place 0.
+pub fn descriptors_of(message: &RpcMessage) -> &[Descriptor]
+    ensures { result.now ≡ descriptors_of message.now }
 {
-    let DecodedRecord::Wire { message, .. } = event else {
-        return &[];
-    };
     match message {
         RpcMessage::Call { params, .. } => params.descriptors.as_slice(),
         RpcMessage::Return {
@@ -191,6 +188,16 @@ pub(crate) fn descriptors(event: &DecodedRecord) -> &[Descriptor]
             resolution: Resolution::Cap(descriptor),
             ..
         } => slice::from_ref(descriptor),
+        _ => &[],
+    }
+}
+
+/// The descriptors of a record.
+pub(crate) fn descriptors(event: &DecodedRecord) -> &[Descriptor]
+    ensures { result.now ≡ descriptors event.now }
+{
+    match event {
+        DecodedRecord::Wire { message, .. } => descriptors_of(message),
         _ => &[],
     }
 }

@@ -2,6 +2,7 @@
 
 pub(crate) mod bindings;
 pub(crate) mod decoded;
+pub(crate) mod decoding;
 pub(crate) mod effects;
 pub(crate) mod introduced;
 pub(crate) mod number;

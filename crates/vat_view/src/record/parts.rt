@@ -1,44 +1,108 @@
 //! What one record opens, binds, names and uses.
 
 ghost use Rattle.std.specs.Prelude.{◌≡◌, option_to_list};
-ghost use Rattle.vat_view.specs.Questions.{question_opened, question_returned, question_finished, question_taken};
-ghost use Rattle.vat_view.specs.Lives.{descriptors};
+ghost use Rattle.vat_view.specs.Questions.{question_opened, question_returned, question_returned_lightly, question_finished, question_taken, asks_elsewhere, noted_call};
+ghost use Rattle.vat_view.specs.Lives.{descriptors, number_introduced, promise_resolved};
+ghost use Rattle.vat_view.specs.Loopbacks.{sender_loopback, receiver_loopback};
 ghost use Rattle.vat_view.specs.Views.{references};
 ghost use Rattle.vat_view.specs.Uses.{question_targeted, question_described, number_targeted, number_described, number_released};
-ghost use Rattle.vat_view.specs.Bindings.{new_references, new_calls, named_calls};
+ghost use Rattle.vat_view.specs.Bindings.{new_references, new_calls};
 
 use crate::record::decoded::DecodedRecord;
 use crate::record::table_key::TableKey;
 use crate::record::{bindings, effects};
-use rpc_view::{Descriptor, RpcMessage, Target};
+use crate::tables::waits::loopbacks;
+use rpc_view::{Descriptor, Loopback, RpcMessage, Target};
 
 impl DecodedRecord {
     /// The question that it opens: a Bootstrap's or a Call's.
-    pub(crate) fn question_opened(&self) -> Option<TableKey>
+    pub fn question_opened(&self) -> Option<TableKey>
         ensures { result ≡ question_opened self.now }
     {
         effects::question_opened(self)
     }
 
     /// The question that it returns.
-    pub(crate) fn question_returned(&self) -> Option<TableKey>
+    pub fn question_returned(&self) -> Option<TableKey>
         ensures { result ≡ question_returned self.now }
     {
         effects::question_returned(self)
     }
 
+    /// The question that it returns by a Return that says that no Finish is needed (rpc.capnp, `Return.noFinishNeeded`).
+    pub fn question_returned_lightly(&self) -> Option<TableKey>
+        ensures { result ≡ question_returned_lightly self.now }
+    {
+        effects::question_returned_lightly(self)
+    }
+
     /// The question that it finishes.
-    pub(crate) fn question_finished(&self) -> Option<TableKey>
+    pub fn question_finished(&self) -> Option<TableKey>
         ensures { result ≡ question_finished self.now }
     {
         effects::question_finished(self)
     }
 
     /// The question whose results it takes: one of its own sender's.
-    pub(crate) fn question_taken(&self) -> Option<TableKey>
+    pub fn question_taken(&self) -> Option<TableKey>
         ensures { result ≡ question_taken self.now }
     {
         effects::question_taken(self)
+    }
+
+    /// The number under which it asks for an echo: one of its sender's.
+    pub fn sender_loopback(&self) -> Option<TableKey>
+        ensures { result ≡ sender_loopback self.now }
+    {
+        match self {
+            DecodedRecord::Wire {
+                sent,
+                connection,
+                message: RpcMessage::Disembargo {
+                    number,
+                    loopback: Loopback::Sender,
+                    ..
+                },
+                ..
+            } => Some(TableKey::of_sender(*sent, *connection, *number)),
+            _ => None,
+        }
+    }
+
+    /// The number that it echoes: one of its receiver's.
+    pub fn receiver_loopback(&self) -> Option<TableKey>
+        ensures { result ≡ receiver_loopback self.now }
+    {
+        loopbacks::receiver_loopback(self)
+    }
+
+    /// The promise that it resolves: one of its sender's exports.
+    pub fn promise_resolved(&self) -> Option<TableKey>
+        ensures { result ≡ promise_resolved self.now }
+    {
+        effects::promise_resolved(self)
+    }
+
+    /// The number that one of its descriptors introduces: senderHosted and senderPromise name one of the sender's
+    /// exports.
+    pub fn number_introduced(&self, descriptor: &Descriptor) -> Option<TableKey>
+        ensures { result ≡ number_introduced self.now descriptor.now }
+    {
+        effects::number_introduced(self, descriptor)
+    }
+
+    /// Whether it is a Call whose results are to be sent elsewhere: sendResultsTo is yourself.
+    pub fn asks_elsewhere(&self) -> bool
+        ensures { result ≡ asks_elsewhere self.now }
+    {
+        effects::asks_elsewhere(self)
+    }
+
+    /// The call noted beside it, 0 where none is.
+    pub fn noted_call(&self) -> u64
+        ensures { result ≡ noted_call self.now }
+    {
+        effects::noted_call(self)
     }
 
     /// Its descriptors, by place, counted from 0; a Resolve's stands at place 0.
@@ -49,7 +113,7 @@ impl DecodedRecord {
     }
 
     /// The references noted beside it.
-    pub(crate) fn references(&self) -> &[u64]
+    pub fn references(&self) -> &[u64]
         ensures { result.now ≡ references self.now }
     {
         effects::references(self)
@@ -84,7 +148,7 @@ impl DecodedRecord {
     }
 
     /// The question that its target names: one of the sender's.
-    pub(crate) fn question_targeted(&self) -> Option<TableKey>
+    pub fn question_targeted(&self) -> Option<TableKey>
         ensures { result ≡ question_targeted self.now }
     {
         match self {
@@ -106,7 +170,7 @@ impl DecodedRecord {
     }
 
     /// The question that one of its descriptors names: one of the sender's.
-    pub(crate) fn question_described(&self, descriptor: &Descriptor) -> Option<TableKey>
+    pub fn question_described(&self, descriptor: &Descriptor) -> Option<TableKey>
         ensures { result ≡ question_described self.now descriptor.now }
     {
         match (self, descriptor) {
@@ -123,7 +187,7 @@ impl DecodedRecord {
     }
 
     /// The number that its target names: one of the receiver's exports.
-    pub(crate) fn number_targeted(&self) -> Option<TableKey>
+    pub fn number_targeted(&self) -> Option<TableKey>
         ensures { result ≡ number_targeted self.now }
     {
         match self {
@@ -145,7 +209,7 @@ impl DecodedRecord {
     }
 
     /// The number that one of its descriptors uses: receiverHosted names one of the receiver's exports.
-    pub(crate) fn number_described(&self, descriptor: &Descriptor) -> Option<TableKey>
+    pub fn number_described(&self, descriptor: &Descriptor) -> Option<TableKey>
         ensures { result ≡ number_described self.now descriptor.now }
     {
         match (self, descriptor) {
@@ -162,7 +226,7 @@ impl DecodedRecord {
     }
 
     /// The number that it releases: one of the receiver's exports.
-    pub(crate) fn number_released(&self) -> Option<TableKey>
+    pub fn number_released(&self) -> Option<TableKey>
         ensures { result ≡ number_released self.now }
     {
         match self {

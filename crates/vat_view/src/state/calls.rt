@@ -5,7 +5,7 @@ ghost use Rattle.vat_view.specs.declared.view.View.{View};
 ghost use Rattle.vat_view.specs.Bindings.{is_bound_call};
 ghost use Rattle.vat_view.specs.Calls.{request_of, goal_of, is_at_vat, is_served, is_settled, is_known, answered_by};
 
-use crate::asked::Asked;
+use crate::request::Request;
 use crate::state::VatState;
 use crate::view::View;
 use std::alloc::AllocError;
@@ -24,7 +24,7 @@ impl VatState {
     /// # Errors
     ///
     /// Out of memory.
-    pub fn request_of(&self, call: u64) -> Result<Option<Asked>, AllocError>
+    pub fn request_of(&self, call: u64) -> Result<Option<Request>, AllocError>
         ensures { IfOk result (λ asks. asks ≡ request_of call self.now) }
     {
         self.tables.calls.request_of(call)

@@ -1,8 +1,8 @@
 //! Where views lead.
 
-ghost use Rattle.std.specs.Prelude.{◌≡◌, ◌<◌, ◌↔◌, Decides, IsTrue, MatchOption};
+ghost use Rattle.std.specs.Prelude.{◌≡◌, ◌<◌, ◌↔◌, Decides, IsTrue, MatchOption, option_map};
 ghost use Rattle.vat_view.specs.declared.view.View.{View};
-ghost use Rattle.vat_view.specs.Walks.{next, stays, Leads, LeadsByTurns, IsEnd};
+ghost use Rattle.vat_view.specs.Walks.{next, stays, turned_to, Leads, LeadsByTurns, IsEnd};
 ghost use Rattle.vat_view.specs.Connections.{LeadsOver, LeadsElsewhere};
 ghost use Rattle.vat_view.specs.Borrowed.{as_view};
 
@@ -20,6 +20,17 @@ impl VatState {
         ensures { IsTrue result ↔ (next self.now view.now ≡ stays) }
     {
         hops::stays(&self.tables.turns, BorrowedView::of(view))
+    }
+
+    /// The view to which a view turns, if it does. It takes no memory.
+    pub fn turned_to<'a>(&'a self, view: &'a View) -> Option<BorrowedView<'a>>
+        ensures { option_map as_view result ≡ turned_to (next self.now view.now) }
+    {
+        hops::turned_to(
+            &self.tables.turns,
+            &self.tables.bound,
+            BorrowedView::of(view),
+        )
     }
 
     /// Whether a view leads to another, by 0 or more turns. Each of its walks, four at most, comes to at most as many views

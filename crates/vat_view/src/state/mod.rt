@@ -1,12 +1,13 @@
 //! The state of a vat's numbers after some records of its log.
 
-ghost use Rattle.std.specs.Prelude.{◌≡◌, [], ◌∷◌, IfOk, OnOk, OnErr};
+ghost use Rattle.std.specs.Prelude.{◌≡◌, [], ◌∷◌, Decides, IfOk, OnOk, OnErr};
 ghost use Rattle.vat_view.specs.declared.view.View.{View};
 ghost use Rattle.vat_view.specs.Numbers.{number_held, number_stands};
 ghost use Rattle.vat_view.specs.Lives.{GivesBackHeld};
 ghost use Rattle.vat_view.specs.Uses.{UsesQuestions, UsesNumbers};
-ghost use Rattle.vat_view.specs.Views.{view_of_reference};
+ghost use Rattle.vat_view.specs.Views.{view_of_reference, view_of_number};
 ghost use Rattle.vat_view.specs.Bindings.{Refers, NotesEach};
+ghost use Rattle.vat_view.specs.Sound.{IsSound};
 
 mod calls;
 mod connections;
@@ -18,6 +19,7 @@ mod shortening;
 use crate::lookups::meaning;
 use crate::record::decoded::DecodedRecord;
 use crate::record::number::Number;
+use crate::record::table_key::TableKey;
 use crate::tables::all_tables::AllTables;
 use crate::view::View;
 use cap_frame::Path;
@@ -92,6 +94,17 @@ impl VatState {
         meaning::view_of_reference(&self.tables.bound, reference)
     }
 
+    /// What an export or import number stands for, where it is in life: the view with which its life began.
+    ///
+    /// # Errors
+    ///
+    /// Out of memory.
+    pub fn view_of_number(&self, number: TableKey) -> Result<Option<View>, AllocError>
+        ensures { IfOk result (λ view. view ≡ view_of_number number self.now) }
+    {
+        meaning::view_of_number(&self.tables.bound, &self.tables.lives, number)
+    }
+
     /// What a number of a connection stands for: an export or import in life for the view with which its life began, a
     /// question or answer that isn't over for the field of its call at the path, which counts for these two alone. It is
     /// over when both its Return and its Finish have passed.
@@ -116,6 +129,30 @@ impl VatState {
                 meaning::field_of(&self.tables.questions, id, path)
             }
         }
+    }
+
+    /// Whether [`apply`](VatState::apply) may be called with a record: it names, uses and gives back things as it should
+    /// after those applied, and notes a reference for each capability.
+    ///
+    /// # Errors
+    ///
+    /// Out of memory.
+    pub fn is_sound(&self, event: &DecodedRecord) -> Result<bool, AllocError>
+        ensures { IfOk result (λ sound. Decides sound (IsSound self.now event.now)) }
+    {
+        if !self.refers(event)? {
+            return Ok(false);
+        }
+        if !self.uses_questions(event) {
+            return Ok(false);
+        }
+        if !self.uses_numbers(event) {
+            return Ok(false);
+        }
+        if !self.gives_back_held(event)? {
+            return Ok(false);
+        }
+        Ok(self.notes_each(event))
     }
 
     /// Applies a record, which keeps the rules that are named after those applied.

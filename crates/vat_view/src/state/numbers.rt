@@ -5,7 +5,6 @@ ghost use Rattle.vat_view.specs.declared.view.View.{View};
 ghost use Rattle.vat_view.specs.Questions.{is_late};
 ghost use Rattle.vat_view.specs.Lives.{GivesBackHeld, KeepsKinds, birth, began_promised, is_in_life, is_resolved};
 ghost use Rattle.vat_view.specs.Views.{view_of_reference, view_of_target, descriptor_view, views_of_descriptors};
-ghost use Rattle.vat_view.specs.Walks.{next};
 ghost use Rattle.vat_view.specs.Bindings.{is_bound};
 
 use crate::apply::tables;

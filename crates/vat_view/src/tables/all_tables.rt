@@ -15,14 +15,14 @@ use crate::record::effects::{descriptors, promise_resolved};
 use crate::tables::arrivals::{Arrivals, arriving_over};
 use crate::tables::calls::Calls;
 use crate::tables::connections::Connections;
-use crate::tables::embargoes::Embargoes;
 use crate::tables::exports_imports::ExportsImports;
-use crate::tables::loopbacks::{asks_for_echo, sender_loopback};
 use crate::tables::questions::Questions;
 use crate::tables::references::BoundReferences;
-use crate::tables::resolves::Resolves;
-use crate::tables::settlements::Settlements;
-use crate::tables::waiting_calls::call_taken_by;
+use crate::tables::turns::resolves::Resolves;
+use crate::tables::turns::settlements::Settlements;
+use crate::tables::waits::embargoes::Embargoes;
+use crate::tables::waits::loopbacks::{asks_for_echo, sender_loopback};
+use crate::tables::waits::waiting_calls::call_taken_by;
 use std::alloc::{AllocError, Global};
 
 /// What is kept of the records that were applied.

@@ -4,14 +4,14 @@ ghost use Rattle.std.specs.Prelude.{◌≡◌};
 ghost use Rattle.std.specs.Option.{option_copied};
 ghost use Rattle.vat_view.specs.Glue.CallTables.{aim_in, call_state_in, after_change};
 
-use crate::asked::Asked;
+use crate::request::Request;
 use crate::view::View;
 
 /// What is known of a call that is bound.
 #[derive(Drop)]
 pub(crate) struct CallState {
     /// What it asked for when it came to the vat, if it came.
-    pub(crate) asked: Option<Asked>,
+    pub(crate) asked: Option<Request>,
     /// Whether it is at the vat.
     pub(crate) at_vat: bool,
     /// Whether it was delivered here, or is that of a received Bootstrap.
@@ -59,7 +59,7 @@ impl CallEntry {
         } = progress;
         let (came, goal, interface, method) = match asked {
             Some(
-                Asked {
+                Request {
                     goal,
                     interface,
                     method,

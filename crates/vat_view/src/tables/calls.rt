@@ -5,7 +5,7 @@ ghost use Rattle.std.specs.Option.{option_copied};
 ghost use Rattle.vat_view.specs.Glue.CallTables.{call_state_at, request_in, goal_in, at_vat_in, served_in, settled_in, known_in, after_change};
 ghost use Rattle.vat_view.specs.Glue.LoopTables.{same_target};
 
-use crate::asked::Asked;
+use crate::request::Request;
 use crate::tables::call_state::{CallChange, CallEntry, CallState};
 use crate::view::View;
 use rising_table::RisingTable;
@@ -35,7 +35,7 @@ impl Calls {
     }
 
     /// What this call asked for when it came to the vat, if it came.
-    pub(crate) fn request_of(&self, call: u64) -> Result<Option<Asked>, AllocError>
+    pub(crate) fn request_of(&self, call: u64) -> Result<Option<Request>, AllocError>
         ensures { IfOk result (λ asked. asked ≡ request_in (call_state_at self.now call)) }
     {
         match self.entries.get(call) {
@@ -44,7 +44,7 @@ impl Calls {
                     Some(view) => Some(view.copy()?),
                     None => None,
                 };
-                Ok(Some(Asked {
+                Ok(Some(Request {
                     goal,
                     interface: entry.interface,
                     method: entry.method,

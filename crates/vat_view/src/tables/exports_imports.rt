@@ -1,7 +1,6 @@
 //! The table of export and import numbers.
 
-ghost use Rattle.std.specs.Prelude.{◌≡◌, ◌+◌, ◌-◌, ◌<◌, ◌==◌, ◌&&◌, ℕ, Some, count_by, find, OnOk, OnErr, if◌then◌else◌};
-ghost use Rattle.std.specs.Option.{option_or};
+ghost use Rattle.std.specs.Prelude.{◌≡◌, ◌+◌, ◌-◌, ◌<◌, ◌==◌, ◌&&◌, Some, count_by, OnOk, OnErr, if◌then◌else◌};
 ghost use Rattle.vat_view.specs.declared.record.table_key.TableKey.{TableKey};
 ghost use Rattle.vat_view.specs.Past.{same_id};
 ghost use Rattle.vat_view.specs.Glue.Tables.{life_at, count_at, origin_at, begun_at, kept_origin, held_origin, raised_origin};

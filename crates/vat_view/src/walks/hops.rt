@@ -8,7 +8,7 @@ ghost use Rattle.vat_view.specs.Glue.TurnTables.{settled_at, goes_by, turn_by, l
 
 use crate::borrowed_view::BorrowedView;
 use crate::tables::references::BoundReferences;
-use crate::tables::settlements::Settlements;
+use crate::tables::turns::settlements::Settlements;
 use crate::walks::landing::Landing;
 
 /// Whether no record settled a view.

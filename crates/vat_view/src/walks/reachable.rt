@@ -12,7 +12,7 @@ use crate::borrowed_view::BorrowedView;
 use crate::tables::arrivals::Arrivals;
 use crate::tables::connections::Connections;
 use crate::tables::references::BoundReferences;
-use crate::tables::settlements::Settlements;
+use crate::tables::turns::settlements::Settlements;
 use crate::walks::hops::{further, most_turns, turned_to};
 use rpc_view::Edition;
 

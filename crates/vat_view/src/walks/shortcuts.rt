@@ -2,13 +2,13 @@
 
 ghost use Rattle.std.specs.Prelude.{◌≡◌, ℕ, Some, IfSome};
 ghost use Rattle.vat_view.specs.Glue.Tables.{bound_at};
-ghost use Rattle.vat_view.specs.Glue.TurnTables.{turns_of, onward_by, call_onward_by, joined, IsJoined, SaysSameTurns, HaveAhead, IsAhead, IsCallAhead};
+ghost use Rattle.vat_view.specs.Glue.TurnTables.{turns_of, onward_by, call_onward_by, joined, IsJoined, SaysSameTurns, HaveAhead, IsCallAhead};
 
 use crate::borrowed_view::BorrowedView;
 use crate::record::table_key::TableKey;
 use crate::tables::exports_imports::ExportsImports;
 use crate::tables::references::{BoundReferences, Shortcut};
-use crate::tables::settlements::Settlements;
+use crate::tables::turns::settlements::Settlements;
 use crate::walks::hops::{landed_by, reference_by, turned_to, view_of};
 use crate::walks::landing::Landing;
 

@@ -2,7 +2,7 @@ use Rattle.std.proofs.Common.{length, Option, subst}
 use Rattle.std.specs.Prelude.{◌≤◌, MatchOption}
 use Rattle.case_book.specs.Case.{Contents}
 use Rattle.case_book.specs.Pieces.{pieces_of, IsForPiece}
-use Rattle.case_book.specs.declared.finding.Finding.{Finding}
+use Rattle.case_book.specs.declared.piece_finding.Finding.{Finding}
 use Rattle.audit_core.proofs.Posting.{missing_claimed, none_is_missing}
 use Rattle.audit_core.proofs.auditing.finish.Goals as goal
 

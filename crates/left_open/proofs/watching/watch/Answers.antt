@@ -10,4 +10,4 @@ pub returns-then-not-branch : goal.returns-then-not-branch
 returns-then-not-branch c = λ all.
     let e : DecodedRecord = c.index-records-at.result in
     let there : slice_get c.args.records.now c.loop-at.at ≡ Some e = slice_get-get_or c.args.records.now c.loop-at.at e c.loop-at-test.true ∙ ap (λ x. Some x) (sym c.index-records-at.is) in
-    refused c.in_ok-may_apply.field-0 c.if-not-branch.true c.in_ok-may_apply.ensures (rw c.loop-at.invariant.past (kept_at IsSound c.args.records.now c.loop-at.at e there all))
+    refused c.in_ok-is_sound.field-0 c.if-not-branch.true c.in_ok-is_sound.ensures (rw c.loop-at.invariant.past (kept_at IsSound c.args.records.now c.loop-at.at e there all))

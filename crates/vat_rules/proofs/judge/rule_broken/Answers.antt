@@ -1,15 +1,21 @@
-use Rattle.std.proofs.Common.{rules}
-use Rattle.vat_rules.proofs.Asked.{carrying_where_asked, others_where_asked}
+use Rattle.std.proofs.Common.{◌+◌, drop, arith}
+use Rattle.std.proofs.lemmas.Bool.Decides.{not_from_Decides}
+use Rattle.std.proofs.lemmas.List.{drop_more, drop_all}
+use Rattle.vat_rules.specs.declared.rule.Rule.TheVariants as rule
+use Rattle.vat_rules.proofs.Sufficing.{remain_none, remain_broken, suffice_broken, suffice_good}
 use Rattle.vat_rules.proofs.judge.rule_broken.Goals as goal
 
-pub returns-in-Call : goal.returns-in-Call
-returns-in-Call c =
-    carrying_where_asked c.args.edition c.args.state.now c.args.event.now c.in-Wire.is c.in-Call.is (search rules) (search rules) c.call_broken.result (c.call_broken.ensures c.args.edition)
+pub returns-then-not-branch : goal.returns-then-not-branch
+returns-then-not-branch c =
+    let asked = c.asked-asked.result.now in
+    let at = c.loop-rule.rule-index in
+    suffice_broken c.args.edition c.args.state.now c.args.event.now asked _ c.asked-asked.ensures
+    (remain_broken c.args.edition c.args.state.now c.args.event.now _ (drop at asked) (drop (at + 1) asked) asked (drop_more asked at rule.Closed (omega (arith, c.loop-rule-test.true)))
+    (not_from_Decides _ c.in_ok-meets.ensures c.if-not-branch.true) c.loop-rule.invariant)
 
-pub returns-in-Return : goal.returns-in-Return
-returns-in-Return c =
-    carrying_where_asked c.args.edition c.args.state.now c.args.event.now c.in-Wire.is c.in-Return.is (search rules) (search rules) c.return_broken.result c.return_broken.ensures
-
-pub returns-in_default-message : goal.returns-in_default-message
-returns-in_default-message c =
-    others_where_asked c.args.edition c.args.state.now c.args.event.now c.in-Wire.is (search rules) (search rules) c.others_broken.result c.others_broken.ensures
+pub returns : goal.returns
+returns c =
+    let asked = c.asked-asked.result.now in
+    let at = c.loop-rule.rule-index in
+    suffice_good c.args.edition c.args.state.now c.args.event.now asked c.asked-asked.ensures
+    (remain_none c.args.edition c.args.state.now c.args.event.now (drop at asked) asked (drop_all at asked (omega (arith, c.loop-rule-test.false))) c.loop-rule.invariant)

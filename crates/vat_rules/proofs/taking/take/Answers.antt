@@ -1,11 +1,15 @@
-use Rattle.vat_rules.specs.Audit.{reads_by}
+use Rattle.vat_rules.proofs.Judging.{good_sound}
 use Rattle.vat_rules.proofs.taking.take.Goals as goal
 
-pub returns-in-Field : goal.returns-in-Field
-returns-in-Field c = rw c.in-Field.is (c.take_field.ensures c.args.edition (reads_by c.args.edition c.args.limits))
+pub apply_good-requires : goal.apply_good-requires
+apply_good-requires c = good_sound c.args.edition c.args.state.now c.args.event.now (rw c.in-None.is at c.in_ok-rule.ensures)
 
-pub returns-in-Answer : goal.returns-in-Answer
-returns-in-Answer c = rw c.in-Answer.is (c.take_answer.ensures c.args.edition (reads_by c.args.edition c.args.limits))
+pub returns-in_ok-facts_of-in-None : goal.returns-in_ok-facts_of-in-None
+returns-in_ok-facts_of-in-None c = record {
+  good = rw c.in-None.is at c.in_ok-rule.ensures;
+  state = c.in_ok-apply_good-in-None.ensures;
+  known = c.in_ok-facts_of-in-None.ensures c.args.state.now c.in_ok-apply_good-in-None.ensures c.in_ok-facts.ensures;
+}
 
-pub returns-in_default : goal.returns-in_default
-returns-in_default c = c.take_own.ensures c.args.edition (reads_by c.args.edition c.args.limits) c.args.body.now (c.flat_event.ensures.is (reads_by c.args.edition c.args.limits))
+pub returns-in-Some : goal.returns-in-Some
+returns-in-Some c = rw c.in-Some.is at c.in_ok-rule.ensures

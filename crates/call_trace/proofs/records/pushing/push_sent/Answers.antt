@@ -7,6 +7,6 @@ pub returns-in_ok-push : goal.returns-in_ok-push
 returns-in_ok-push c =
     let run = c.args.steps.now.items in
     let vat = c.args.ledger.now.vat in
-    let said : Some c.in-Some.message ≡ sent_said (names_in run c.args.ledger.now) c.args.seen.now c.args.noted.1 c.args.message.now =
-    sym c.in-Some.is ∙ c.in_ok-message.ensures ∙ ap (λ xs. sent_said (names_in xs c.args.ledger.now) c.args.seen.now c.args.noted.1 c.args.message.now) c.deref.ensures.value in
+    let said : Some c.in-Some.message ≡ sent_said (names_in run c.args.ledger.now) c.args.facts.now c.args.noted.1 c.args.message.now =
+    sym c.in-Some.is ∙ c.in_ok-message.ensures ∙ ap (λ xs. sent_said (names_in xs c.args.ledger.now) c.args.facts.now c.args.noted.1 c.args.message.now) c.deref.ensures.value in
     c.in_ok-push.ensures.items ∙ ap (λ o. pushed (option_map (λ m. step.Send vat c.args.noted.0 m) o) run) said

@@ -5,5 +5,5 @@ use Rattle.call_trace.proofs.records.saying.results_said.Given as goal
 abbrev pub invariant-loop-path : goal.invariant-loop-path
 invariant-loop-path l = record {
   at : length l.said.items ≡ l.path-index;
-  rest : gathered_behind l.said.items (results_from (names_in l.steps l.ledger) l.seen.references (length l.said.items) (drop l.path-index l.results)) ≡ results_said (names_in l.steps l.ledger) l.seen.references l.results;
+  rest : gathered_behind l.said.items (results_from (names_in l.steps l.ledger) l.facts.references (length l.said.items) (drop l.path-index l.results)) ≡ results_said (names_in l.steps l.ledger) l.facts.references l.results;
 }

@@ -13,22 +13,22 @@ unreachable-requires-in_default-2 c =
     let ledger = c.note.new.self in
     not_none _ has.there
     (takes_none c.args.event.now c.requires.received c.in-Wire.sent c.in-Wire.connection c.in-Wire.call c.in-Wire.references c.in-Wire.message (sym c.in-Wire.is)
-    has.vat has.past has.own run c.push.new.self.items c.args.message c.args.seen.now c.len-number.result c.args.ledger.now
-    c.bind.new.self ledger ledger.vat has.kept has.sight
+    has.vat has.past has.own run c.push.new.self.items c.args.message c.args.facts.now c.len-number.result c.args.ledger.now
+    c.bind.new.self ledger ledger.vat has.kept has.known
     (subst (λ named. IsBound named c.args.ledger.now c.bind.new.self) c.call_bound_by.ensures c.in_ok-bind.ensures) c.in_ok-note.ensures number refl
     (c.in_ok-push.ensures.items ∙ ap (λ l. run ++ Receive ledger.vat c.in-Wire.connection c.args.message l ∷ []) (c.new-2.ensures ∙ c.new.ensures.items))
     (sym c.in_default-2.is ∙ c.in_ok-bound.ensures ∙ ap₂ (λ steps views. named_said (names_in steps ledger) views) c.deref.ensures.value c.references.ensures))
 
 pub returns : goal.returns
-returns c = λ v es own kept seen.
+returns c = λ v es own kept facts.
     let run = c.args.steps.now.items in
     let long : vec_len c.args.steps.now ≡ length run = c.args.steps.now.ok.0 in
     let number : c.len-number.result ≡ length run = c.len-number.ensures ∙ long in
     let ledger = c.note.new.self in
     let more = c.in_ok-push.ensures.items ∙ ap (λ l. run ++ Receive ledger.vat c.in-Wire.connection c.args.message l ∷ []) (c.new-2.ensures ∙ c.new.ensures.items) in
     takes c.args.event.now c.requires.received c.in-Wire.sent c.in-Wire.connection c.in-Wire.call c.in-Wire.references c.in-Wire.message (sym c.in-Wire.is)
-    v es own run c.push.new.self.items _ c.args.message c.args.seen.now c.len-number.result c.args.ledger.now
-    c.bind.new.self ledger ledger.vat c.in-Some.bound kept seen
+    v es own run c.push.new.self.items _ c.args.message c.args.facts.now c.len-number.result c.args.ledger.now
+    c.bind.new.self ledger ledger.vat c.in-Some.bound kept facts
     (subst (λ named. IsBound named c.args.ledger.now c.bind.new.self) c.call_bound_by.ensures c.in_ok-bind.ensures) c.in_ok-note.ensures number refl
     more
     (sym c.in-Some.is ∙ c.in_ok-bound.ensures ∙ ap₂ (λ steps views. named_said (names_in steps ledger) views) c.deref.ensures.value c.references.ensures)

@@ -1,4 +1,4 @@
-use Rattle.vat_rules.proofs.Asked.{noted_views}
+use Rattle.vat_rules.proofs.Noted.{noted_views}
 use Rattle.vat_rules.proofs.facts.lookup.views_of_references.Goals as goal
 
 pub returns-in-Wire : goal.returns-in-Wire

@@ -1,5 +1,5 @@
 use Rattle.std.proofs.Common.{◌≡◌, ◌∙◌, ap, ℕ, option_map}
-use Rattle.vat_view.specs.declared.tables.settlements.Settlements.{Settlements}
+use Rattle.vat_view.specs.declared.tables.turns.settlements.Settlements.{Settlements}
 use Rattle.vat_view.specs.Past.{Past}
 use Rattle.vat_view.specs.Calls.{answered_by}
 use Rattle.vat_view.specs.Glue.TurnTables.{AreSettled, handover_at}

@@ -1,6 +1,7 @@
 use Rattle.std.proofs.Common.{sym, ap, ◌+◌, arith}
 use Rattle.vat_view.specs.Borrowed.{as_view}
-use Rattle.vat_view.specs.Glue.TurnTables.{turned_to, turns_of}
+use Rattle.vat_view.specs.Glue.TurnTables.{turns_of}
+use Rattle.vat_view.specs.Walks.{turned_to}
 use Rattle.vat_view.proofs.Hopping.{walked_none, walked_on, walked_marked, meets_mark}
 use Rattle.vat_view.proofs.Ending.{ends_at, goes_for_ever}
 use Rattle.vat_view.proofs.walks.hops.end.Goals.{then-is_power_of_two, else-is_power_of_two}

@@ -1,4 +1,4 @@
-use Rattle.std.proofs.Common.{◌∙◌, sym, ap, subst, ◌∷◌, ℕ, Option, option_and_then, slice_get}
+use Rattle.std.proofs.Common.{◌∙◌, sym, ap, subst, ◌∷◌, ℕ, option_and_then, slice_get}
 use Rattle.agree.specs.Rows.{log_of_vat}
 use Rattle.run_model.specs.declared.step.Step.TheVariants as step
 use Rattle.call_trace.specs.Glue.Ledgers.{received_step}
@@ -32,7 +32,7 @@ pub take_received-requires-clause-has_step : goal.take_received-requires-clause-
 take_received-requires-clause-has_step c =
     let on = c.requires.goes_on in
     let w = c.in-Wire in
-    received_there c.args.event.now c.requires.received w.sent w.connection w.call w.references w.message (sym w.is) c.args.seen.now c.args.self.now c.args.ledger.now c.in-Some-2.message on
+    received_there c.args.event.now c.requires.received w.sent w.connection w.call w.references w.message (sym w.is) c.args.facts.now c.args.self.now c.args.ledger.now c.in-Some-2.message on
     (ap (λ (u : ℕ). coming_next u w.connection on.before) (sym on.next.kept.vat)
     ∙ comes_at _ w.connection on.before _ _ c.in-Some.number _ (c.in_ok-number.ensures.next on.before on.next.trail.lines) c.in-Some.is on.next.trail.steps (c.in_ok-message.ensures ∙ ap (λ xs. option_and_then message_of_step (slice_get xs c.in-Some.number)) c.deref.ensures.value)
     ∙ c.in-Some-2.is)
@@ -52,5 +52,5 @@ returns c =
     (c.in_ok-number.ensures.received before c.in-Some-2.message bound (ap (λ (u : ℕ). coming_next u w.connection before) next.kept.vat ∙ coming) next.trail.lines))
     (with_steps v (log_of_vat v row) e (steps_by v before) c.args.self.now.steps.items before (received_step v (log_of_vat v row) (steps_by v before) e c.in-Some-2.message) new.steps.items new.ledger
     next.trail.steps
-    (ensures v (log_of_vat v row) (steps_by v before) (kept_in v row before c.args.self.now.steps.items c.args.ledger.now next.trail.steps next.kept) next.sight)))
+    (ensures v (log_of_vat v row) (steps_by v before) (kept_in v row before c.args.self.now.steps.items c.args.ledger.now next.trail.steps next.kept) next.known)))
     c.take_received.ensures

@@ -2,9 +2,9 @@ use Rattle.std.proofs.Common.{◌∙◌, sym, ap, option_map}
 use Rattle.std.specs.Option.{option_copied}
 use Rattle.call_trace.specs.Named.{past_before}
 use Rattle.call_trace.specs.Taking.{taken_by}
-use Rattle.vat_rules.specs.Telling.{seen_of}
+use Rattle.vat_rules.specs.Telling.{facts_of}
 use Rattle.call_trace.proofs.Keeping.{on_ok}
-use Rattle.call_trace.proofs.Turning.{comes_next, takes, skips, next_of, so_many, some_seen}
+use Rattle.call_trace.proofs.Turning.{comes_next, takes, skips, next_of, so_many, some_facts}
 use Rattle.call_trace.proofs.steps.run_builder.RunBuilder.turn.Goals as goal
 
 pub take-requires : goal.take-requires
@@ -15,9 +15,9 @@ take-requires c =
     let many = c.len-number.ensures ∙ ledger.numbers.ok.0 ∙ so_many t.vat (taken_by t.findings t.turns) t.before ledger t.turn.kept in
     let n = next_of t.findings t.turns t.vat f c.len-number.result c.requires.of_the_log c.requires.good t.turn.found many in
     let event = sym c.event_at.ensures ∙ ap option_copied c.in-Some-Some.is-0 in
-    comes_next f c.in-Some-Some.event.now c.in-Some-Some.seen.now c.args.self.now ledger t (n.next ∙ event)
-    (some_seen (ap option_copied (sym c.in-Some-Some.is-1) ∙ c.seen_at.ensures ∙ ap (option_map (λ e. seen_of (past_before f c.len-number.result) e)) event)
-    ∙ ap (λ es. seen_of es c.in-Some-Some.event.now) n.past)
+    comes_next f c.in-Some-Some.event.now c.in-Some-Some.facts.now c.args.self.now ledger t (n.next ∙ event)
+    (some_facts (ap option_copied (sym c.in-Some-Some.is-1) ∙ c.facts_at.ensures ∙ ap (option_map (λ e. facts_of (past_before f c.len-number.result) e)) event)
+    ∙ ap (λ es. facts_of es c.in-Some-Some.event.now) n.past)
 
 pub returns-in_default-2 : goal.returns-in_default-2
 returns-in_default-2 c = λ findings turns v before t.
@@ -41,7 +41,7 @@ returns c =
       so_far = t.so_far;
       trail = t.trail;
       kept = t.kept.0;
-      sight = some_seen (ap option_copied (sym c.in-Some-Some.is-1) ∙ c.seen_at.ensures ∙ ap (option_map (λ e. seen_of (past_before f c.len-number.result) e)) event)
-          ∙ ap (λ es. seen_of es e) n.past;
+      known = some_facts (ap option_copied (sym c.in-Some-Some.is-1) ∙ c.facts_at.ensures ∙ ap (option_map (λ e. facts_of (past_before f c.len-number.result) e)) event)
+          ∙ ap (λ es. facts_of es e) n.past;
     })))
     c.take.ensures

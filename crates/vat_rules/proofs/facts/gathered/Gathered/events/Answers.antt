@@ -5,5 +5,5 @@ use Rattle.vat_rules.proofs.facts.gathered.Gathered.events.Goals as goal
 
 pub returns : goal.returns
 returns c =
-    c.deref.ensures.value ∙ sym (events_of c.self.inside.events.items c.self.inside.seen.items c.self.invariant)
+    c.deref.ensures.value ∙ sym (events_of c.self.inside.events.items c.self.inside.facts.items c.self.invariant)
     ∙ ap (λ (told : List Entry). map (λ (entry : Entry). entry.event) told) c.self.view_is

@@ -1,9 +1,0 @@
-use Rattle.std.proofs.Common.{sym, ◌∙◌, ap, slice_get}
-use Rattle.std.specs.Option.{option_copied}
-use Rattle.call_trace.proofs.Storied.{seen_told}
-use Rattle.call_trace.proofs.records.stories.seen_at.Goals as goal
-
-pub returns : goal.returns
-returns c =
-    c.seen_of.ensures ∙ ap (λ items. slice_get items c.args.number) c.seen.ensures
-    ∙ seen_told c.args.finding.now c.in_ok-story.field-0.now c.story.ensures.of_the_log (sym c.story.ensures.story ∙ ap option_copied c.in_ok-story.was) c.args.number

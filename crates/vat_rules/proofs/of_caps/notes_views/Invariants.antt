@@ -1,9 +1,0 @@
-use Rattle.std.proofs.Common.{drop}
-use Rattle.std.specs.Prelude.{◌↔◌}
-use Rattle.std.specs.List.{AllByRecursion}
-use Rattle.vat_rules.specs.OfCaps.{NotesView}
-use Rattle.vat_rules.proofs.of_caps.notes_views.Given as goal
-
-abbrev pub invariant-loop-reference : goal.invariant-loop-reference
-invariant-loop-reference l =
-    AllByRecursion (NotesView l.state l.event) l.noted ↔ AllByRecursion (NotesView l.state l.event) (drop l.reference-index l.noted)

@@ -1,7 +1,0 @@
-use Rattle.std.proofs.Common.{◌≡◌, take}
-use Rattle.vat_view.specs.Lives.{descriptors}
-use Rattle.vat_view.specs.Views.{places_from}
-use Rattle.vat_rules.proofs.of_caps.places.Given as goal
-
-abbrev pub invariant-loop-place : goal.invariant-loop-place
-invariant-loop-place l = l.places.items ≡ places_from 0 (take l.place (descriptors l.event))

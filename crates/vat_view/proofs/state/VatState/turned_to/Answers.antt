@@ -1,0 +1,18 @@
+use Rattle.std.proofs.Common.{◌≡◌, ◌∙◌, ap, subst}
+use Rattle.std.specs.Prelude.{option_map}
+use Rattle.vat_view.specs.Types.{View}
+use Rattle.vat_view.specs.Borrowed.{as_view}
+use Rattle.vat_view.specs.Walks.{Next, next, turned_to}
+use Rattle.vat_view.specs.Glue.Tables.{bound_at}
+use Rattle.vat_view.specs.Glue.TurnTables.{goes_by}
+use Rattle.vat_view.proofs.Ending.{goes_so}
+use Rattle.vat_view.proofs.state.VatState.turned_to.Goals as goal
+
+pub returns : goal.returns
+returns c =
+    let going : View → Next = λ v. goes_by c.self.inside.tables.turns (bound_at c.self.inside.tables.bound) v in
+    let same : (v : View) → going v ≡ next c.args.self.now v =
+    goes_so c.self.inside.past.items c.args.self.now c.self.inside.tables.questions c.self.inside.tables.lives c.self.inside.tables.bound c.self.inside.tables.turns
+    c.self.view_is c.self.invariant.0.0.tabled c.self.invariant.0.2 in
+    subst (λ v. option_map as_view c.turned_to.result ≡ turned_to (next c.args.self.now v)) c.of.ensures
+    (c.turned_to.ensures ∙ ap (λ x. turned_to x) (same (as_view c.of.result)))

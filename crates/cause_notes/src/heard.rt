@@ -14,7 +14,7 @@ use wire_logs::WireAnswer;
 
 /// What was heard of the answer that was said last.
 #[derive(Clone, Copy, Debug, PartialEq, Eq)]
-pub(crate) enum Told {
+pub(crate) enum HeardAnswer {
     /// Nothing that people are told more of.
     Nothing,
     /// A fault of the input.
@@ -67,7 +67,7 @@ pub(crate) enum Told {
 #[derive(Debug, Drop)]
 pub struct Heard {
     is_noted: bool,
-    pub(crate) told: Told,
+    pub(crate) told: HeardAnswer,
     pub(crate) findings: Option<Findings>,
     pub(crate) log: Option<Arc<VatLog>>,
     pub(crate) wire: Option<WireFound>,
@@ -76,34 +76,38 @@ pub struct Heard {
 }
 
 /// What is heard of the report of a case.
-fn of_report(report: &Report) -> Told {
+fn of_report(report: &Report) -> HeardAnswer {
     let Some(rule) = report_sentence(report) else {
-        return Told::Yes;
+        return HeardAnswer::Yes;
     };
     match report {
         Report::Vat {
             vat,
             at,
             rule: breach,
-        } => Told::Broken {
+        } => HeardAnswer::Broken {
             vat: *vat,
             at: *at,
             breach: *breach,
             rule,
         },
-        Report::OutsideVat { vat, at, why } => Told::Outside {
+        Report::OutsideVat { vat, at, why } => HeardAnswer::Outside {
             vat: *vat,
             at: *at,
             why: why_sentence(*why),
         },
-        Report::Link { conn, end, message } => Told::Link {
-            connection: *conn,
+        Report::Link {
+            connection,
+            end,
+            message,
+        } => HeardAnswer::Link {
+            connection: *connection,
             end: *end,
             message: *message,
             rule,
         },
-        Report::OrderStep(_) | Report::NoOrder => Told::NoOrder(rule),
-        Report::Yes { .. } => Told::Yes,
+        Report::OrderStep(_) | Report::NoOrder => HeardAnswer::NoOrder(rule),
+        Report::Yes { .. } => HeardAnswer::Yes,
     }
 }
 
@@ -126,10 +130,10 @@ pub(crate) fn report_of(finding: &VatFinding) -> Option<Report> {
 }
 
 /// What is heard of the finding of a log.
-fn of_finding(finding: &SlimFinding) -> Told {
+fn of_finding(finding: &SlimFinding) -> HeardAnswer {
     let vat = finding.log().vat();
     match finding.outcome() {
-        SlimOutcome::Good(_) => Told::GoodLog,
+        SlimOutcome::Good(_) => HeardAnswer::GoodLog,
         SlimOutcome::Broken { at, rule } => of_report(&Report::Vat {
             vat,
             at: *at,
@@ -148,7 +152,7 @@ impl Heard {
     fn before(is_noted: bool) -> Heard {
         Heard {
             is_noted,
-            told: Told::Nothing,
+            told: HeardAnswer::Nothing,
             findings: None,
             log: None,
             wire: None,
@@ -173,10 +177,10 @@ impl Heard {
             Answer::Finding(finding) => of_finding(finding),
             Answer::Report(report) => of_report(report),
             Answer::NoOrder => of_report(&Report::NoOrder),
-            Answer::Wire(_) => Told::Wire,
-            Answer::Join(_) => Told::Join,
-            Answer::Fault(fault) => Told::Fault(*fault),
-            Answer::Message(_) | Answer::Order(_) | Answer::Migrated(_) => Told::Nothing,
+            Answer::Wire(_) => HeardAnswer::Wire,
+            Answer::Join(_) => HeardAnswer::Join,
+            Answer::Fault(fault) => HeardAnswer::Fault(*fault),
+            Answer::Message(_) | Answer::Order(_) | Answer::Migrated(_) => HeardAnswer::Nothing,
         };
         if let (true, Answer::Finding(finding)) = (self.is_noted, answer) {
             self.log = Arc::try_clone(finding.log()).ok();

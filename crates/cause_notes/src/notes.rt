@@ -3,7 +3,7 @@
 use crate::cases::call_order::put_order_cause;
 use crate::cases::link_notes::{put_counterpart, put_received};
 use crate::cases::other_findings::{put_links, put_others};
-use crate::heard::{Heard, Told};
+use crate::heard::{Heard, HeardAnswer};
 use crate::inputs::bad_input::{message_sentence, put_fault};
 use crate::inputs::unread::SearchingSource;
 use crate::joins::put_join;
@@ -60,15 +60,29 @@ fn put_unread_frame(
     }
 }
 
+/// Appends the notes of what else was found where a rule is broken; behind an overtaken call there is nothing else.
+fn put_beside(
+    alloc: Global,
+    text: &mut String,
+    logs: &Logs<'_>,
+    vat: u32,
+    breach: Breach,
+) -> Result<(), AllocError> {
+    match breach {
+        Breach::Rule(_) => put_others(alloc, text, logs, vat),
+        Breach::Order => Ok(()),
+    }
+}
+
 /// Appends the notes of a no or of an outside.
 fn put_told(
     alloc: Global,
     text: &mut String,
     logs: &Logs<'_>,
-    told: Told,
+    told: HeardAnswer,
 ) -> Result<(), AllocError> {
     match told {
-        Told::Broken {
+        HeardAnswer::Broken {
             vat,
             at,
             breach,
@@ -78,19 +92,16 @@ fn put_told(
             put_place(alloc, text, logs, vat, at as usize)?;
             write!(text, "note: rule: {rule}\n")?;
             put_cause(alloc, text, logs, vat, at as usize, breach)?;
-            match breach {
-                Breach::Rule(_) => put_others(alloc, text, logs, vat),
-                Breach::Order => Ok(()),
-            }
+            put_beside(alloc, text, logs, vat, breach)
         }
-        Told::Outside { vat, at, why } => {
+        HeardAnswer::Outside { vat, at, why } => {
             put_links(alloc, text, logs, None)?;
             put_place(alloc, text, logs, vat, at as usize)?;
             write!(text, "note: not judged: {why}\n")?;
             put_unread_frame(alloc, text, logs, vat, at as usize)?;
             put_others(alloc, text, logs, vat)
         }
-        Told::Link {
+        HeardAnswer::Link {
             connection,
             end,
             message,
@@ -101,40 +112,34 @@ fn put_told(
             put_counterpart(alloc, text, logs, connection, end, message)?;
             put_links(alloc, text, logs, Some(connection))
         }
-        Told::NoOrder(rule) => write!(text, "note: rule: {rule}\n"),
-        Told::Nothing | Told::Fault(_) | Told::Wire | Told::Join | Told::Yes | Told::GoodLog => Ok(
-            (),
-        ),
+        HeardAnswer::NoOrder(rule) => write!(text, "note: rule: {rule}\n"),
+        HeardAnswer::Nothing
+        | HeardAnswer::Fault(_)
+        | HeardAnswer::Wire
+        | HeardAnswer::Join
+        | HeardAnswer::Yes
+        | HeardAnswer::GoodLog => Ok(()),
     }
 }
 
-/// The notes beside an answer that isn't good, a line each.
-fn bad_notes<S: SearchingSource>(
+/// Appends the notes beside an answer that isn't good and no fault, a line each.
+fn put_bad<S: SearchingSource>(
     alloc: Global,
+    text: &mut String,
     heard: &Heard,
     source: &S,
-    hex: Option<&str>,
-) -> Result<String, AllocError> {
-    let mut text = String::new(alloc);
-    if let Told::Fault(fault) = heard.told {
-        put_fault(alloc, &mut text, source, hex, fault)?;
-        return Ok(text);
+) -> Result<(), AllocError> {
+    if let (HeardAnswer::Wire, Some(found)) = (heard.told, &heard.wire) {
+        return put_wire(alloc, text, source.kept(), found);
     }
-    put_limit(&mut text, heard.limit)?;
-    if let (Told::Wire, Some(found)) = (heard.told, &heard.wire) {
-        put_wire(alloc, &mut text, source.kept(), found)?;
-        return Ok(text);
-    }
-    if let (Told::Join, Some(note)) = (heard.told, heard.join) {
-        put_join(&mut text, source.kept(), note)?;
-        return Ok(text);
+    if let (HeardAnswer::Join, Some(note)) = (heard.told, heard.join) {
+        return put_join(text, source.kept(), note);
     }
     let logs = Logs {
         files: source.kept(),
         findings: heard.findings.as_ref(),
     };
-    put_told(alloc, &mut text, &logs, heard.told)?;
-    Ok(text)
+    put_told(alloc, text, &logs, heard.told)
 }
 
 /// What people are told beside an answer.
@@ -155,9 +160,13 @@ impl Notes {
         }
     }
 
-    /// What is open at the end of a case whose report is yes, or of a log that is good.
-    fn of_case(alloc: Global, case: &OpenCase<'_>, form: Form) -> Result<Notes, AllocError> {
-        let mut text = String::new(alloc);
+    /// These notes, and what is open at the end of a case whose report is yes, or of a log that is good.
+    fn of_case(
+        alloc: Global,
+        mut text: String,
+        case: &OpenCase<'_>,
+        form: Form,
+    ) -> Result<Notes, AllocError> {
         put_good(alloc, &mut text, case)?;
         let left_open = match form {
             Form::Text => None,
@@ -166,15 +175,16 @@ impl Notes {
         Ok(Notes { text, left_open })
     }
 
-    /// Of a case that may not be put together any more: then there is nothing to tell.
+    /// Of a case that may not be put together any more: then there are these notes alone.
     fn of_found(
         alloc: Global,
+        text: String,
         found: Option<OpenCase<'_>>,
         form: Form,
     ) -> Result<Notes, AllocError> {
         match found {
-            Some(case) => Notes::of_case(alloc, &case, form),
-            None => Ok(Notes::of_text(String::new(alloc))),
+            Some(case) => Notes::of_case(alloc, text, &case, form),
+            None => Ok(Notes::of_text(text)),
         }
     }
 }
@@ -188,18 +198,19 @@ pub enum Form {
     Json,
 }
 
-/// What people are told of a log that is good. Its frames are read once more: its audit kept no record.
+/// What people are told of a log that is good, behind these notes. Its frames are read once more: its audit kept no record.
 fn notes_of_log(
     alloc: Global,
+    text: String,
     files: &[(String, Bytes)],
     log: &VatLog,
     form: Form,
 ) -> Result<Notes, AllocError> {
     let Some(events) = events_of(alloc, log)? else {
-        return Ok(Notes::of_text(String::new(alloc)));
+        return Ok(Notes::of_text(text));
     };
     let found = OpenCase::of_log(alloc, log, events.as_slice(), files)?;
-    Notes::of_found(alloc, found, form)
+    Notes::of_found(alloc, text, found, form)
 }
 
 /// What people are told beside an answer. `hex` is the frame of the command line, where it has one.
@@ -214,12 +225,19 @@ pub fn notes_of<S: SearchingSource>(
     hex: Option<&str>,
     form: Form,
 ) -> Result<Notes, AllocError> {
-    if let (Told::Yes, Some(findings)) = (heard.told, &heard.findings) {
+    let mut text = String::new(alloc);
+    if let HeardAnswer::Fault(fault) = heard.told {
+        put_fault(alloc, &mut text, source, hex, fault)?;
+        return Ok(Notes::of_text(text));
+    }
+    put_limit(&mut text, heard.limit)?;
+    if let (HeardAnswer::Yes, Some(findings)) = (heard.told, &heard.findings) {
         let found = OpenCase::of_findings(alloc, findings, source.kept())?;
-        return Notes::of_found(alloc, found, form);
+        return Notes::of_found(alloc, text, found, form);
     }
-    if let (Told::GoodLog, Some(log)) = (heard.told, &heard.log) {
-        return notes_of_log(alloc, source.kept(), log, form);
+    if let (HeardAnswer::GoodLog, Some(log)) = (heard.told, &heard.log) {
+        return notes_of_log(alloc, text, source.kept(), log, form);
     }
-    Ok(Notes::of_text(bad_notes(alloc, heard, source, hex)?))
+    put_bad(alloc, &mut text, heard, source)?;
+    Ok(Notes::of_text(text))
 }

@@ -4,7 +4,7 @@ use report_lines::{Answer, Fault, NumberedRecord};
 use rpc_view::{Limits, RpcMessage, ViewError, read_bytes};
 use std::alloc::{AllocError, Global};
 use std::fmt::Write;
-use vat_log::{Body, References, VatLog};
+use vat_log::VatLog;
 use vat_rules::edition_of;
 use vat_view::DecodedRecord;
 
@@ -17,73 +17,14 @@ pub(crate) fn message_at(
     let Some(stored) = log.get(at) else {
         return Ok(None);
     };
-    let frame = match stored.body() {
-        Body::Send { frame, .. } | Body::Receive { frame, .. } => frame.clone()?,
-        _ => return Ok(None),
+    let Some(frame) = stored.body().frame() else {
+        return Ok(None);
     };
-    match read_bytes(alloc, frame, Limits::default(), edition_of(log)) {
+    match read_bytes(alloc, frame.clone()?, Limits::default(), edition_of(log)) {
         Ok(message) => Ok(Some(Ok(message))),
         Err(ViewError::OutOfMemory) => Err(AllocError),
         Err(fault) => Ok(Some(Err(fault))),
     }
-}
-
-/// A frame's record, with the message that was read.
-fn wire(
-    sent: bool,
-    connection: u32,
-    call: u64,
-    references: &References,
-    message: Option<Result<RpcMessage, ViewError>>,
-) -> Result<Option<DecodedRecord>, AllocError> {
-    let Some(Ok(message)) = message else {
-        return Ok(None);
-    };
-    Ok(Some(DecodedRecord::Wire {
-        sent,
-        connection,
-        call,
-        references: references.copy()?,
-        message,
-    }))
-}
-
-/// A record that has no frame, as it is judged.
-fn own(body: &Body) -> Result<Option<DecodedRecord>, AllocError> {
-    Ok(Some(match *body {
-        Body::Host { reference, object } => DecodedRecord::Host { reference, object },
-        Body::Vow { reference } => DecodedRecord::Vow { reference },
-        Body::Fulfil { reference, to } => DecodedRecord::Fulfil { reference, to },
-        Body::Break { reference } => DecodedRecord::Break { reference },
-        Body::Make {
-            call,
-            reference,
-            interface,
-            method,
-        } => DecodedRecord::Make {
-            call,
-            reference,
-            interface,
-            method,
-        },
-        Body::Field {
-            reference,
-            call,
-            ref path,
-        } => DecodedRecord::Field {
-            reference,
-            call,
-            path: path.copy()?,
-        },
-        Body::Deliver { call, object } => DecodedRecord::Deliver { call, object },
-        Body::Answer { call, ref results } => DecodedRecord::Answer {
-            call,
-            results: results.copy()?,
-        },
-        Body::AnswerBy { call, by } => DecodedRecord::AnswerBy { call, by },
-        Body::Fault { call } => DecodedRecord::Fault { call },
-        Body::Send { .. } | Body::Receive { .. } => return Ok(None),
-    }))
 }
 
 /// The record of this number as it is judged. None where its frame isn't read, or there is none.
@@ -95,32 +36,10 @@ pub(crate) fn decoded(
     let Some(stored) = log.get(at) else {
         return Ok(None);
     };
-    match stored.body() {
-        Body::Send {
-            connection,
-            call,
-            references,
-            ..
-        } => wire(
-            true,
-            *connection,
-            *call,
-            references,
-            message_at(alloc, log, at)?,
-        ),
-        Body::Receive {
-            connection,
-            call,
-            references,
-            ..
-        } => wire(
-            false,
-            *connection,
-            *call,
-            references,
-            message_at(alloc, log, at)?,
-        ),
-        body => own(body),
+    match DecodedRecord::read(alloc, stored.body(), Limits::default(), edition_of(log)) {
+        Ok(event) => Ok(Some(event)),
+        Err(ViewError::OutOfMemory) => Err(AllocError),
+        Err(_) => Ok(None),
     }
 }
 

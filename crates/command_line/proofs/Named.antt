@@ -1,7 +1,6 @@
 -- The commands and their names.
-use Rattle.std.proofs.Common.{◌≡◌, ◌⊎◌, ◌∙◌, ◌∷◌, [], List, true, false, if◌then◌else◌, codes, refl, sym, ap, inl, inr}
+use Rattle.std.proofs.Common.{◌≡◌, ◌⊎◌, ◌∙◌, ◌∷◌, [], List, if◌then◌else◌, codes, refl, sym, ap, inl, inr}
 use Rattle.std.specs.Str.{bytes_eq}
-use Rattle.std.proofs.lemmas.Slice.Eq.{bytes_eq-Decides}
 use Rattle.clap.specs.Words.{Text}
 use Rattle.command_line.specs.Spelled.{IsReader}
 
@@ -103,13 +102,6 @@ reader_of name (inr (inl is)) = inl (of_run, is)
 reader_of name (inr (inr (inl is))) = inl (of_vat, is)
 reader_of name (inr (inr (inr (inl is)))) = inr (inr is)
 reader_of name (inr (inr (inr (inr is)))) = inl (of_frames, is)
-
--- texts that were compared
-pub same_text : (a b : Text) → true ≡ bytes_eq a b → a ≡ b
-same_text a b is = (bytes_eq-Decides a b).0 (sym is)
-
-pub other_text : (a b : Text) → false ≡ bytes_eq a b → a ≡ b → ⊥
-other_text a b differs is = let same : bytes_eq a b ≡ true = (bytes_eq-Decides a b).1 is in cc
 
 -- a command that has none of the other names is `frames`
 pub last_command : (c : Named) (name : Text) → name ≡ name_of c → (name ≡ codes "check" → ⊥) → (name ≡ codes "order" → ⊥) → (name ≡ codes "graph" → ⊥) → (name ≡ codes "run" → ⊥)

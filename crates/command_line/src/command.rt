@@ -2,9 +2,8 @@
 
 ghost use Rattle.std.specs.Prelude.{◌≡◌, ◌⊎◌, ◌≤◌, ℕ, List, [], ◌∷◌, codes, IfOk, IfErr, IsErrAnd, IsSome, Some, map, option_map, false};
 ghost use Rattle.clap.specs.Kinds.{FailsBy};
-ghost use Rattle.clap.specs.Simple.{subcommand_rows_of};
 ghost use Rattle.clap.specs.Values.{IsUnsignedIn};
-ghost use Rattle.clap.specs.Words.{fault_of, first_value, found_of, kind_of, matched_of, raw_values, subcommand_of};
+ghost use Rattle.clap.specs.Words.{fault_of, first_value, found_of, kind_of, matched_of, raw_values};
 ghost use Rattle.command_line.specs.Parser.{most, program, workers};
 ghost use Rattle.command_line.specs.Spelled.{AreMatchesOf, HasWorkers, IsChecked, IsNumber, IsReader, Spells, is_flag, is_set, out_of};
 

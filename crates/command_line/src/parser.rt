@@ -1,8 +1,8 @@
 //! What `clap` is told of the command line.
 
-ghost use Rattle.std.specs.Prelude.{◌≡◌, ℕ, List, IfOk, Some, codes, false};
-ghost use Rattle.clap.specs.Words.{Rule, app_of, new_rule, rule_of, with_subcommand};
-ghost use Rattle.command_line.specs.Parser.{check, draw, flag_rule, flagged, folder_rule, input_rule, judging, migrate, other_rule, path_rule, program, reader, reading, records, top, wire, workers_rule, writer, writing, wiring, join, logs_rule};
+ghost use Rattle.std.specs.Prelude.{◌≡◌, IfOk, Some, false};
+ghost use Rattle.clap.specs.Words.{app_of, new_rule, rule_of, with_subcommand};
+ghost use Rattle.command_line.specs.Parser.{check, draw, flag_rule, flagged, folder_rule, input_rule, judging, migrate, other_rule, path_rule, program, reader, reading, records, top, wire, writer, writing, wiring, join, logs_rule};
 
 use crate::help;
 use clap::builder::ValueParser;

@@ -1,12 +1,12 @@
 -- Answers of a case that was drawn.
-use Rattle.std.proofs.Common.{◌≡◌, ◌∙◌, ℕ, List, [], Option, None, Ok, Err, option_map, refl, sym, ap, subst, inl, inr}
+use Rattle.std.proofs.Common.{◌≡◌, ◌∙◌, ℕ, List, Option, None, Ok, Err, option_map, refl, sym, ap, subst, inl, inr}
 use Rattle.run_model.specs.declared.step.Step.{Step}
 use Rattle.case_book.specs.Case.{Contents}
 use Rattle.audit_core.specs.Explained.{HasNoRun}
 use Rattle.audit_core.specs.Report.{IsReport}
-use Rattle.audit_core.specs.declared.report.Breach.TheVariants.{Rule, Order}
+use Rattle.audit_core.specs.declared.report.Breach.TheVariants.{Order}
 use Rattle.audit_core.specs.declared.report.Report.{Report as ReportOf}
-use Rattle.audit_core.specs.declared.report.Report.TheVariants.{Vat, OutsideVat, Link, OrderStep, NoOrder, Yes}
+use Rattle.audit_core.specs.declared.report.Report.TheVariants.{Vat}
 use Rattle.case_files.specs.CaseReading.{ComesOfCase, Reads}
 use Rattle.case_files.specs.declared.case_fault.CaseFault.{CaseFault}
 use Rattle.case_files.specs.declared.case_fault.CaseFault.TheVariants as fault
@@ -15,11 +15,11 @@ use Rattle.picture.specs.Picture.{IsPictureOf}
 use Rattle.picture.specs.declared.drawing.Picture.{Picture}
 use Rattle.picture.specs.declared.window.Asked.{Asked}
 use Rattle.report_lines.specs.declared.answer.Answer.{Answer}
-use Rattle.report_lines.specs.declared.answer.Answer.TheVariants.{Fault, Report}
+use Rattle.report_lines.specs.declared.answer.Answer.TheVariants.{Fault}
 use Rattle.report_lines.specs.declared.fault.Fault.{Fault as FaultOf}
 use Rattle.report_lines.specs.Faults.{of_case}
 use Rattle.report_lines.specs.Lines.{answer_status, answer_text, line}
-use Rattle.command_run.specs.declared.commands.draw_case.DrawAnswer.{DrawAnswer}
+use Rattle.command_run.specs.declared.answering.FileAnswer.{FileAnswer}
 use Rattle.command_run.specs.DrawAnswers.{AnswersDraw, IsDrawing, IsRunFor}
 use Rattle.command_run.specs.Glue.{ComesDrawn}
 
@@ -30,15 +30,6 @@ has_run held given vat at is none = none is.0 is.1.order is.1.fits
 -- another report names no order of calls
 abbrev pub IsNoOrder : ReportOf → Type 0
 IsNoOrder report = (vat at : ℕ) → report ≡ Vat vat at Order → ⊥
-
-pub no_run_for : (held : Contents) (report : ReportOf) (steps : List Step) → IsNoOrder report → steps ≡ [] → IsRunFor held.logs report steps
-no_run_for held (Vat vat at Order) steps not none = absurd (not vat at refl)
-no_run_for held (Vat vat at (Rule rule)) steps not none = none
-no_run_for held (OutsideVat vat at why) steps not none = none
-no_run_for held (Link connection end message) steps not none = none
-no_run_for held (OrderStep step) steps not none = none
-no_run_for held NoOrder steps not none = none
-no_run_for held (Yes vats records delivered under_way run) steps not none = none
 
 -- the bytes of a picture or page, whose case and steps were lent
 pub drawing_of : (held lent : Contents) (order : List ℕ) (report : ReportOf) (asked : Asked) (run steps : List Step) (picture : Picture) (bytes text : List ℕ)
@@ -60,7 +51,7 @@ module _ {S : Type 0} (asked : Asked) (gives : Reads S) (old new : S) (name : Li
   Answers answer bytes = AnswersDraw asked gives old name (line (answer_text answer)) (answer_status answer) bytes new
 
   -- its report and its picture
-  pub drawn : (made : DrawAnswer) → ComesDrawn asked gives old name (Ok made) new → Answers made.answer (option_map (λ bytes. bytes) made.picture)
+  pub drawn : (made : FileAnswer) → ComesDrawn asked gives old name (Ok made) new → Answers made.answer (option_map (λ bytes. bytes) made.bytes)
   drawn made comes =
       let parts = comes.1.1 in
       let same = parts.2 in

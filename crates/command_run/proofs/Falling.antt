@@ -7,7 +7,7 @@ use Rattle.std.specs.declared.cmp.Ordering.TheVariants.{Less, Equal, Greater}
 use Rattle.std.proofs.lemmas.Bool.{ltb-true, ltb-false}
 use Rattle.std.specs.List.{list_all}
 use Rattle.std.specs.Io.KnownBytes.{Appends}
-use Rattle.std.proofs.KnownBytes.{Appends-nil, Appends-trans}
+use Rattle.std.proofs.KnownBytes.{Appends-trans}
 use Rattle.std.proofs.lemmas.List.Folds.{list_all-append}
 use Rattle.std.proofs.lemmas.Grind.{flat_map-append}
 use Rattle.rpc_view.specs.declared.edition.Edition.TheVariants.{First}
@@ -61,10 +61,6 @@ pub record AreShown (bytes : List ℕ) (old new : Option (List ℕ)) (rest : Lis
   pub falls : Falls bytes pieces rest
   pub shown : Appends old new (lines pieces)
   pub worst : status ≡ status_of pieces
-
--- none yet
-pub none_shown : (bytes : List ℕ) (out : Option (List ℕ)) → AreShown bytes out out bytes 0
-none_shown bytes out = record { pieces = []; falls = refl; shown = Appends-nil out; worst = refl }
 
 -- one more
 pub one_more : (bytes rest : List ℕ) (old now new : Option (List ℕ)) (status : ℕ) → AreShown bytes old now rest status → rest ≢ []

@@ -7,7 +7,7 @@ use Rattle.std.proofs.lemmas.Option.{same_Some, slice_get_within}
 use Rattle.vat_log.specs.Log.{Log}
 use Rattle.case_book.specs.declared.link.Link.{Link}
 use Rattle.log_ends.specs.Joining.{IsJoined}
-use Rattle.log_ends.specs.declared.end.EndPair.{EndPair}
+use Rattle.log_ends.specs.declared.log_end.EndPair.{EndPair}
 use Rattle.log_ends.proofs.Fitting.{fits_end, same_symmetric}
 use Rattle.log_ends.proofs.Places.{of_a_log}
 use Rattle.command_run.specs.JoinAnswers.{AreLinks, IsLinkOf, in_folder}

@@ -1,9 +1,9 @@
 -- The records of a log, listed one by one.
-use Rattle.std.proofs.Common.{◌≡◌, ◌∙◌, ℕ, ◌+◌, ◌-◌, ◌<◌, ◌≤◌, List, [], ◌∷◌, ◌++◌, length, take, drop, get_or, min, Option, Some, None, Result, Ok, Err, IfOk, OnOk, refl, sym, ap, subst, inl, inr, arith, append_assoc, append-nil, length-take, length-drop}
+use Rattle.std.proofs.Common.{◌≡◌, ◌∙◌, ℕ, ◌+◌, ◌-◌, ◌<◌, ◌≤◌, List, [], ◌∷◌, ◌++◌, length, take, drop, get_or, Option, Some, Result, Ok, Err, IfOk, OnOk, refl, sym, ap, subst, inl, inr, arith, append_assoc, append-nil, length-take, length-drop}
 use Rattle.std.specs.Prelude.{slice_get}
 use Rattle.std.specs.Io.KnownBytes.{Appends}
-use Rattle.std.proofs.KnownBytes.{Appends-nil, Appends-trans}
-use Rattle.std.proofs.lemmas.List.{get_or-drop, take_all, take_min, take_more, take-take}
+use Rattle.std.proofs.KnownBytes.{Appends-trans}
+use Rattle.std.proofs.lemmas.List.{get_or-drop, take_more, take-take}
 use Rattle.std.proofs.lemmas.Option.{get_or_from_slice_get}
 use Rattle.case_files.specs.CaseReading.{Read}
 use Rattle.rpc_view.specs.declared.edition.Edition.{Edition}
@@ -34,11 +34,6 @@ pub record Listed (log : Log) (first at : ℕ) (old new : Option (List ℕ)) : T
   pub past : first ≤ at
   pub wrote : Appends old new (record_lines (edition_of log) first (take (at - first) (drop first log.records)))
 
-pub none_listed : (log : Log) (first : ℕ) (old : Option (List ℕ)) → Listed log first first old old
-none_listed log first old =
-    let none : 0 ≡ first - first = omega arith in
-    record { past = omega arith; wrote = subst (λ n. Appends old old (record_lines (edition_of log) first (take n (drop first log.records)))) none (Appends-nil old) }
-
 pub one_listed : (log : Log) (first at : ℕ) (event : Body) (old now new : Option (List ℕ)) → at < length log.records → slice_get log.records at ≡ Some event
     → Listed log first at old now → Appends now new (record_line (edition_of log) at event) → Listed log first (at + 1) old new
 one_listed log first at event old now new within is so_far wrote =
@@ -62,17 +57,6 @@ one_listed log first at event old now new within is so_far wrote =
     }
 
 -- ---- the end of what is asked for
-
--- all
-pub ends_all : (first count : ℕ) → Ends first None count count
-ends_all first count events long = take_all (count - first) (drop first events) (omega (arith, long, length-drop first events))
-
--- or some
-pub ends_some : (first many count end : ℕ) → end ≡ min (first + many) count → Ends first (Some many) count end
-ends_some first many count end is events long =
-    let fits : length (drop first events) ≡ count - first = length-drop first events ∙ ap (λ n. n - first) long in
-    let so : end - first ≡ min many (length (drop first events)) = omega (arith, is, fits) in
-    ap (λ n. take n (drop first events)) so ∙ take_min many (drop first events)
 
 -- ---- answers
 

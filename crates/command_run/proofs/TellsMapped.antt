@@ -1,5 +1,5 @@
 -- Answers that are told as objects.
-use Rattle.std.proofs.Common.{◌≡◌, ◌⊎◌, ℕ, List, Option, Some, None, Result, Ok, Err, refl, subst, sym, inl, inr}
+use Rattle.std.proofs.Common.{ℕ, List, Option, Some, None, Result, Ok, Err, subst, sym, inl, inr}
 use Rattle.case_files.specs.CaseReading.{Reads}
 use Rattle.command_line.specs.declared.command.Command.{Command}
 use Rattle.command_line.specs.declared.command.Command.TheVariants.{Check, Order, Graph, Run, Draw, Vat, Records, Frame, Frames, Migrate, Wire, Join}

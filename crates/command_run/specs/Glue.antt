@@ -25,10 +25,9 @@ use Rattle.command_run.specs.RecordAnswers.{first_ones}
 use Rattle.command_run.specs.CommandAnswers.{AnswersMigration}
 use Rattle.command_run.specs.DrawAnswers.{IsDrawn}
 use Rattle.command_run.specs.JoinAnswers.{AreFilesOf}
-use Rattle.log_ends.specs.declared.end.EndPair.{EndPair}
-use Rattle.command_run.specs.declared.commands.draw_case.DrawAnswer.{DrawAnswer}
+use Rattle.log_ends.specs.declared.log_end.EndPair.{EndPair}
 use Rattle.command_run.specs.declared.commands.join_logs.JoinedFolder.{JoinedFolder}
-use Rattle.command_run.specs.declared.commands.migrate_log.MigrationAnswer.{MigrationAnswer}
+use Rattle.command_run.specs.declared.answering.FileAnswer.{FileAnswer}
 use Rattle.command_run.specs.declared.commands.wire_files.WireFolder.{WireFolder}
 use Rattle.command_run.specs.Runs.{Writing}
 use Rattle.picture.specs.declared.window.Asked.{Asked}
@@ -60,9 +59,9 @@ ComesJudged gives old name (Ok report) new = (came : ReadCase) × (ComesOfCase g
 ComesJudged gives old name (Err fault) new = (fault ≡ OutOfMemory) ⊎ ((found : CaseFault) × (ComesOfCase gives old name (Err found) new × (fault ≡ of_case found)))
 
 -- what came of a case that was drawn: its report and its picture, or its fault, or memory ran out
-abbrev pub ComesDrawn : {S : Type 0} → Asked → Reads S → S → List ℕ → Result DrawAnswer Fault → S → Type 0
+abbrev pub ComesDrawn : {S : Type 0} → Asked → Reads S → S → List ℕ → Result FileAnswer Fault → S → Type 0
 ComesDrawn asked gives old name (Ok made) new = (came : ReadCase) × ((report : Report) × (ComesOfCase gives old name (Ok came) new
-    × IsReport came.case came.order report × (made.answer ≡ answer.Report report) × IsDrawn came report asked (option_map (λ bytes. bytes) made.picture)))
+    × IsReport came.case came.order report × (made.answer ≡ answer.Report report) × IsDrawn came report asked (option_map (λ bytes. bytes) made.bytes)))
 ComesDrawn asked gives old name (Err fault) new = (fault ≡ OutOfMemory) ⊎ ((found : CaseFault) × (ComesOfCase gives old name (Err found) new × (fault ≡ of_case found)))
 
 -- what came of writing lines alone: a write that failed is one of them
@@ -78,12 +77,12 @@ EndsAs (Err (Out fault)) ended = (ended ≡ 2) ⊎ (ended ≡ 3)
 EndsAs (Err (File fault)) ended = ended ≡ 2
 
 -- what came of a log that was to be migrated answers it
-abbrev pub Migrates : Bool → Read → Result MigrationAnswer Fault → Type 0
+abbrev pub Migrates : Bool → Read → Result FileAnswer Fault → Type 0
 Migrates later read (Ok made) = AnswersMigration later read (line (answer_text made.answer)) (answer_status made.answer) (option_map (λ bytes. bytes) made.bytes)
 Migrates later read (Err fault) = AnswersMigration later read (line (answer_text (answer.Fault fault))) (answer_status (answer.Fault fault)) None
 
 -- a line, a status and the bytes for the file are those of an answer that was made
-abbrev pub IsMade : MigrationAnswer → List ℕ → ℕ → Option (List ℕ) → Type 0
+abbrev pub IsMade : FileAnswer → List ℕ → ℕ → Option (List ℕ) → Type 0
 IsMade made text status bytes =
     (text ≡ line (answer_text made.answer)) × (status ≡ answer_status made.answer) × (bytes ≡ option_map (λ bytes. bytes) made.bytes)
 

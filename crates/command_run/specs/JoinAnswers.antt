@@ -12,8 +12,8 @@ use Rattle.case_files.specs.FileNames.{AreFileNames}
 use Rattle.case_files.specs.declared.case_fault.CaseFault.{CaseFault}
 use Rattle.log_ends.specs.Joining.{IsFound}
 use Rattle.log_ends.specs.Renumbering.{AreRenumbered, IsVatAt}
-use Rattle.log_ends.specs.declared.end.End.{End}
-use Rattle.log_ends.specs.declared.end.EndPair.{EndPair}
+use Rattle.log_ends.specs.declared.log_end.LogEnd.{LogEnd}
+use Rattle.log_ends.specs.declared.log_end.EndPair.{EndPair}
 use Rattle.log_ends.specs.declared.joining.Joining.{Joining}
 use Rattle.log_ends.specs.declared.joining.Joining.TheVariants as found
 use Rattle.report_lines.specs.declared.answer.Answer.TheVariants.{Fault, Join}
@@ -27,7 +27,7 @@ use Rattle.command_run.specs.CommandAnswers.{IsOutOfMemory}
 
 -- the link that the new logs have for the pair of a number: that number, and the new vats of the logs of both ends
 abbrev pub IsLinkOf : List Log → EndPair → ℕ → Link → Type 0
-IsLinkOf logs pair number link = (link.conn ≡ number) × IsVatAt logs pair.first.log link.a × IsVatAt logs pair.second.log link.b
+IsLinkOf logs pair number link = (link.connection ≡ number) × IsVatAt logs pair.first.log link.a × IsVatAt logs pair.second.log link.b
 
 -- a link for each pair
 pub record AreLinks (logs : List Log) (pairs : List EndPair) (links : List Link) : Type 0 where
@@ -65,7 +65,7 @@ AnswersPairs folder names logs pairs text status (Some bytes) =
     AreFilesOf folder names logs pairs bytes × SaysAnswer (Join (join.Joined (length logs) (length pairs))) text status
 
 -- an end is named by its number in its log, and by the new vat of that
-abbrev pub AnswersEnd : (ℕ → ℕ → List ℕ → ℕ → Type 0) → List Log → End → List ℕ → ℕ → Type 0
+abbrev pub AnswersEnd : (ℕ → ℕ → List ℕ → ℕ → Type 0) → List Log → LogEnd → List ℕ → ℕ → Type 0
 AnswersEnd says logs end text status = (vat : ℕ) × (IsVatAt logs end.log vat × says end.connection vat text status)
 
 -- they answer what is found of the ends

@@ -1,14 +1,36 @@
 //! Saying an answer, which is heard, too, for what people are told beside it; and writing the bytes that belong to one.
 
-ghost use Rattle.std.specs.Prelude.{◌≡◌, OnOk, OnErr, IfOk, IsSome, option_map};
+ghost use Rattle.std.specs.Prelude.{◌≡◌, None, OnOk, OnErr, IfOk, IsSome, option_map};
 ghost use Rattle.report_lines.specs.Lines.{answer_status, answer_text, line};
-ghost use Rattle.command_run.specs.Runs.{Adds, Saves, Wrote};
+ghost use Rattle.command_run.specs.Glue.{IsMade};
+ghost use Rattle.command_run.specs.Runs.{Adds, Saves, Writes, Wrote};
 
-use crate::output::Output;
+use crate::output::{Failed, Output};
 use bytes::Bytes;
 use cause_notes::Heard;
-use report_lines::Answer;
+use report_lines::{Answer, Fault};
 use std::mem;
+
+/// What answers where a file is asked for.
+#[derive(Drop)]
+pub struct FileAnswer {
+    pub answer: Answer,
+    /// The bytes of the file, where one is made.
+    pub bytes: Option<Bytes>,
+}
+
+impl FileAnswer {
+    /// The answer that has a fault, and no file.
+    pub fn of_fault(fault: Fault) -> FileAnswer
+        ensures answer { result.answer ≡ Answer.Fault fault }
+        ensures bytes { result.bytes ≡ None }
+    {
+        FileAnswer {
+            answer: Answer::Fault(fault),
+            bytes: None,
+        }
+    }
+}
 
 /// Writes the line of an answer that is kept, and gives its exit status. More may follow.
 fn put_line<O: Output>(answer: &Answer, heard: &mut Heard, out: &mut O) -> Result<u8, O::Error>
@@ -58,7 +80,7 @@ pub fn save_part<F: Output>(bytes: &Bytes, file: &mut F) -> Result<(), F::Error>
 }
 
 /// Writes the bytes for the file, if there are any.
-pub fn save<F: Output>(bytes: &Option<Bytes>, file: &mut F) -> Result<(), F::Error>
+fn save<F: Output>(bytes: &Option<Bytes>, file: &mut F) -> Result<(), F::Error>
     requires { F.can_write file.old }
     ensures saves { OnOk result
         (Saves (Wrote F.contents F.is_finished)
@@ -70,4 +92,30 @@ pub fn save<F: Output>(bytes: &Option<Bytes>, file: &mut F) -> Result<(), F::Err
         file.finish()?;
     }
     Ok(())
+}
+
+/// Writes the bytes of an answer to `file`, if it has any, and then says it.
+///
+/// # Errors
+///
+/// That of a write; nothing is written after it.
+pub fn say_made<O: Output, F: Output>(
+    made: FileAnswer,
+    heard: &mut Heard,
+    out: &mut O,
+    file: &mut F,
+) -> Result<u8, Failed<O::Error, F::Error>>
+    requires out { O.can_write out.old }
+    requires file { F.can_write file.old }
+    ensures { Writes (IsMade made) (Wrote O.contents O.is_finished)
+        (Wrote F.contents F.is_finished) out.old out.new file.old file.new result }
+{
+    let FileAnswer { answer, bytes } = made;
+    if let Err(fault) = save(&bytes, file) {
+        return Err(Failed::File(fault));
+    }
+    match say(answer, heard, out) {
+        Ok(status) => Ok(status),
+        Err(fault) => Err(Failed::Out(fault)),
+    }
 }

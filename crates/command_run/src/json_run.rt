@@ -22,7 +22,7 @@ use std::sync::Wait;
 use std::thread::Threads;
 
 /// What came of telling lines as objects.
-type Told = Result<u8, Failed<JsonFault, io::Error>>;
+type LinesTold = Result<u8, Failed<JsonFault, io::Error>>;
 
 /// The exit status of lines that were ended, or that of a failed write.
 fn status_of(ended: io::Result<()>, status: u8) -> u8
@@ -35,7 +35,7 @@ fn status_of(ended: io::Result<()>, status: u8) -> u8
 }
 
 /// Ends the lines with these notes, or with that of out of memory where an object wasn't made, and gives the exit status.
-fn end_lines<W: Write>(told: Told, out: &mut JsonOutput<'_, W>, notes: Notes) -> u8
+fn end_lines<W: Write>(told: LinesTold, out: &mut JsonOutput<'_, W>, notes: Notes) -> u8
     ensures { EndsAs told result }
 {
     let Notes { text, left_open } = notes;
@@ -58,7 +58,7 @@ fn notes_beside<S: SearchingSource>(
     command: &Command<'_>,
     heard: &Heard,
     source: &S,
-    told: &Told,
+    told: &LinesTold,
 ) -> Result<Notes, AllocError> {
     match told {
         Err(Failed::File(error)) => {

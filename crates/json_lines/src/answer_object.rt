@@ -55,7 +55,11 @@ fn report_object(alloc: Global, report: &Report) -> Result<Value, AllocError> {
     match report {
         Report::Vat { vat, at, rule } => broken_object(alloc, *vat, *at, breach_code(*rule)),
         Report::OutsideVat { vat, at, why } => outside_object(alloc, *vat, *at, *why),
-        Report::Link { conn, end, message } => link_object(alloc, *conn, *end, *message),
+        Report::Link {
+            connection,
+            end,
+            message,
+        } => link_object(alloc, *connection, *end, *message),
         Report::OrderStep(step) => {
             let step = *step;
             json!(in alloc; {"kind": "no order step", "step": step})

@@ -3,7 +3,7 @@
 //! It stands on `report_lines`, which shows the same values as text, and on `serde_json`. A [`Line`] is what is written as a
 //! line of standard output; its object is made from the value and never from the text. [`JsonLines`] writes objects and holds
 //! the last one back, so that notes can be added to it. That each text can be made again from its object is tested
-//! (`tests/json_lines`), and said by no contract.
+//! (`tests/json_lines.py`), and said by no contract.
 #![tactic(auto)]
 
 mod answer_object;

@@ -4,7 +4,7 @@ use Rattle.std.specs.Prelude.{map}
 use Rattle.std.specs.Option.{option_map}
 use Rattle.case_book.specs.declared.link.Link.{Link}
 use Rattle.picture.specs.Flow.{Seat, after, flow, flow_on, next_seat, turn_of}
-use Rattle.picture.specs.declared.turns.Turn.{Turn}
+use Rattle.picture.specs.declared.order.flow.VatTurn.{VatTurn}
 
 -- a list whose items are changed one by one, one item further
 set_suc : {X : Type 0} (f : X → X) (xs : List X) (i : ℕ) (y d : X) → i < length (map f (take i xs) ++ drop i xs) → y ≡ f (get_or (map f (take i xs) ++ drop i xs) i d)
@@ -21,13 +21,13 @@ set_further f xs ys i y d lt so_far is =
     ap (λ l. set l i y) so_far ∙ set_suc f xs i y d (subst (λ l. i < length l) so_far lt) (is ∙ ap (λ l. f (get_or l i d)) so_far) ∙ ap (λ k. map f (take k xs) ++ drop k xs) e
 
 module _ (links : List Link) where
-  turned : (turns : ℕ) (seats : List Seat) (turn : Turn) → Some turn ≡ option_map (turn_of links) (next_seat seats)
+  turned : (turns : ℕ) (seats : List Seat) (turn : VatTurn) → Some turn ≡ option_map (turn_of links) (next_seat seats)
       → flow (suc turns) links seats ≡ turn.vat ∷ flow turns links (after turn seats)
   unfolding flow
   turned turns seats turn is = ap (flow_on (flow turns links) seats) (sym is)
 
   -- a turn more
-  pub flows_on : (turns at : ℕ) (seats later : List Seat) (turn : Turn) (order more whole : List ℕ) → at < turns
+  pub flows_on : (turns at : ℕ) (seats later : List Seat) (turn : VatTurn) (order more whole : List ℕ) → at < turns
       → Some turn ≡ option_map (turn_of links) (next_seat seats) → more ≡ order ++ turn.vat ∷ [] → later ≡ after turn seats
       → order ++ flow (turns - at) links seats ≡ whole → more ++ flow (turns - (at + 1)) links later ≡ whole
   flows_on turns at seats later turn order more whole lt is longer are so_far =

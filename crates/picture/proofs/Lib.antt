@@ -1,5 +1,6 @@
 pub mod Stepping
 pub mod Released
+pub mod Lateness
 pub mod Wrapping
 pub mod Listing
 pub mod Writing

@@ -1,7 +1,6 @@
 -- What a loop over a list has counted, or has left to look for, one item further.
 use Rattle.std.proofs.Common.{◌≡◌, ◌≢◌, ◌∙◌, ℕ, zero, suc, ◌+◌, ◌-◌, ◌≤◌, Bool, true, false, cond, List, [], ◌∷◌, length, take, drop, Option, Some, None, fold, refl, sym, ap, add-one, arith}
-use Rattle.std.specs.Prelude.{count_by, slice_get, unwrap_or}
-use Rattle.std.proofs.lemmas.Bool.{false≢true}
+use Rattle.std.specs.Prelude.{count_by, slice_get}
 use Rattle.picture.specs.Places.{passes_in, places_from}
 
 folded_suc : {X Y : Type 0} (f : Y → X → Y) (g : Y → Option X → Y) (xs : List X) (i : ℕ) (start : Y) → ((y : Y) → g y None ≡ y) → ((y : Y) (x : X) → g y (Some x) ≡ f y x)

@@ -1,8 +1,8 @@
 -- A text that is written letter by letter, in lines.
-use Rattle.std.proofs.Common.{◌≡◌, ◌∙◌, ℕ, ◌+◌, ◌<◌, ◌≤◌, Bool, true, false, cond, List, [], ◌∷◌, ◌++◌, length, drop, get_or, refl, sym, ap, arith, append_assoc, append-nil}
+use Rattle.std.proofs.Common.{◌≡◌, ◌∙◌, ℕ, ◌+◌, ◌<◌, ◌≤◌, Bool, true, false, cond, List, ◌∷◌, ◌++◌, length, drop, get_or, sym, ap, arith, append_assoc}
 use Rattle.std.specs.Prelude.{encode_utf8}
-use Rattle.std.proofs.Output.{has_written_append, has_written_of_eq}
-use Rattle.std.proofs.lemmas.List.{at_drop_more, at_drop_all}
+use Rattle.std.proofs.Output.{has_written_append}
+use Rattle.std.proofs.lemmas.List.{at_drop_more}
 use Rattle.std.specs.Fmt.{HasWritten, IsPlainFormatter}
 use Rattle.std.specs.declared.fmt.Formatter.{Formatter}
 use Rattle.picture.specs.Picture.{line_end, wrapped}
@@ -49,8 +49,3 @@ module _ {W : Type 0} (took : W → List ℕ → W → Type 0) where
       further text i at d (at + 1) (encode_utf8 d) old now after (omega (arith, few))
       (one_further text i at d e b lt is ends ∙ ap (λ t. cond t (line_end ++ wrapped 0 (drop (i + 1) text)) (encode_utf8 d ++ wrapped (at + 1) (drop (i + 1) text))) fails)
       so_far more
-
-  -- all of them
-  pub all_wrapped : (text : List ℕ) (i at : ℕ) (old now : Formatter W) → length text ≤ i → Wraps text i at old now → IsPlainFormatter old → HasWritten took old (wrapped 0 text) now
-  all_wrapped text i at old now all so_far plain =
-      has_written_of_eq took old so_far.done _ now (sym (append-nil so_far.done) ∙ ap (λ t. so_far.done ++ t) (sym (at_drop_all (wrapped at) text i all)) ∙ so_far.whole) (so_far.wrote plain)

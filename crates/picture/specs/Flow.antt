@@ -4,11 +4,12 @@ use Rattle.std.specs.Prelude.{ℕ, zero, suc, ◌+◌, ◌==◌, ◌&&◌, Bool,
 use Rattle.std.specs.List.{position_from}
 use Rattle.std.specs.Option.{option_map}
 use Rattle.vat_log.specs.Log.{Log}
+use Rattle.vat_log.specs.Passages.{passage_of}
 use Rattle.vat_log.specs.declared.body.Body.{Body}
 use Rattle.case_book.specs.Case.{or_else}
 use Rattle.case_book.specs.declared.link.Link.{Link}
-use Rattle.picture.specs.Places.{other_end, passage_of}
-use Rattle.picture.specs.declared.turns.Turn.{Turn}
+use Rattle.picture.specs.Places.{other_end}
+use Rattle.picture.specs.declared.order.flow.VatTurn.{VatTurn}
 
 -- a vat while records come: its log, how many records of it came, and the connections of the frames that are under way to it,
 -- the one that was sent first in front
@@ -76,10 +77,10 @@ sent_in links vat None = None
 sent_in links vat (Some passage) = if passage.0 then option_map (λ to. (to, passage.1)) (other_end links passage.1 vat) else None
 
 -- the turn of a vat
-abbrev pub turn_by : List Link → ℕ → Option (Bool × ℕ) → Turn
+abbrev pub turn_by : List Link → ℕ → Option (Bool × ℕ) → VatTurn
 turn_by links vat passage = record { vat = vat; received = received_in passage; sent = sent_in links vat passage }
 
-abbrev pub turn_of : List Link → Seat → Turn
+abbrev pub turn_of : List Link → Seat → VatTurn
 turn_of links seat = turn_by links seat.log.vat (option_and_then passage_of (next_in seat))
 
 -- one record further, if one is left
@@ -102,18 +103,18 @@ heard vat None coming = coming
 heard vat (Some sent) coming = if sent.0 == vat then coming ++ sent.1 ∷ [] else coming
 
 -- a vat after a turn, of its own or of another's
-abbrev pub followed : Turn → Seat → Seat
+abbrev pub followed : VatTurn → Seat → Seat
 followed turn seat = if seat.log.vat == turn.vat
     then record { log = seat.log; came = further seat.came (length seat.log.records); coming = taken turn.received seat.coming }
     else record { log = seat.log; came = seat.came; coming = heard seat.log.vat turn.sent seat.coming }
 
-abbrev pub after : Turn → List Seat → List Seat
+abbrev pub after : VatTurn → List Seat → List Seat
 after turn seats = map (followed turn) seats
 
 -- ---- the order
 
 -- a turn, if there is one, and those behind it
-abbrev pub flow_on : (List Seat → List ℕ) → List Seat → Option Turn → List ℕ
+abbrev pub flow_on : (List Seat → List ℕ) → List Seat → Option VatTurn → List ℕ
 flow_on rest seats None = []
 flow_on rest seats (Some turn) = turn.vat ∷ rest (after turn seats)
 

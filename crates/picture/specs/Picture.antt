@@ -11,7 +11,8 @@ use Rattle.audit_core.specs.declared.report.Report.{Report}
 use Rattle.audit_core.specs.declared.report.Report.TheVariants as reports
 use Rattle.report_lines.specs.Lines.{breach_code, report_text}
 use Rattle.report_lines.specs.Sentences.{IsLine}
-use Rattle.picture.specs.Places.{completed, passage_of}
+use Rattle.picture.specs.Places.{completed}
+use Rattle.vat_log.specs.Passages.{passage_of}
 use Rattle.picture.specs.Flow.{flow_of}
 use Rattle.picture.specs.Labels.{label_text}
 use Rattle.picture.specs.Rows.{Drawn, arrows_of, columns_of, ends_line, greater_of, least_of, lines_of, room_in, rows_of, scene_of}

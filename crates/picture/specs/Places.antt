@@ -1,5 +1,5 @@
 -- Where records stand: in the logs of their vats, in an order of them all, and at the other end of their message.
-use Rattle.std.specs.Prelude.{◌≡◌, ℕ, ◌+◌, ◌-◌, ◌==◌, ◌&&◌, Bool, true, false, not, List, [], ◌∷◌, ◌++◌, length, replicate, take, count_by, find, Option, Some, None, option_and_then, unwrap_or, fold, if◌then◌else◌, nat_lt, slice_get}
+use Rattle.std.specs.Prelude.{ℕ, ◌+◌, ◌-◌, ◌==◌, Bool, true, false, not, List, [], ◌∷◌, ◌++◌, length, replicate, take, count_by, find, Option, Some, None, option_and_then, unwrap_or, fold, if◌then◌else◌, nat_lt, slice_get}
 use Rattle.std.specs.List.{flat_map}
 use Rattle.std.specs.Option.{option_map}
 use Rattle.std.specs.Result.{result_ok}
@@ -10,8 +10,7 @@ use Rattle.rpc_view.specs.declared.message.RpcMessage.{RpcMessage}
 use Rattle.rpc_view.specs.declared.message.RpcMessage.TheVariants as messages
 use Rattle.vat_log.specs.Log.{Log}
 use Rattle.vat_log.specs.declared.body.Body.{Body}
-use Rattle.vat_log.specs.declared.body.Body.TheVariants.{Send, Receive}
-use Rattle.merge_order.specs.Fits.{sends_frame, receives_frame}
+use Rattle.vat_log.specs.Passages.{passage_of, passes, frame_of}
 use Rattle.case_book.specs.Case.{Contents}
 use Rattle.case_book.specs.declared.link.Link.{Link}
 use Rattle.picture.specs.declared.place.Place.{Place}
@@ -50,17 +49,6 @@ log_of logs vat = find (λ log. log.vat == vat) logs
 abbrev pub column_of : List Log → ℕ → ℕ
 column_of logs vat = count_by (λ log. nat_lt log.vat vat) logs
 
--- whether a record sends a frame, or receives one, and on which connection
-abbrev pub passage_of : Body → Option (Bool × ℕ)
-passage_of (Send connection call references frame) = Some (true, connection)
-passage_of (Receive connection call references frame) = Some (false, connection)
-passage_of _ = None
-
--- a record sends (true), or receives (false), a frame on the connection
-abbrev pub passes : Bool → ℕ → Body → Bool
-passes true connection event = sends_frame connection event
-passes false connection event = receives_frame connection event
-
 -- how many of a log's records before this one send, or receive, a frame on the connection
 abbrev pub frames_before : Bool → ℕ → List Body → ℕ → ℕ
 frames_before sent connection records number = count_by (passes sent connection) (take number records)
@@ -71,7 +59,7 @@ other_end_of vat link = if link.a == vat then Some link.b else (if link.b == vat
 
 -- the vat at the other end of a connection
 abbrev pub other_end : List Link → ℕ → ℕ → Option ℕ
-other_end links connection vat = option_and_then (other_end_of vat) (find (λ link. link.conn == connection) links)
+other_end links connection vat = option_and_then (other_end_of vat) (find (λ link. link.connection == connection) links)
 
 -- the record of a vat
 abbrev pub place_in : ℕ → ℕ → Place
@@ -97,9 +85,7 @@ mate_of held place event = option_and_then (mate_on held place) (passage_of even
 
 -- the message of a record, where it has one that is read by an edition, within the default limits
 abbrev pub message_of : Edition → Body → Option RpcMessage
-message_of edition (Send connection call references frame) = result_ok (message_of_bytes edition frame default_limits)
-message_of edition (Receive connection call references frame) = result_ok (message_of_bytes edition frame default_limits)
-message_of edition _ = None
+message_of edition b = option_and_then (λ frame. result_ok (message_of_bytes edition frame default_limits)) (frame_of b)
 
 -- what a message does to a question: it opens it (false), or finishes it and gives its results back (true)
 abbrev pub turn_of : ℕ → RpcMessage → Option Bool

@@ -1,5 +1,5 @@
 -- What a picture shows of a case: a column for each vat, a row for each record of the window, an arrow for each message.
-use Rattle.std.specs.Prelude.{◌≡◌, ℕ, ◌+◌, ◌-◌, ◌/◌, ◌==◌, ◌&&◌, Bool, true, false, List, [], ◌∷◌, length, map, take, Option, Some, None, option_and_then, unwrap_or, if◌then◌else◌, nat_lt, nat_le, slice_get}
+use Rattle.std.specs.Prelude.{ℕ, ◌+◌, ◌-◌, ◌/◌, ◌==◌, ◌&&◌, Bool, true, false, List, [], ◌∷◌, length, map, take, Option, Some, None, option_and_then, unwrap_or, if◌then◌else◌, nat_lt, nat_le, slice_get}
 use Rattle.std.specs.List.{filter_map, range_with_len}
 use Rattle.std.specs.Option.{option_map}
 use Rattle.rpc_view.specs.declared.message.RpcMessage.{RpcMessage}
@@ -17,7 +17,8 @@ use Rattle.case_book.specs.Case.{Contents}
 use Rattle.audit_core.specs.declared.report.Report.{Report}
 use Rattle.audit_core.specs.declared.report.Report.TheVariants as reports
 use Rattle.report_lines.specs.StepText.{call_of_step}
-use Rattle.picture.specs.Places.{place_of_nth, is_vat, record_number, step_of, log_of, column_of, passage_of, frame_at, place_in, mate_of, message_of, is_late}
+use Rattle.picture.specs.Places.{place_of_nth, record_number, step_of, log_of, column_of, frame_at, place_in, mate_of, message_of, is_late}
+use Rattle.vat_log.specs.Passages.{passage_of}
 use Rattle.picture.specs.declared.place.Place.{Place}
 use Rattle.picture.specs.declared.calls.Maker.{Maker}
 use Rattle.picture.specs.declared.focus.Focus.{Focus}

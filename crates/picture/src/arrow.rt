@@ -3,12 +3,11 @@
 ghost use Rattle.std.specs.Prelude.{◌≡◌, ◌++◌, IfOk, map};
 ghost use Rattle.std.specs.Arc.{arc_value};
 ghost use Rattle.std.specs.Option.{option_to_list};
-ghost use Rattle.picture.specs.Rows.{arrow_by, arrow_of, arrow_to, arrows_of, is_drawn_there, late_by, outcome_stroke, reach_away, reach_in, reach_of, stroke_of};
+ghost use Rattle.picture.specs.Rows.{arrow_of, arrow_to, arrows_of, is_drawn_there, late_by, outcome_stroke, reach_away, reach_in, reach_of, stroke_of};
 
-use crate::frames::passage_of;
-use crate::late::late_at;
 use crate::logs::column_of;
-use crate::mate::mate_of;
+use crate::passing::late::late_at;
+use crate::passing::mate::mate_of;
 use crate::place::Place;
 use crate::row::{Row, Tone};
 use crate::scene::Scene;
@@ -200,7 +199,7 @@ fn arrow_to(row: &Row<'_>, sent: bool, late: bool, reach: Reach) -> Option<Arrow
 fn arrow_of(alloc: Global, scene: &Scene<'_>, row: &Row<'_>) -> Result<Option<Arrow>, AllocError>
     ensures { IfOk result (λ arrow. arrow ≡ arrow_of scene.now row.now) }
 {
-    match passage_of(row.body) {
+    match row.body.passage() {
         Some((sent, _)) => {
             let mate = mate_of(scene.case, row.place, row.body);
             let late = late_by(alloc, scene.case.logs(), row.late, mate)?;

@@ -1,6 +1,6 @@
 //! The lines of a sentence.
 
-ghost use Rattle.std.specs.Prelude.{◌≡◌, ◌≤◌, length};
+ghost use Rattle.std.specs.Prelude.{◌≡◌};
 ghost use Rattle.std.specs.Option.{option_copied};
 ghost use Rattle.picture.specs.Rows.{breaks_from, ends_line, gap_of, room_of};
 

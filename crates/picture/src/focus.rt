@@ -3,8 +3,8 @@
 ghost use Rattle.std.specs.Prelude.{◌≡◌};
 ghost use Rattle.picture.specs.Rows.{focus_of, mate_by, named_by};
 
-use crate::mate::{mate_at, receipt};
-use crate::orders::place_at;
+use crate::order::positions::place_at;
+use crate::passing::mate::{mate_at, receipt};
 use crate::place::Place;
 use audit_core::Report;
 use case_book::Case;
@@ -27,7 +27,11 @@ fn named_by(case: &Case, order: &[u32], report: &Report) -> Option<Place>
             vat: *vat,
             number: *at as usize,
         }),
-        Report::Link { conn, end, message } => receipt(case, *conn, *end, *message as usize),
+        Report::Link {
+            connection,
+            end,
+            message,
+        } => receipt(case, *connection, *end, *message as usize),
         Report::OrderStep(step) => place_at(order, *step as usize),
         Report::NoOrder | Report::Yes { .. } => None,
     }
@@ -38,8 +42,12 @@ fn mate_by(case: &Case, report: &Report) -> Option<Place>
     ensures { result ≡ mate_by case.now report.now }
 {
     match report {
-        Report::Link { conn, end, message } => {
-            let place = receipt(case, *conn, *end, *message as usize)?;
+        Report::Link {
+            connection,
+            end,
+            message,
+        } => {
+            let place = receipt(case, *connection, *end, *message as usize)?;
             mate_at(case, place)
         }
         _ => None,

@@ -2,11 +2,10 @@
 
 ghost use Rattle.std.specs.Prelude.{◌≡◌, Some, false};
 ghost use Rattle.std.specs.Fmt.{WritesOnOk};
-ghost use Rattle.report_lines.specs.MessageText.{loopback_text};
 ghost use Rattle.picture.specs.Labels.{answered_text, caps_text, label_text, said_text, short_outcome, short_text};
 
-use report_lines::Shown;
-use rpc_view::{Descriptor, Loopback, Outcome, Payload, RpcMessage, Target};
+use report_lines::{Shown, loopback_text};
+use rpc_view::{Descriptor, Outcome, Payload, RpcMessage, Target};
 use std::fmt;
 use std::fmt::{Display, Formatter};
 use vat_log::{Body, ResultReferences};
@@ -66,16 +65,6 @@ fn put_call<W: fmt::Write>(
     write!(f, "call {question} to {}{caps}", Shown(target))
 }
 
-/// The word for a loopback.
-fn loopback_word(loopback: Loopback) -> &'static str
-    ensures { result.now ≡ loopback_text loopback }
-{
-    match loopback {
-        Loopback::Sender => "senderLoopback",
-        Loopback::Receiver => "receiverLoopback",
-    }
-}
-
 /// A message in short: its kind, its question or number, its target, and its capabilities.
 #[derive(Clone, Copy)]
 struct Short<'a>(&'a RpcMessage);
@@ -108,7 +97,7 @@ impl Display for Short<'_> {
                 loopback,
                 target,
             } => {
-                let loopback = loopback_word(*loopback);
+                let loopback = loopback_text(*loopback);
                 write!(f, "disembargo {number} {loopback} to {}", Shown(target))
             }
             RpcMessage::Abort => f.write_str("abort"),

@@ -4,36 +4,34 @@
 //! `case_book`, `merge_order`, `run_model`, `vat_log` and `rpc_view`. It opens no file. Where records stand is said in
 //! `specs/Places.antt`, rows and arrows in `specs/Rows.antt`, the words of a row in `specs/Labels.antt`, and what is drawn of
 //! all that in `specs/Picture.antt`: [`draw`] makes just these rows and arrows, and a [`Picture`] is shown as just that text.
+//! The Returns that it draws as late are those of the audit, by `vat_rules` and `vat_view`
+//! ([`late_returns_are_the_audits`]).
 #![tactic(auto)]
 
-mod arranging;
 mod arrow;
 mod breaks;
 mod calls;
 mod columns;
 mod drawing;
 mod focus;
-mod frames;
 mod label;
-mod late;
+mod laws;
 mod logs;
-mod mate;
-mod messages;
-mod orders;
+mod order;
 mod page;
+mod passing;
 mod place;
 mod row;
 mod scene;
-mod seat;
 mod svg;
-mod turns;
 mod width;
 mod window;
 
-pub use arranging::arrange;
 pub use arrow::{Arrow, Reach, Stroke};
 pub use columns::Column;
 pub use drawing::{Picture, draw};
+pub use laws::late_returns_are_the_audits;
+pub use order::arranging::arrange;
 pub use page::text_of;
 pub use place::Place;
 pub use row::{Row, Tone};

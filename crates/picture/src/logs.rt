@@ -2,7 +2,7 @@
 
 ghost use Rattle.std.specs.Prelude.{◌≡◌, ◌≤◌, ◌+◌, length, map, slice_get};
 ghost use Rattle.std.specs.Arc.{arc_value};
-ghost use Rattle.std.specs.Option.{option_copied, option_map};
+ghost use Rattle.std.specs.Option.{option_copied};
 ghost use Rattle.case_book.specs.Case.{vat_limit};
 ghost use Rattle.picture.specs.Places.{column_of, log_of};
 ghost use Rattle.picture.specs.Rows.{body_at};

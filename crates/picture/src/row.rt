@@ -1,17 +1,16 @@
 //! Rows: records of vats at their places in an order.
 
-ghost use Rattle.std.specs.Prelude.{◌≡◌, ◌≤◌, ◌+◌, ◌<◌, ◌++◌, length, IfOk, take};
+ghost use Rattle.std.specs.Prelude.{◌≡◌, ◌≤◌, ◌+◌, ◌<◌, ◌++◌, length, IfOk};
 ghost use Rattle.std.specs.Option.{option_to_list};
 ghost use Rattle.picture.specs.Labels.{label_text};
 ghost use Rattle.picture.specs.Rows.{drawn, drawn_at, drawn_in, is_place, row_at, rows_of, tone_of};
 
 use crate::calls::{are_kin, maker_at};
-use crate::frames::passage_of;
 use crate::label::Label;
-use crate::late::is_late;
 use crate::logs::{body_in, column_of, log_of};
-use crate::messages::message_of;
-use crate::orders::place_at;
+use crate::order::positions::place_at;
+use crate::passing::late::is_late;
+use crate::passing::messages::message_of;
 use crate::place::Place;
 use crate::scene::Scene;
 use crate::window::line_of;
@@ -118,7 +117,7 @@ fn drawn<'a>(
     ensures { IfOk result (λ made. made ≡ drawn scene.now row place log.now body.now) }
 {
     let message = message_of(alloc, body, edition_of(log))?;
-    let late = is_late(alloc, log, place.number, passage_of(body), &message)?;
+    let late = is_late(alloc, log, place.number, body.passage(), &message)?;
     Ok(Row {
         place,
         column: column_of(scene.case.logs(), place.vat),

@@ -3,7 +3,7 @@
 ghost use Rattle.std.specs.Prelude.{◌≡◌, ◌≤◌, ◌+◌};
 ghost use Rattle.picture.specs.Rows.{first_of, least_of, limit_of, line_of, lines_of, middle_of, room_in, row_in, row_of, wanted_of, window_of};
 
-use crate::orders::step_of;
+use crate::order::positions::step_of;
 use crate::place::Place;
 
 /// Which steps of an order are asked for.

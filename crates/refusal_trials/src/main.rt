@@ -1,6 +1,6 @@
 //! Makes each call that takes memory on the worked conversations, and compares its answer with what it must be.
 //!
-//! A call that is refused memory is made again. `tests/refused` runs this program once for each of its allocations and
+//! A call that is refused memory is made again. `tests/refused.py` runs this program once for each of its allocations and
 //! refuses that one; each time all answers have to come as they must. An answer that doesn't is named in a line, and the
 //! exit status is then 1. The last line is how many came as they must. `rows.rt` says what must come, `of_logs.rt` makes
 //! the calls on one log, `of_cases.rt` those on a case, `of_joins.rt` those that join logs, `of_taps.rt` those of a tap.

@@ -14,47 +14,47 @@ use std::io;
 use std::sync::{Arc, Wait};
 use std::thread::Threads;
 use vat_log::VatLog;
-use worked_cases::{Refused, ask_again, case_of, early_delivery, is_so, run_of};
+use worked_cases::{NoAnswer, ask_again, case_of, early_delivery, is_so, run_of};
 
 /// The log of a vat.
-fn log_of(case: &Case, vat: u32) -> Result<&Arc<VatLog>, Refused> {
+fn log_of(case: &Case, vat: u32) -> Result<&Arc<VatLog>, NoAnswer> {
     for log in case.logs() {
         if log.vat() == vat {
             return Ok(log);
         }
     }
-    Err(Refused::Otherwise)
+    Err(NoAnswer::Otherwise)
 }
 
 /// Whether all that was sent on a link came as it was sent.
-fn is_linked(case: &Case, link: &Link) -> Result<bool, Refused> {
+fn is_linked(case: &Case, link: &Link) -> Result<bool, NoAnswer> {
     let first = log_of(case, link.a)?;
     let second = log_of(case, link.b)?;
     if first.vat() == second.vat() {
-        return Err(Refused::Otherwise);
+        return Err(NoAnswer::Otherwise);
     }
-    let found = check_link(link.conn, first, second)?;
+    let found = check_link(link.connection, first, second)?;
     Ok(matches!(found.outcome(), LinkOutcome::Good { in_flight: 0, .. }))
 }
 
 /// Whether just this order is made.
-fn is_made(alloc: Global, case: &Case, vats: &[u32]) -> Result<bool, Refused> {
+fn is_made(alloc: Global, case: &Case, vats: &[u32]) -> Result<bool, NoAnswer> {
     let order = make_order(alloc, case.logs())?.ok_or("an order")?;
     Ok(order.as_slice() == vats)
 }
 
 /// The order of these steps.
-fn order_of(alloc: Global, vats: &[u32]) -> Result<Order, Refused> {
+fn order_of(alloc: Global, vats: &[u32]) -> Result<Order, NoAnswer> {
     Ok(Order::new(Vec::from_slice(alloc, vats)?))
 }
 
 /// Whether an order fits.
-fn fits(alloc: Global, case: &Case, order: &Order) -> Result<bool, Refused> {
+fn fits(alloc: Global, case: &Case, order: &Order) -> Result<bool, NoAnswer> {
     Ok(check_order(alloc, case.logs(), order)? == OrderFinding::Fits)
 }
 
 /// Whether an order is written, and its bytes are read as the same order.
-fn is_spelled(alloc: Global, order: &Order) -> Result<bool, Refused> {
+fn is_spelled(alloc: Global, order: &Order) -> Result<bool, NoAnswer> {
     let bytes = ask_again(|| Ok(write_order(alloc, order)?))?;
     let read = read_order(alloc, bytes)?;
     Ok(read.as_slice() == order.as_slice())
@@ -81,13 +81,13 @@ fn try_orders(
 }
 
 /// The steps of the run that a case has.
-fn steps_text(alloc: Global, case: &Case) -> Result<String, Refused> {
+fn steps_text(alloc: Global, case: &Case) -> Result<String, NoAnswer> {
     let run = run_of(alloc, case.copy(alloc)?)?;
     Ok(format!(in alloc; "{:?}", run.steps())?)
 }
 
 /// Whether a run has just these edges.
-fn has_edges(alloc: Global, run: &Run, edges: &[&str]) -> Result<bool, Refused> {
+fn has_edges(alloc: Global, run: &Run, edges: &[&str]) -> Result<bool, NoAnswer> {
     let found = graph(alloc, run)?;
     let mut is_all = found.edges().len() == edges.len();
     for (edge, told) in found.edges().iter().zip(edges) {
@@ -132,7 +132,7 @@ fn is_yes<R: Threads + Wait + Sync>(
     case: &Case,
     row: &Row,
     workers: u32,
-) -> Result<bool, Refused> {
+) -> Result<bool, NoAnswer> {
     let report = audit(rt, alloc, case.copy(alloc)?, None, workers, &Free)?;
     let Report::Yes {
         vats,

@@ -6,10 +6,10 @@ use log_ends::{Joining, alike_ends, join_ends, renumbered_logs};
 use std::alloc::Global;
 use std::io;
 use vat_log::{VatLog, parse_log};
-use worked_cases::{Refused, ask_again, bytes_of_new_log, is_so};
+use worked_cases::{NoAnswer, ask_again, bytes_of_new_log, is_so};
 
 /// The logs of a conversation, of version 2.
-fn logs_of(alloc: Global, vats: &[(&str, &str)]) -> Result<Vec<VatLog>, Refused> {
+fn logs_of(alloc: Global, vats: &[(&str, &str)]) -> Result<Vec<VatLog>, NoAnswer> {
     let mut logs = Vec::new(alloc);
     for (number, records) in vats {
         let bytes = bytes_of_new_log(alloc, number, records)?;
@@ -19,7 +19,7 @@ fn logs_of(alloc: Global, vats: &[(&str, &str)]) -> Result<Vec<VatLog>, Refused>
 }
 
 /// Whether all ends are in so many pairs.
-fn are_joined(alloc: Global, logs: &[VatLog], many: usize) -> Result<bool, Refused> {
+fn are_joined(alloc: Global, logs: &[VatLog], many: usize) -> Result<bool, NoAnswer> {
     Ok(match join_ends(alloc, logs)? {
         Joining::Joined(pairs) => pairs.len() == many,
         _ => false,
@@ -27,7 +27,7 @@ fn are_joined(alloc: Global, logs: &[VatLog], many: usize) -> Result<bool, Refus
 }
 
 /// Whether logs whose connections have the numbers of their pairs already are made once more.
-fn are_kept(alloc: Global, logs: &[VatLog]) -> Result<bool, Refused> {
+fn are_kept(alloc: Global, logs: &[VatLog]) -> Result<bool, NoAnswer> {
     let Joining::Joined(pairs) = join_ends(alloc, logs)? else {
         return Ok(false);
     };
@@ -39,7 +39,7 @@ fn are_kept(alloc: Global, logs: &[VatLog]) -> Result<bool, Refused> {
 }
 
 /// Two ends that are alike.
-fn alike_text(alloc: Global, logs: &[VatLog]) -> Result<String, Refused> {
+fn alike_text(alloc: Global, logs: &[VatLog]) -> Result<String, NoAnswer> {
     let found = alike_ends(alloc, logs)?;
     Ok(format!(in alloc; "{found:?}")?)
 }

@@ -15,7 +15,7 @@ use vat_log::{
 };
 use vat_rules::{Outcome, SlimOutcome, audit_slim, audit_vat};
 use worked_cases::{
-    Refused, ask_again, bytes_of_later_log, bytes_of_log, bytes_of_new_log, is_so, log,
+    NoAnswer, ask_again, bytes_of_later_log, bytes_of_log, bytes_of_new_log, is_so, log,
 };
 
 /// The bytes of one log in each version.
@@ -27,7 +27,7 @@ struct Spelled {
 }
 
 /// Those of the log of a vat that recorded this.
-fn log_spelled(alloc: Global, number: &str, records: &str) -> Result<Spelled, Refused> {
+fn log_spelled(alloc: Global, number: &str, records: &str) -> Result<Spelled, NoAnswer> {
     Ok(Spelled {
         old: bytes_of_log(alloc, number, records)?,
         new: bytes_of_new_log(alloc, number, records)?,
@@ -41,7 +41,7 @@ fn is_log_of(log: &VatLog, version: u32, bytes: &Bytes) -> bool {
 }
 
 /// Whether bytes are read as a log whose records are written, in versions 2 and 3, with the bytes of these.
-fn is_parsed(alloc: Global, bytes: &Spelled) -> Result<bool, Refused> {
+fn is_parsed(alloc: Global, bytes: &Spelled) -> Result<bool, NoAnswer> {
     let log = parse_log(alloc, bytes.old.clone()?)?;
     let mut records = Vec::new(alloc);
     for index in 0..log.len() {
@@ -53,7 +53,7 @@ fn is_parsed(alloc: Global, bytes: &Spelled) -> Result<bool, Refused> {
 }
 
 /// Whether a log of each version is raised to version 3.
-fn is_raised(alloc: Global, bytes: &Spelled) -> Result<bool, Refused> {
+fn is_raised(alloc: Global, bytes: &Spelled) -> Result<bool, NoAnswer> {
     for from in [&bytes.old, &bytes.new, &bytes.later] {
         let log = parse_log(alloc, from.clone()?)?;
         if !is_log_of(&raise(alloc, &log)?, 3, &bytes.later) {
@@ -67,12 +67,12 @@ fn is_raised(alloc: Global, bytes: &Spelled) -> Result<bool, Refused> {
 const VOWS: &str = "VOW r1; VOW r2";
 
 /// The record VOW of this reference.
-fn vow(reference: u64) -> Result<Record, Refused> {
+fn vow(reference: u64) -> Result<Record, NoAnswer> {
     ask_again(|| Ok(Record::new(Body::Vow { reference })?))
 }
 
 /// Whether VOW of 1 and 2 are written so in version 3, all at once.
-fn is_written(alloc: Global, bytes: &Bytes) -> Result<bool, Refused> {
+fn is_written(alloc: Global, bytes: &Bytes) -> Result<bool, NoAnswer> {
     let mut records = Vec::new(alloc);
     for reference in [1, 2] {
         records.push(vow(reference)?)?;
@@ -81,7 +81,7 @@ fn is_written(alloc: Global, bytes: &Bytes) -> Result<bool, Refused> {
 }
 
 /// Puts a record behind the others, and once more where memory is refused.
-fn push(writer: &mut LogWriter, entry: Record) -> Result<(), Refused> {
+fn push(writer: &mut LogWriter, entry: Record) -> Result<(), NoAnswer> {
     match writer.push(entry) {
         Err((LogError::OutOfMemory, entry)) => Ok(writer.push(entry)?),
         pushed => Ok(pushed?),
@@ -89,7 +89,7 @@ fn push(writer: &mut LogWriter, entry: Record) -> Result<(), Refused> {
 }
 
 /// The log of the records that were pushed, finished once more where memory is refused.
-fn finish(writer: LogWriter) -> Result<VatLog, Refused> {
+fn finish(writer: LogWriter) -> Result<VatLog, NoAnswer> {
     match writer.finish() {
         Err((LogError::OutOfMemory, writer)) => Ok(writer.finish()?),
         finished => Ok(finished?),
@@ -97,7 +97,7 @@ fn finish(writer: LogWriter) -> Result<VatLog, Refused> {
 }
 
 /// Whether they are written so one by one.
-fn is_pushed(alloc: Global, bytes: &Bytes) -> Result<bool, Refused> {
+fn is_pushed(alloc: Global, bytes: &Bytes) -> Result<bool, NoAnswer> {
     let mut writer = LogWriter::later(alloc, 4);
     for reference in [1, 2] {
         push(&mut writer, vow(reference)?)?;
@@ -117,7 +117,7 @@ pub fn try_writing(rt: &impl Print, alloc: Global, tally: &mut Tally) -> io::Res
 }
 
 /// Whether all records of a log are good, and so many calls were delivered.
-fn is_good(alloc: Global, log: &Arc<VatLog>, delivered: u64) -> Result<bool, Refused> {
+fn is_good(alloc: Global, log: &Arc<VatLog>, delivered: u64) -> Result<bool, NoAnswer> {
     let found = audit_vat(alloc, log, Limits::default())?;
     Ok(match found.outcome() {
         Outcome::Good(story) => {
@@ -128,7 +128,7 @@ fn is_good(alloc: Global, log: &Arc<VatLog>, delivered: u64) -> Result<bool, Ref
 }
 
 /// Whether the audit that keeps no record finds the same.
-fn is_good_in_short(alloc: Global, log: &Arc<VatLog>, delivered: u64) -> Result<bool, Refused> {
+fn is_good_in_short(alloc: Global, log: &Arc<VatLog>, delivered: u64) -> Result<bool, NoAnswer> {
     let found = audit_slim(alloc, log, Limits::default())?;
     Ok(match found.outcome() {
         SlimOutcome::Good(story) => {
@@ -139,7 +139,7 @@ fn is_good_in_short(alloc: Global, log: &Arc<VatLog>, delivered: u64) -> Result<
 }
 
 /// What is open at the end of a log, where all of its records are good.
-fn open_text(alloc: Global, log: &Arc<VatLog>) -> Result<String, Refused> {
+fn open_text(alloc: Global, log: &Arc<VatLog>) -> Result<String, NoAnswer> {
     let found = audit_vat(alloc, log, Limits::default())?;
     let open = match found.outcome() {
         Outcome::Good(story) => open_at_end(alloc, story.events())?,
@@ -149,13 +149,13 @@ fn open_text(alloc: Global, log: &Arc<VatLog>) -> Result<String, Refused> {
 }
 
 /// The message of a frame by an edition.
-fn message_text(alloc: Global, frame: &Frame, edition: Edition) -> Result<String, Refused> {
+fn message_text(alloc: Global, frame: &Frame, edition: Edition) -> Result<String, NoAnswer> {
     let message = read_message(alloc, frame, Limits::default(), edition)?;
     Ok(format!(in alloc; "{message:?}")?)
 }
 
 /// The capabilities at and below the first pointer of a frame's message.
-fn fields_text(alloc: Global, frame: &Frame) -> Result<String, Refused> {
+fn fields_text(alloc: Global, frame: &Frame) -> Result<String, NoAnswer> {
     let mut limits = Limits::default();
     let message = root(frame, &mut limits)?;
     let found = fields(alloc, frame, &message, 0, &mut limits)?;
@@ -163,7 +163,7 @@ fn fields_text(alloc: Global, frame: &Frame) -> Result<String, Refused> {
 }
 
 /// The frame of a record, if it has one.
-fn frame_of(body: &Body) -> Option<Result<Frame, Refused>> {
+fn frame_of(body: &Body) -> Option<Result<Frame, NoAnswer>> {
     let (Body::Send { frame, .. } | Body::Receive { frame, .. }) = body else {
         return None;
     };

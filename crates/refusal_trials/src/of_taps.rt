@@ -8,10 +8,10 @@ use std::alloc::Global;
 use std::io;
 use vat_log::{Body, Record, VatLog};
 use vat_tap::{CloseError, Lane, Tap};
-use worked_cases::Refused;
+use worked_cases::NoAnswer;
 
 /// A tap of vat 1, and its two lanes, each with a ring of two records. Its log is of version 2.
-fn two_lanes(alloc: Global) -> Result<(Tap, Lane, Lane), Refused>
+fn two_lanes(alloc: Global) -> Result<(Tap, Lane, Lane), NoAnswer>
     ensures first { IfOk result (λ opened. IsLaneOf opened.0 opened.1 × (opened.1.number ≡ 0)) }
     ensures second { IfOk result (λ opened. IsLaneOf opened.0 opened.2 × (opened.2.number ≡ 1)) }
 {
@@ -23,7 +23,7 @@ fn two_lanes(alloc: Global) -> Result<(Tap, Lane, Lane), Refused>
 }
 
 /// The same, of version 3.
-fn two_later_lanes(alloc: Global) -> Result<(Tap, Lane, Lane), Refused>
+fn two_later_lanes(alloc: Global) -> Result<(Tap, Lane, Lane), NoAnswer>
     ensures first { IfOk result (λ opened. IsLaneOf opened.0 opened.1 × (opened.1.number ≡ 0)) }
     ensures second { IfOk result (λ opened. IsLaneOf opened.0 opened.2 × (opened.2.number ≡ 1)) }
 {
@@ -35,7 +35,7 @@ fn two_later_lanes(alloc: Global) -> Result<(Tap, Lane, Lane), Refused>
 }
 
 /// The same, of version 3 or else of version 2.
-fn lanes_of(alloc: Global, later: bool) -> Result<(Tap, Lane, Lane), Refused>
+fn lanes_of(alloc: Global, later: bool) -> Result<(Tap, Lane, Lane), NoAnswer>
     ensures first { IfOk result (λ opened. IsLaneOf opened.0 opened.1 × (opened.1.number ≡ 0)) }
     ensures second { IfOk result (λ opened. IsLaneOf opened.0 opened.2 × (opened.2.number ≡ 1)) }
 {
@@ -47,28 +47,28 @@ fn lanes_of(alloc: Global, later: bool) -> Result<(Tap, Lane, Lane), Refused>
 }
 
 /// The same, opened once more where memory is refused.
-fn open_lanes(alloc: Global, later: bool) -> Result<(Tap, Lane, Lane), Refused>
+fn open_lanes(alloc: Global, later: bool) -> Result<(Tap, Lane, Lane), NoAnswer>
     ensures first { IfOk result (λ opened. IsLaneOf opened.0 opened.1 × (opened.1.number ≡ 0)) }
     ensures second { IfOk result (λ opened. IsLaneOf opened.0 opened.2 × (opened.2.number ≡ 1)) }
 {
     match lanes_of(alloc, later) {
-        Err(Refused::OutOfMemory) => lanes_of(alloc, later),
+        Err(NoAnswer::OutOfMemory) => lanes_of(alloc, later),
         answer => answer,
     }
 }
 
 /// Records VOW of this reference.
-fn vow(lane: &mut Lane, reference: u64) -> Result<(), Refused>
+fn vow(lane: &mut Lane, reference: u64) -> Result<(), NoAnswer>
     ensures { SameLane lane.old lane.new }
 {
     match lane.record(Record::new(Body::Vow { reference })?) {
         Ok(_) => Ok(()),
-        Err(_) => Err(Refused::Otherwise),
+        Err(_) => Err(NoAnswer::Otherwise),
     }
 }
 
 /// Takes what was recorded, and once more where memory is refused.
-fn drain(tap: &mut Tap) -> Result<(), Refused>
+fn drain(tap: &mut Tap) -> Result<(), NoAnswer>
     ensures { SameTap tap.old tap.new }
 {
     if tap.drain().is_err() {
@@ -78,7 +78,7 @@ fn drain(tap: &mut Tap) -> Result<(), Refused>
 }
 
 /// Records VOW of these references by turns, the first by the first lane.
-fn record(first: &mut Lane, second: &mut Lane, references: [u64; 3]) -> Result<(), Refused>
+fn record(first: &mut Lane, second: &mut Lane, references: [u64; 3]) -> Result<(), NoAnswer>
     ensures first { SameLane first.old first.new }
     ensures second { SameLane second.old second.new }
 {
@@ -88,7 +88,7 @@ fn record(first: &mut Lane, second: &mut Lane, references: [u64; 3]) -> Result<(
 }
 
 /// Both lanes.
-fn both(alloc: Global, first: Lane, second: Lane) -> Result<Vec<Lane>, Refused>
+fn both(alloc: Global, first: Lane, second: Lane) -> Result<Vec<Lane>, NoAnswer>
     ensures { IfOk result (λ lanes. lanes.items ≡ first ∷ second ∷ []) }
 {
     let mut lanes = match Vec::with_capacity(alloc, 2) {
@@ -101,21 +101,21 @@ fn both(alloc: Global, first: Lane, second: Lane) -> Result<Vec<Lane>, Refused>
 }
 
 /// The log of what two lanes of a tap recorded. The tap is closed once more where memory is refused.
-fn closed_log(tap: Tap, lanes: Vec<Lane>) -> Result<VatLog, Refused>
+fn closed_log(tap: Tap, lanes: Vec<Lane>) -> Result<VatLog, NoAnswer>
     requires mine { All (IsLaneOf tap) lanes.items }
     requires different { AreDifferent lanes.items }
 {
     match tap.close(lanes) {
         Ok(log) => Ok(log),
         Err((CloseError::OutOfMemory, tap, lanes)) => {
-            tap.close(lanes).map_err(|_| Refused::Otherwise)
+            tap.close(lanes).map_err(|_| NoAnswer::Otherwise)
         }
-        Err(_) => Err(Refused::Otherwise),
+        Err(_) => Err(NoAnswer::Otherwise),
     }
 }
 
 /// The same of these two lanes.
-fn close_lanes(alloc: Global, tap: Tap, first: Lane, second: Lane) -> Result<VatLog, Refused>
+fn close_lanes(alloc: Global, tap: Tap, first: Lane, second: Lane) -> Result<VatLog, NoAnswer>
     requires first { IsLaneOf tap first }
     requires second { IsLaneOf tap second }
     requires different { first.number ≢ second.number }
@@ -124,7 +124,7 @@ fn close_lanes(alloc: Global, tap: Tap, first: Lane, second: Lane) -> Result<Vat
 }
 
 /// The log of a tap that is opened, drained and closed.
-fn taped_log(alloc: Global, later: bool) -> Result<VatLog, Refused> {
+fn taped_log(alloc: Global, later: bool) -> Result<VatLog, NoAnswer> {
     let (mut tap, mut first, mut second) = open_lanes(alloc, later)?;
     record(&mut first, &mut second, [1, 2, 3])?;
     drain(&mut tap)?;

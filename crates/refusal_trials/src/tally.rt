@@ -1,7 +1,7 @@
 //! Counting answers.
 
 use std::io;
-use worked_cases::{Refused, ask_again};
+use worked_cases::{NoAnswer, ask_again};
 
 /// How many answers came as they must, and how many didn't.
 #[derive(Clone, Copy)]
@@ -23,7 +23,7 @@ impl Tally {
 }
 
 /// Whether a call answers the same twice, also where memory is refused once.
-pub fn is_same_twice<F: Fn() -> Result<String, Refused>>(ask: F) -> bool
+pub fn is_same_twice<F: Fn() -> Result<String, NoAnswer>>(ask: F) -> bool
     requires { F.IsAlwaysCallable ask }
 {
     match (ask_again(&ask), ask_again(&ask)) {

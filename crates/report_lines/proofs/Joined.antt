@@ -1,7 +1,7 @@
 -- Texts with something between each two, written one by one.
-use Rattle.std.proofs.Common.{◌≡◌, ◌∙◌, ℕ, ◌+◌, ◌<◌, ◌≤◌, List, [], ◌∷◌, ◌++◌, length, take, get_or, refl, sym, ap, arith, append_assoc, append-nil, length-take}
-use Rattle.std.proofs.Output.{has_written_append, has_written_of_eq, writes_in_calls_nil}
-use Rattle.std.proofs.lemmas.List.{take_more, take_all}
+use Rattle.std.proofs.Common.{◌≡◌, ◌∙◌, ℕ, ◌+◌, ◌<◌, List, [], ◌∷◌, ◌++◌, length, take, get_or, refl, sym, ap, arith, append_assoc, append-nil, length-take}
+use Rattle.std.proofs.Output.{has_written_append, has_written_of_eq}
+use Rattle.std.proofs.lemmas.List.{take_more}
 use Rattle.std.specs.Fmt.{HasWritten, IsPlainFormatter}
 use Rattle.std.specs.List.{flat_map, join_by}
 use Rattle.std.specs.declared.fmt.Formatter.{Formatter}
@@ -25,14 +25,6 @@ module _ {W X : Type 0} (took : W → List ℕ → W → Type 0) (f : X → List
     pub first : i ≡ 0 → between ≡ []
     pub later : 0 < i → between ≡ sep
 
-  -- none yet
-  pub joins_none : (xs : List X) (old : Formatter W) (between : List ℕ) → between ≡ [] → Joins xs 0 old old between
-  joins_none xs old between none = record {
-    wrote = λ plain. record { wrote = writes_in_calls_nil took old.writer; plain = plain };
-    first = λ _. none;
-    later = λ some. absurd (omega arith);
-  }
-
   -- one more
   pub joins_next : (xs : List X) (i : ℕ) (x d : X) (old now after : Formatter W) (between : List ℕ) → i < length xs → x ≡ get_or xs i d
       → Joins xs i old now between → (IsPlainFormatter now → HasWritten took now (between ++ f x) after) → Joins xs (i + 1) old after sep
@@ -48,8 +40,3 @@ module _ {W X : Type 0} (took : W → List ℕ → W → Type 0) (f : X → List
         first = λ none. absurd (omega arith);
         later = λ some. refl;
       }
-
-  -- all
-  pub joins_all : (xs : List X) (i : ℕ) (old now : Formatter W) (between : List ℕ) → length xs ≤ i → Joins xs i old now between
-      → IsPlainFormatter old → HasWritten took old (join_by f sep xs) now
-  joins_all xs i old now between all so_far plain = has_written_of_eq took old _ _ now (ap (join_by f sep) (take_all i xs all)) (so_far.wrote plain)

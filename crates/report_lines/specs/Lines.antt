@@ -13,8 +13,8 @@ use Rattle.audit_core.specs.declared.report.Report.{Report as ReportOf}
 use Rattle.audit_core.specs.declared.report.Report.TheVariants as report
 use Rattle.wire_cut.specs.declared.end.End.{End}
 use Rattle.wire_cut.specs.declared.end.End.TheVariants as end
-use Rattle.wire_logs.specs.declared.line.WireLine.{WireLine}
-use Rattle.wire_logs.specs.declared.line.WireLine.TheVariants as wire
+use Rattle.wire_logs.specs.declared.wire_line.WireLine.{WireLine}
+use Rattle.wire_logs.specs.declared.wire_line.WireLine.TheVariants as wire
 use Rattle.report_lines.specs.declared.join_text.JoinLine.{JoinLine}
 use Rattle.report_lines.specs.declared.join_text.JoinLine.TheVariants as join
 use Rattle.report_lines.specs.declared.answer.Answer.{Answer}

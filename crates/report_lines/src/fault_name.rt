@@ -35,6 +35,7 @@ impl Display for Shown<ReadError> {
             ReadError::NoSegment => "NoSegment",
             ReadError::BadPad => "BadPad",
             ReadError::WrongKind => "WrongKind",
+            ReadError::NoZero => "NoZero",
             ReadError::Reserved => "Reserved",
             ReadError::TooDeep => "TooDeep",
             ReadError::TooMuch => "TooMuch",

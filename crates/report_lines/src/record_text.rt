@@ -128,6 +128,20 @@ fn put_make<W: fmt::Write>(
     )
 }
 
+/// Writes a FIELD: its reference, and of which call's results it is which.
+fn put_field<W: fmt::Write>(
+    f: &mut Formatter<W>,
+    reference: u64,
+    call: u64,
+    path: &Path,
+) -> fmt::Result
+    ensures { WritesOnOk W.write_str_gives f.old result
+        (body_text (Body.Field reference call path.now)) f.new }
+{
+    let path = Shown(path);
+    write!(f, "field reference {reference} call {call} path {path}")
+}
+
 /// What a record says, but for its frame.
 impl Display for Shown<&Body> {
     ghost output = { λ said. Some (body_text said.0.now) };
@@ -150,10 +164,7 @@ impl Display for Shown<&Body> {
                 reference,
                 call,
                 path,
-            } => {
-                let path = Shown(path);
-                write!(f, "field reference {reference} call {call} path {path}")
-            }
+            } => put_field(f, *reference, *call, path),
             Body::Deliver { call, object } => write!(f, "deliver call {call} object {object}"),
             Body::Answer { call, results } => {
                 let results = Shown(results.as_slice());

@@ -33,9 +33,11 @@ pub fn put_report<W: fmt::Write>(f: &mut Formatter<W>, report: &Report) -> fmt::
     match report {
         Report::Vat { vat, at, rule } => put_broken(f, *vat, *at, breach_code(*rule)),
         Report::OutsideVat { vat, at, why } => put_outside(f, *vat, *at, *why),
-        Report::Link { conn, end, message } => {
-            write!(f, "no link {conn} end {end} message {message}")
-        }
+        Report::Link {
+            connection,
+            end,
+            message,
+        } => { write!(f, "no link {connection} end {end} message {message}") }
         Report::OrderStep(step) => write!(f, "no order step {step}"),
         Report::NoOrder => put_no_order(f),
         Report::Yes {

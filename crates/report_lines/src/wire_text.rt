@@ -1,6 +1,6 @@
 //! The text and the exit status of what is answered of the bytes of a connection.
 
-ghost use Rattle.std.specs.Prelude.{◌≡◌, Some};
+ghost use Rattle.std.specs.Prelude.{◌≡◌};
 ghost use Rattle.std.specs.Fmt.{WritesOnOk};
 ghost use Rattle.report_lines.specs.Lines.{end_name, wire_status, wire_text};
 

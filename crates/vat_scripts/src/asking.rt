@@ -13,7 +13,7 @@ use vat_notation::{Fault, Script, words_of};
 
 /// What a run wrote to its output, its exit status, and what it wrote to the file that is made.
 #[derive(Drop)]
-pub struct Told {
+pub struct RunOutput {
     pub out: Vec<u8>,
     pub status: u8,
     pub made: Vec<u8>,
@@ -27,8 +27,8 @@ pub fn ask<R: Threads + Wait + Sync>(
     alloc: Global,
     words: &[&str],
     files: Vec<(String, Bytes)>,
-) -> Result<Told, Fault> {
-    let mut told = Told {
+) -> Result<RunOutput, Fault> {
+    let mut told = RunOutput {
         out: Vec::new(alloc),
         status: 2,
         made: Vec::new(alloc),
@@ -102,7 +102,7 @@ fn put_made(text: &mut String, made: &[u8]) -> Result<(), Fault> {
 }
 
 /// All that a run told, line by line.
-fn text_of(alloc: Global, told: &Told) -> Result<String, Fault> {
+fn text_of(alloc: Global, told: &RunOutput) -> Result<String, Fault> {
     let out = std::str::from_utf8(&told.out).map_err(|_| Fault::Unread)?;
     let mut text = String::from_str(alloc, out)?;
     if !told.made.is_empty() {

@@ -39,7 +39,7 @@ use file::{Folder, RememberingFolder};
 use json_lines::OUT_OF_MEMORY;
 use made::Made;
 use manner::take_manner;
-use progress::Progress;
+use progress::RunProgress;
 use proved_by::ProgramVersion;
 use report_lines::Fault;
 use std::io::{IsTerminal, Write};
@@ -162,7 +162,7 @@ fn run_with_progress<
 >(rt: &R, command: &Command<'_>, out: &mut W, made: &mut Made<'_, R>, notes: N) -> u8
     requires { HasWorkers command.now }
 {
-    let progress = Progress::new();
+    let progress = RunProgress::new();
     let shared = &progress;
     let mut lines = WipingWriter {
         rt,

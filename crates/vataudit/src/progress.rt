@@ -48,7 +48,7 @@ struct Line {
 
 /// How far a run has come, and the line that says so.
 #[derive(Drop)]
-pub struct Progress {
+pub struct RunProgress {
     files: Count,
     logs: Count,
     links: Count,
@@ -60,14 +60,14 @@ pub struct Progress {
 
 /// The line, with the seconds that have passed, to be written over what it said before.
 #[derive(Clone, Copy)]
-struct Shown<'a> {
-    progress: &'a Progress,
+struct ProgressLine<'a> {
+    progress: &'a RunProgress,
     seconds: u64,
 }
 
-impl Display for Shown<'_> {
+impl Display for ProgressLine<'_> {
     fn fmt<W: fmt::Write>(&self, f: &mut Formatter<W>) -> fmt::Result {
-        let Progress {
+        let RunProgress {
             files,
             logs,
             links,
@@ -91,10 +91,10 @@ impl Display for Shown<'_> {
     }
 }
 
-impl Progress {
+impl RunProgress {
     /// Before anything is done.
-    pub fn new() -> Progress {
-        Progress {
+    pub fn new() -> RunProgress {
+        RunProgress {
             files: Count::new(),
             logs: Count::new(),
             links: Count::new(),
@@ -125,7 +125,7 @@ impl Progress {
         let seconds = passed.as_secs();
         if seconds >= PATIENCE {
             line.is_shown = true;
-            let _ = rt.eprint(Shown {
+            let _ = rt.eprint(ProgressLine {
                 progress: self,
                 seconds,
             });
@@ -157,7 +157,7 @@ impl Progress {
     }
 }
 
-impl Gate for Progress {
+impl Gate for RunProgress {
     fn before_post(&self, piece: u32) {
         if (piece as u64) < self.logs.read() {
             self.audited.raise();
@@ -167,7 +167,7 @@ impl Gate for Progress {
     }
 }
 
-impl Watch for Progress {
+impl Watch for RunProgress {
     fn begins(&self, logs: usize, links: usize) {
         self.logs.set(logs as u64);
         self.links.set(links as u64);

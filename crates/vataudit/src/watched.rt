@@ -1,6 +1,6 @@
 //! What is read and written while progress is told of.
 
-use crate::progress::Progress;
+use crate::progress::RunProgress;
 use bytes::Bytes;
 use case_files::{RememberingSource, Source, SourceError};
 use command_run::SearchingSource;
@@ -14,7 +14,7 @@ pub struct CountedSource<'a, S> {
     /// The source.
     pub source: S,
     /// What counts them.
-    pub progress: &'a Progress,
+    pub progress: &'a RunProgress,
 }
 
 impl<S: Source> Source for CountedSource<'_, S> {
@@ -51,7 +51,7 @@ pub struct WipingWriter<'a, R, W> {
     /// What wipes it.
     pub rt: &'a R,
     /// The line.
-    pub progress: &'a Progress,
+    pub progress: &'a RunProgress,
     /// The writer.
     pub out: W,
 }

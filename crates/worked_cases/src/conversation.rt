@@ -1,7 +1,7 @@
 //! The worked conversations, as logs and as cases. The lines that must come of each stand in vat_scripts' file of its name.
 
 use crate::given::changed_log;
-use crate::refused::Refused;
+use crate::refused::NoAnswer;
 use case_book::{Case, Link};
 use std::alloc::Global;
 
@@ -15,14 +15,14 @@ pub struct Conversation<'a> {
 
 /// Vats 1 and 2 are the ends of connection 0.
 pub const LINK: Link = Link {
-    conn: 0,
+    connection: 0,
     a: 1,
     b: 2,
 };
 
 /// Vats 2 and 3 are those of connection 1.
 const NEXT_LINK: Link = Link {
-    conn: 1,
+    connection: 1,
     a: 2,
     b: 3,
 };
@@ -159,7 +159,11 @@ pub const RELAYED_CALL: Conversation<'static> = Conversation {
 };
 
 /// The case of a conversation, with what is changed in its logs.
-pub fn case_of(alloc: Global, given: &Conversation<'_>, changes: &[&str]) -> Result<Case, Refused> {
+pub fn case_of(
+    alloc: Global,
+    given: &Conversation<'_>,
+    changes: &[&str],
+) -> Result<Case, NoAnswer> {
     let mut logs = Vec::new(alloc);
     for (number, records) in given.vats {
         logs.push(changed_log(alloc, number, records, changes)?)?;

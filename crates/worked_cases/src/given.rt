@@ -1,6 +1,6 @@
 //! Logs by their records.
 
-use crate::refused::Refused;
+use crate::refused::NoAnswer;
 use bytes::Bytes;
 use std::alloc::Global;
 use std::sync::Arc;
@@ -13,7 +13,7 @@ fn bytes_of_changed(
     number: &str,
     records: &str,
     changes: &[&str],
-) -> Result<Bytes, Refused> {
+) -> Result<Bytes, NoAnswer> {
     let mut vat = Vat {
         number,
         version: Version::One,
@@ -24,18 +24,18 @@ fn bytes_of_changed(
 }
 
 /// The bytes of the log of a vat that recorded this.
-pub fn bytes_of_log(alloc: Global, number: &str, records: &str) -> Result<Bytes, Refused> {
+pub fn bytes_of_log(alloc: Global, number: &str, records: &str) -> Result<Bytes, NoAnswer> {
     bytes_of_changed(alloc, number, records, &[])
 }
 
 /// The bytes of that log in version 2.
-pub fn bytes_of_new_log(alloc: Global, number: &str, records: &str) -> Result<Bytes, Refused> {
+pub fn bytes_of_new_log(alloc: Global, number: &str, records: &str) -> Result<Bytes, NoAnswer> {
     let change = format!(in alloc; "vat {number} version 2")?;
     bytes_of_changed(alloc, number, records, &[change.as_str()])
 }
 
 /// The bytes of that log in version 3.
-pub fn bytes_of_later_log(alloc: Global, number: &str, records: &str) -> Result<Bytes, Refused> {
+pub fn bytes_of_later_log(alloc: Global, number: &str, records: &str) -> Result<Bytes, NoAnswer> {
     let change = format!(in alloc; "vat {number} version 3")?;
     bytes_of_changed(alloc, number, records, &[change.as_str()])
 }
@@ -46,12 +46,12 @@ pub fn changed_log(
     number: &str,
     records: &str,
     changes: &[&str],
-) -> Result<Arc<VatLog>, Refused> {
+) -> Result<Arc<VatLog>, NoAnswer> {
     let bytes = bytes_of_changed(alloc, number, records, changes)?;
     Ok(Arc::new(alloc, parse_log(alloc, bytes)?)?)
 }
 
 /// The log of a vat that recorded this.
-pub fn log(alloc: Global, number: &str, records: &str) -> Result<Arc<VatLog>, Refused> {
+pub fn log(alloc: Global, number: &str, records: &str) -> Result<Arc<VatLog>, NoAnswer> {
     changed_log(alloc, number, records, &[])
 }

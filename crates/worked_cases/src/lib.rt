@@ -19,4 +19,4 @@ pub use conversation::{
 };
 pub use given::{bytes_of_later_log, bytes_of_log, bytes_of_new_log, changed_log, log};
 pub use naming::{early_delivery, run_of};
-pub use refused::Refused;
+pub use refused::NoAnswer;

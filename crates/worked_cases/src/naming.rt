@@ -4,7 +4,7 @@ ghost use Rattle.std.specs.Prelude.{◌≡◌, None, IsTrue, IfOk};
 ghost use Rattle.audit_core.specs.Report.{HoldsOfEach, IsGoodFinding, AreGoodEnds};
 ghost use Rattle.case_book.specs.Ties.{tie_fault_of};
 
-use crate::refused::Refused;
+use crate::refused::NoAnswer;
 use audit_core::good_findings_name_a_run;
 use call_trace::{name_run, order_fault};
 use case_book::{Book, Case, Findings};
@@ -15,14 +15,14 @@ use std::alloc::Global;
 use vat_rules::{Outcome, VatFinding};
 
 /// What is found of each piece of a case that ties up.
-fn find_all(alloc: Global, case: Case) -> Result<Findings, Refused>
+fn find_all(alloc: Global, case: Case) -> Result<Findings, NoAnswer>
     requires { tie_fault_of case ≡ None }
     ensures { IfOk result (λ all. all.case ≡ case) }
 {
     let mut book = Book::new(alloc, case)?;
     while let Some(piece) = book.next_missing() {
         let Some(found) = book.case().find(alloc, piece)? else {
-            return Err(Refused::Otherwise);
+            return Err(NoAnswer::Otherwise);
         };
         book.post(found)?;
     }
@@ -55,28 +55,28 @@ fn are_linked(links: &[LinkFinding]) -> bool
 }
 
 /// The run of good logs by the order that is made of them.
-pub fn run_of(alloc: Global, case: Case) -> Result<Run, Refused> {
+pub fn run_of(alloc: Global, case: Case) -> Result<Run, NoAnswer> {
     if case.tie_fault().is_some() {
-        return Err(Refused::Otherwise);
+        return Err(NoAnswer::Otherwise);
     }
     let Some(order) = make_order(alloc, case.logs())? else {
-        return Err(Refused::Otherwise);
+        return Err(NoAnswer::Otherwise);
     };
     let findings = find_all(alloc, case)?;
     if !are_good(findings.vats()) {
-        return Err(Refused::Otherwise);
+        return Err(NoAnswer::Otherwise);
     }
     if !are_linked(findings.links()) {
-        return Err(Refused::Otherwise);
+        return Err(NoAnswer::Otherwise);
     }
     good_findings_name_a_run();
     Ok(name_run(alloc, findings.vats(), &order)?)
 }
 
 /// Where a run first delivers a call that was to wait for another. A run of over a hundred steps isn't asked.
-pub fn early_delivery(alloc: Global, run: &Run) -> Result<Option<(u32, u32)>, Refused> {
+pub fn early_delivery(alloc: Global, run: &Run) -> Result<Option<(u32, u32)>, NoAnswer> {
     if run.steps().len() > 100 {
-        return Err(Refused::Otherwise);
+        return Err(NoAnswer::Otherwise);
     }
     Ok(order_fault(alloc, run)?)
 }

@@ -25,7 +25,7 @@ fn put_link(
     message: u64,
 ) -> Result<(), AllocError> {
     let shown = Answer::Report(Report::Link {
-        conn: connection,
+        connection,
         end,
         message,
     });

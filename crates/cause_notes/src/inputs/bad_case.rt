@@ -6,7 +6,7 @@ use case_book::{CaseError, TieFault};
 use serde_json::Value;
 use std::alloc::{AllocError, Global};
 use std::fmt::Write;
-use vat_log::{Body, LogError, VatLog, parse_log};
+use vat_log::{LogError, VatLog, parse_log};
 
 /// In how many files it is sought which logs use a connection, at most.
 const MOST: usize = 64;
@@ -193,11 +193,8 @@ pub(crate) fn put_refused(
 /// The first record of a log that uses a connection.
 fn use_of(log: &VatLog, sought: u32) -> Option<usize> {
     for at in 0..log.len() {
-        match log.get(at)?.body() {
-            Body::Send { connection, .. } | Body::Receive { connection, .. }
-                if *connection == sought => {
-                return Some(at);
-            }
+        match log.get(at)?.body().passage() {
+            Some((_, connection)) if connection == sought => return Some(at),
             _ => {}
         }
     }

@@ -24,6 +24,7 @@ fn read_sentence(fault: ReadError) -> Option<&'static str> {
         ReadError::WrongKind => Some(
             "a pointer is a list's where a struct's is expected, or the other way round",
         ),
+        ReadError::NoZero => Some("a text has no zero at its end"),
         ReadError::Reserved => Some("a pointer has bits that are kept for later"),
         ReadError::TooDeep => Some("more than 64 structs stand one in another"),
         ReadError::TooMuch => Some("its visits pass 8388608 words"),

@@ -210,7 +210,7 @@ impl<'a> OpenCase<'a> {
     pub(super) fn peer_of(&self, vat: u32, connection: u32) -> Option<u32> {
         let at = self
             .links
-            .binary_search_by_key(&connection, |link| link.conn)
+            .binary_search_by_key(&connection, |link| link.connection)
             .ok()?;
         let link = self.links.get(at)?;
         if link.a == vat {

@@ -38,8 +38,8 @@ fn under_way_from(
 /// What was sent on a link and never received, from either end.
 pub(super) fn under_way_on(case: &OpenCase<'_>, link: Link) -> [Option<UnderWay>; 2] {
     [
-        under_way_from(case, link.conn, link.a, link.b),
-        under_way_from(case, link.conn, link.b, link.a),
+        under_way_from(case, link.connection, link.a, link.b),
+        under_way_from(case, link.connection, link.b, link.a),
     ]
 }
 

@@ -1,8 +1,8 @@
 //! The lives of the export and import numbers that a record uses, watched while the records before it are applied.
 
-use rpc_view::{Descriptor, RpcMessage, Target};
+use rpc_view::Descriptor;
 use std::alloc::{AllocError, Global};
-use vat_view::{DecodedRecord, Number, VatState};
+use vat_view::{DecodedRecord, Number, TableKey, VatState};
 
 /// How many numbers of a record are watched, at most.
 const MOST: usize = 16;
@@ -30,45 +30,32 @@ pub(crate) struct Lives {
     items: Vec<Life>,
 }
 
-/// The number that a descriptor of a message uses or introduces, where it is an export or an import.
-pub(crate) fn number_described(sent: bool, descriptor: &Descriptor) -> Option<Number> {
-    match (sent, descriptor) {
-        (true, Descriptor::SenderHosted(number) | Descriptor::SenderPromise(number)) => {
-            Some(Number::Export(*number))
-        }
-        (false, Descriptor::SenderHosted(number) | Descriptor::SenderPromise(number)) => {
-            Some(Number::Import(*number))
-        }
-        (true, Descriptor::ReceiverHosted(number)) => Some(Number::Import(*number)),
-        (false, Descriptor::ReceiverHosted(number)) => Some(Number::Export(*number)),
-        _ => None,
-    }
-}
-
-/// The number of the receiver's exports, as this vat names it.
-fn of_receiver(sent: bool, number: u32) -> Number {
-    if sent {
-        Number::Import(number)
+/// An export or import number, as this vat names it.
+fn named_here(key: TableKey) -> Number {
+    if key.ours {
+        Number::Export(key.number)
     } else {
-        Number::Export(number)
+        Number::Import(key.number)
     }
 }
 
-/// The number that a message names beside its capability table.
-pub(crate) fn number_named(sent: bool, message: &RpcMessage) -> Option<Number> {
-    match message {
-        RpcMessage::Call {
-            target: Target::Imported(number),
-            ..
-        }
-        | RpcMessage::Disembargo {
-            target: Target::Imported(number),
-            ..
-        }
-        | RpcMessage::Release { id: number, .. } => Some(of_receiver(sent, *number)),
-        RpcMessage::Resolve { promise, .. } if sent => Some(Number::Export(*promise)),
-        RpcMessage::Resolve { promise, .. } => Some(Number::Import(*promise)),
-        _ => None,
+/// The number that one of a record's descriptors uses or introduces, where it is an export or an import.
+pub(crate) fn number_described(event: &DecodedRecord, descriptor: &Descriptor) -> Option<Number> {
+    match event
+        .number_introduced(descriptor)
+        .or(event.number_described(descriptor))
+    {
+        Some(key) => Some(named_here(key)),
+        None => None,
+    }
+}
+
+/// The number that a record names beside its capability table.
+pub(crate) fn number_named(event: &DecodedRecord) -> Option<Number> {
+    let used = event.number_targeted().or(event.number_released());
+    match used.or(event.promise_resolved()) {
+        Some(key) => Some(named_here(key)),
+        None => None,
     }
 }
 
@@ -95,16 +82,14 @@ impl Lives {
         Ok(())
     }
 
-    /// Watches the numbers of these descriptors too.
-    pub(crate) fn add_described(
-        &mut self,
-        sent: bool,
-        connection: u32,
-        descriptors: &[Descriptor],
-    ) -> Result<(), AllocError> {
-        for descriptor in descriptors {
-            if let Some(number) = number_described(sent, descriptor) {
-                self.add(connection, number)?;
+    /// Watches the numbers of a record's descriptors too.
+    pub(crate) fn add_described(&mut self, event: &DecodedRecord) -> Result<(), AllocError> {
+        let DecodedRecord::Wire { connection, .. } = event else {
+            return Ok(());
+        };
+        for descriptor in event.descriptors() {
+            if let Some(number) = number_described(event, descriptor) {
+                self.add(*connection, number)?;
             }
         }
         Ok(())
@@ -113,18 +98,12 @@ impl Lives {
     /// The numbers that a record uses or introduces.
     pub(crate) fn of_record(alloc: Global, event: &DecodedRecord) -> Result<Lives, AllocError> {
         let mut lives = Lives::none(alloc);
-        if let DecodedRecord::Wire {
-            sent,
-            connection,
-            message,
-            ..
-        } = event
-        {
-            if let Some(number) = number_named(*sent, message) {
+        if let DecodedRecord::Wire { connection, .. } = event {
+            if let Some(number) = number_named(event) {
                 lives.add(*connection, number)?;
             }
-            lives.add_described(*sent, *connection, event.descriptors())?;
         }
+        lives.add_described(event)?;
         Ok(lives)
     }
 

@@ -1,7 +1,6 @@
 //! What passed of a question since it was opened last.
 
 use crate::past::records_before::Past;
-use rpc_view::{Outcome, RpcMessage};
 use vat_view::{DecodedRecord, TableKey};
 
 /// The last opening of a question, and the records that returned it, finished it and took its results since.
@@ -31,55 +30,22 @@ enum Change {
     ReturnsAndTakes,
 }
 
-/// Whether a message of this sender returns the question, and whether it takes its results.
-fn returned_by(key: TableKey, sent: bool, answer: u32, outcome: &Outcome) -> Option<Change> {
-    let returns = sent != key.ours && answer == key.number;
-    let takes = match outcome {
-        Outcome::TakeFrom(taken) => sent == key.ours && *taken == key.number,
-        _ => false,
-    };
+/// What a record does to this question.
+fn change_by(key: TableKey, event: &DecodedRecord) -> Option<Change> {
+    let sought = Some(key);
+    if event.question_opened() == sought {
+        return Some(Change::Opens(event.noted_call(), event.asks_elsewhere()));
+    }
+    if event.question_finished() == sought {
+        return Some(Change::Finishes);
+    }
+    let returns = event.question_returned() == sought;
+    let takes = event.question_taken() == sought;
     match (returns, takes) {
         (true, true) => Some(Change::ReturnsAndTakes),
         (true, false) => Some(Change::Returns),
         (false, true) => Some(Change::Takes),
         (false, false) => None,
-    }
-}
-
-/// What a record does to this question.
-fn change_by(key: TableKey, event: &DecodedRecord) -> Option<Change> {
-    let DecodedRecord::Wire {
-        sent,
-        connection,
-        call,
-        message,
-        ..
-    } = event
-    else {
-        return None;
-    };
-    if *connection != key.connection {
-        return None;
-    }
-    let asks = *sent == key.ours;
-    match message {
-        RpcMessage::Bootstrap { question } if asks && *question == key.number => {
-            Some(Change::Opens(*call, false))
-        }
-        RpcMessage::Call {
-            question,
-            yourself,
-            ..
-        } if asks && *question == key.number => Some(Change::Opens(*call, *yourself)),
-        RpcMessage::Return {
-            answer,
-            outcome,
-            ..
-        } => returned_by(key, *sent, *answer, outcome),
-        RpcMessage::Finish { question, .. } if asks && *question == key.number => {
-            Some(Change::Finishes)
-        }
-        _ => None,
     }
 }
 
@@ -109,19 +75,14 @@ fn changed(known: Option<Opening>, change: Change, at: usize) -> Option<Opening>
     Some(opening)
 }
 
-/// The last opening of a question among so many records, and what passed of it in them since.
-pub(crate) fn opening_before(past: &Past<'_>, key: TableKey, end: usize) -> Option<Opening> {
+/// The last opening of a question before the record that is told of, and what passed of it since.
+pub(crate) fn opening_of(past: &Past<'_>, key: TableKey) -> Option<Opening> {
     let mut known = None;
-    for at in 0..end {
+    for at in 0..past.at {
         let event = past.get(at)?;
         if let Some(change) = change_by(key, event) {
             known = changed(known, change, at);
         }
     }
     known
-}
-
-/// The last opening of a question before the record that is told of.
-pub(crate) fn opening_of(past: &Past<'_>, key: TableKey) -> Option<Opening> {
-    opening_before(past, key, past.at)
 }

@@ -25,27 +25,6 @@ pub(crate) struct Past<'a> {
     pub(crate) lives: Lives,
 }
 
-/// Applies a record where it may be applied, and says whether it may.
-fn apply(state: &mut VatState, event: &DecodedRecord) -> Result<bool, AllocError> {
-    if !state.refers(event)? {
-        return Ok(false);
-    }
-    if !state.uses_questions(event) {
-        return Ok(false);
-    }
-    if !state.uses_numbers(event) {
-        return Ok(false);
-    }
-    if !state.gives_back_held(event)? {
-        return Ok(false);
-    }
-    if !state.notes_each(event) {
-        return Ok(false);
-    }
-    state.apply(event)?;
-    Ok(true)
-}
-
 /// Applies so many records of a log and watches numbers meanwhile. None where one of them can't be applied.
 fn walk(
     alloc: Global,
@@ -59,9 +38,10 @@ fn walk(
         let Some(earlier) = decoded(alloc, log, number)? else {
             return Ok(None);
         };
-        if !apply(&mut state, &earlier)? {
+        if !state.is_sound(&earlier)? {
             return Ok(None);
         }
+        state.apply(&earlier)?;
         events.push(earlier)?;
         lives.see(&state, number);
     }

@@ -1,10 +1,7 @@
 //! Where views turn, with the records that turned them.
 
-use crate::past::openings::opening_before;
 use crate::past::records_before::Past;
 use crate::past::view_text::ViewText;
-use cap_frame::Path;
-use rpc_view::{Descriptor, Outcome, Payload, Resolution, RpcMessage};
 use std::alloc::AllocError;
 use std::fmt::Write;
 use vat_view::{BorrowedView, DecodedRecord, TableKey, View};
@@ -19,49 +16,14 @@ struct Turn {
     to: View,
 }
 
-/// The turn to what a reference stands for.
-fn to_reference(past: &Past<'_>, at: usize, reference: u64) -> Result<Option<Turn>, AllocError> {
-    match past.state.view_of_reference(reference)? {
-        Some(to) => Ok(Some(Turn { at, to })),
-        None => Ok(None),
-    }
-}
-
-/// The reference that stands for the capability at a place of a table.
-fn reference_at(references: &[u64], descriptors: &[Descriptor], place: usize) -> Option<u64> {
-    let mut before = 0_usize;
-    for (index, descriptor) in descriptors.iter().enumerate() {
-        if index == place {
-            return match descriptor {
-                Descriptor::NoCap => None,
-                _ => references.get(before).copied(),
-            };
-        }
-        if !matches!(descriptor, Descriptor::NoCap) {
-            before = before.saturating_add(1);
-        }
-    }
-    None
-}
-
-/// The place in its table of the capability that stands at a path of a payload.
-fn place_at(payload: &Payload, path: &Path) -> Option<usize> {
-    for (other, place) in payload.fields.as_slice() {
-        if other.as_slice() == path.as_slice() {
-            return Some(*place as usize);
-        }
-    }
-    None
-}
-
-/// The promise that was vowed so turns by the record that keeps it.
-fn turn_of_promise(past: &Past<'_>, promise: u64) -> Result<Option<Turn>, AllocError> {
+/// The record that kept a promise that was vowed so.
+fn keeper_of(past: &Past<'_>, promise: u64) -> Result<Option<usize>, AllocError> {
     let sought = View::Promise(promise);
     for at in 0..past.at {
-        if let Some(DecodedRecord::Fulfil { reference, to }) = past.get(at) {
+        if let Some(DecodedRecord::Fulfil { reference, .. }) = past.get(at) {
             if let Some(view) = past.state.view_of_reference(*reference)? {
                 if view.is_same(&sought) {
-                    return to_reference(past, at, *to);
+                    return Ok(Some(at));
                 }
             }
         }
@@ -69,48 +31,20 @@ fn turn_of_promise(past: &Past<'_>, promise: u64) -> Result<Option<Turn>, AllocE
     Ok(None)
 }
 
-/// The reference at a path of results.
-fn result_at(results: &[(u64, Path)], path: &Path) -> Option<u64> {
-    for (reference, other) in results {
-        if other.as_slice() == path.as_slice() {
-            return Some(*reference);
+/// Whether a record answers a call here.
+fn answers(event: &DecodedRecord, sought: u64) -> bool {
+    match event {
+        DecodedRecord::Answer { call, .. } | DecodedRecord::AnswerBy { call, .. } => {
+            *call == sought
         }
-    }
-    None
-}
-
-/// The turn of a result by this record, where it answers the call here.
-fn turn_by_answer(
-    past: &Past<'_>,
-    at: usize,
-    sought: u64,
-    path: &Path,
-) -> Result<Option<Turn>, AllocError> {
-    match past.get(at) {
-        Some(DecodedRecord::Answer { call, results }) if *call == sought => {
-            match result_at(results.as_slice(), path) {
-                Some(reference) => to_reference(past, at, reference),
-                None => Ok(None),
-            }
-        }
-        Some(DecodedRecord::AnswerBy { call, by }) if *call == sought => {
-            let to = View::Field(*by, path.copy()?);
-            Ok(Some(Turn { at, to }))
-        }
-        _ => Ok(None),
+        _ => false,
     }
 }
 
 /// The question by which this record asks the call of the peer.
 fn question_asked(event: &DecodedRecord, sought: u64) -> Option<TableKey> {
-    match event {
-        DecodedRecord::Wire {
-            sent: true,
-            connection,
-            call,
-            message: RpcMessage::Bootstrap { question } | RpcMessage::Call { question, .. },
-            ..
-        } if *call == sought => Some(TableKey::of_sender(true, *connection, *question)),
+    match event.question_opened() {
+        Some(key) if key.ours && event.noted_call() == sought => Some(key),
         _ => None,
     }
 }
@@ -118,140 +52,58 @@ fn question_asked(event: &DecodedRecord, sought: u64) -> Option<TableKey> {
 /// The Return that was received of a question that this record opened, if one was.
 fn return_behind(past: &Past<'_>, asked: usize, key: TableKey) -> Option<usize> {
     for at in asked..past.at {
-        if let Some(
-            DecodedRecord::Wire {
-                sent: false,
-                connection,
-                message: RpcMessage::Return { answer, .. },
-                ..
-            },
-        ) = past.get(at)
-        {
-            if *connection == key.connection && *answer == key.number {
-                return Some(at);
+        if past.get(at)?.question_returned() == Some(key) {
+            return Some(at);
+        }
+    }
+    None
+}
+
+/// The record that answered a call here, or the Return that came of it.
+fn answerer_of(past: &Past<'_>, call: u64) -> Option<usize> {
+    for at in 0..past.at {
+        let event = past.get(at)?;
+        if answers(event, call) {
+            return Some(at);
+        }
+        if let Some(key) = question_asked(event, call) {
+            if let Some(returned) = return_behind(past, at, key) {
+                return Some(returned);
             }
         }
     }
     None
 }
 
-/// The turn of a result by the Return of this number.
-fn turn_by_return(past: &Past<'_>, at: usize, path: &Path) -> Result<Option<Turn>, AllocError> {
-    let Some(event) = past.get(at) else {
-        return Ok(None);
-    };
-    let DecodedRecord::Wire {
-        connection,
-        references,
-        message: RpcMessage::Return { outcome, .. },
-        ..
-    } = event
-    else {
-        return Ok(None);
-    };
-    match outcome {
-        Outcome::Results(payload) => {
-            let place = place_at(payload, path);
-            let descriptors = payload.descriptors.as_slice();
-            let noted = place.and_then(|place| reference_at(
-                references.as_slice(),
-                descriptors,
-                place,
-            ));
-            match noted {
-                Some(reference) => to_reference(past, at, reference),
-                None => Ok(None),
-            }
-        }
-        Outcome::TakeFrom(number) => {
-            let key = TableKey::of_sender(false, *connection, *number);
-            match opening_before(past, key, at) {
-                Some(opening) => {
-                    let to = View::Field(opening.call, path.copy()?);
-                    Ok(Some(Turn { at, to }))
-                }
-                None => Ok(None),
-            }
-        }
-        _ => Ok(None),
-    }
-}
-
-/// The result of a call turns by the record that answers it, or by the Return that came of it.
-fn turn_of_result(past: &Past<'_>, call: u64, path: &Path) -> Result<Option<Turn>, AllocError> {
-    for at in 0..past.at {
-        if let Some(turn) = turn_by_answer(past, at, call, path)? {
-            return Ok(Some(turn));
-        }
-        let key = past.get(at).and_then(|event| question_asked(event, call));
-        if let Some(key) = key {
-            if let Some(returned) = return_behind(past, at, key) {
-                return turn_by_return(past, returned, path);
-            }
-        }
-    }
-    Ok(None)
-}
-
-/// The number of the peer's under which a capability came, and its connection.
-fn number_brought(past: &Past<'_>, at: usize, place: usize) -> Option<(u32, u32)> {
-    let event = past.get(at)?;
-    let DecodedRecord::Wire { connection, .. } = event else {
-        return None;
-    };
-    match event.descriptors().get(place)? {
-        Descriptor::SenderHosted(number) | Descriptor::SenderPromise(number) => {
-            Some((*connection, *number))
-        }
-        _ => None,
-    }
-}
-
-/// What came in as a promise turns by the Resolve that came of it.
-fn turn_of_import(
-    past: &Past<'_>,
-    brought: usize,
-    place: usize,
-) -> Result<Option<Turn>, AllocError> {
-    let Some((over, number)) = number_brought(past, brought, place) else {
-        return Ok(None);
-    };
+/// The Resolve that came of what came in as a promise.
+fn resolver_of(past: &Past<'_>, brought: usize, place: usize) -> Option<usize> {
+    let event = past.get(brought)?;
+    let number = event.number_introduced(event.descriptors().get(place)?)?;
     for at in brought..past.at {
-        if let Some(
-            DecodedRecord::Wire {
-                sent: false,
-                connection,
-                references,
-                message: RpcMessage::Resolve {
-                    promise,
-                    resolution: Resolution::Cap(_),
-                },
-                ..
-            },
-        ) = past.get(at)
-        {
-            if *connection == over && *promise == number {
-                return match references.as_slice().first() {
-                    Some(reference) => to_reference(past, at, *reference),
-                    None => Ok(None),
-                };
-            }
+        if past.get(at)?.promise_resolved() == Some(number) {
+            return Some(at);
         }
     }
-    Ok(None)
+    None
 }
 
-/// The record by which a view turned, and to what, where it leads there.
+/// The record by which a view turned, and to what, if it did.
 fn turn_of(past: &Past<'_>, view: &View) -> Result<Option<Turn>, AllocError> {
-    let found = match view {
-        View::Object(_) => None,
-        View::Promise(promise) => turn_of_promise(past, *promise)?,
-        View::Field(call, path) => turn_of_result(past, *call, path)?,
-        View::Import(at, place) => turn_of_import(past, *at, *place)?,
+    let Some(to) = past.state.turned_to(view) else {
+        return Ok(None);
     };
-    match found {
-        Some(turn) if past.state.leads_by_turns(view, &turn.to) => Ok(Some(turn)),
-        _ => Ok(None),
+    let turned = match view {
+        View::Object(_) => None,
+        View::Promise(promise) => keeper_of(past, *promise)?,
+        View::Field(call, _) => answerer_of(past, *call),
+        View::Import(at, place) => resolver_of(past, *at, *place),
+    };
+    match turned {
+        Some(at) => {
+            let to = to.to_view(past.alloc)?;
+            Ok(Some(Turn { at, to }))
+        }
+        None => Ok(None),
     }
 }
 

@@ -101,30 +101,16 @@ fn leads(past: &Past<'_>, view: Option<&View>, stands: Option<&View>) -> bool {
 /// The life of the number that an entry of the record's table names.
 fn life_of(past: &Past<'_>, descriptor: &Descriptor) -> Option<Life> {
     match &past.event {
-        DecodedRecord::Wire {
-            sent,
-            connection,
-            ..
-        } => past
+        DecodedRecord::Wire { connection, .. } => past
             .lives
-            .of(*connection, number_described(*sent, descriptor)?),
+            .of(*connection, number_described(&past.event, descriptor)?),
         _ => None,
     }
 }
 
 /// The question that an entry of the record's table names.
 fn question_of(past: &Past<'_>, descriptor: &Descriptor) -> Option<TableKey> {
-    match (&past.event, descriptor) {
-        (
-            DecodedRecord::Wire {
-                sent,
-                connection,
-                ..
-            },
-            Descriptor::ReceiverAnswer(question, _),
-        ) => Some(TableKey::of_sender(*sent, *connection, *question)),
-        _ => None,
-    }
+    past.event.question_described(descriptor)
 }
 
 /// Notes what an entry stands for, and the record since which it does.

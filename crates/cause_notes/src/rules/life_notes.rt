@@ -8,7 +8,7 @@ use crate::reading::decoded;
 use rpc_view::{Descriptor, RpcMessage};
 use std::alloc::AllocError;
 use std::fmt::Write;
-use vat_view::{DecodedRecord, Number, TableKey};
+use vat_view::{DecodedRecord, Number};
 
 /// How a record gives a number back.
 fn word_of(event: Option<&DecodedRecord>) -> &'static str {
@@ -69,15 +69,10 @@ fn put_if_gone(
 }
 
 /// Notes the life of the first number that a capability of the record uses and that isn't held.
-fn put_described(
-    past: &Past<'_>,
-    text: &mut String,
-    sent: bool,
-    connection: u32,
-) -> Result<(), AllocError> {
+fn put_described(past: &Past<'_>, text: &mut String, connection: u32) -> Result<(), AllocError> {
     for descriptor in past.event.descriptors() {
         if let Descriptor::ReceiverHosted(_) = descriptor {
-            if let Some(number) = number_described(sent, descriptor) {
+            if let Some(number) = number_described(&past.event, descriptor) {
                 if put_if_gone(past, text, connection, number)? {
                     return Ok(());
                 }
@@ -89,21 +84,15 @@ fn put_described(
 
 /// Notes the life of the number that the record uses and that isn't held.
 pub(crate) fn put_gone(past: &Past<'_>, text: &mut String) -> Result<(), AllocError> {
-    let DecodedRecord::Wire {
-        sent,
-        connection,
-        message,
-        ..
-    } = &past.event
-    else {
+    let DecodedRecord::Wire { connection, .. } = &past.event else {
         return Ok(());
     };
-    if let Some(number) = number_named(*sent, message) {
+    if let Some(number) = number_named(&past.event) {
         if put_if_gone(past, text, *connection, number)? {
             return Ok(());
         }
     }
-    put_described(past, text, *sent, *connection)
+    put_described(past, text, *connection)
 }
 
 /// Notes how often a number is held of which more is given back, and what was done to it before.
@@ -132,15 +121,12 @@ fn put_counted(
     }
 }
 
-/// How often these descriptors introduce a number.
-fn introduced(sent: bool, descriptors: &[Descriptor], number: Number) -> u64 {
+/// How often a record's descriptors introduce a number of its connection.
+fn introduced(event: &DecodedRecord, number: Number) -> u64 {
     let mut count = 0_u64;
-    for descriptor in descriptors {
-        let introduces = matches!(
-            descriptor,
-            Descriptor::SenderHosted(_) | Descriptor::SenderPromise(_)
-        );
-        if introduces && number_described(sent, descriptor) == Some(number) {
+    for descriptor in event.descriptors() {
+        let introduces = event.number_introduced(descriptor).is_some();
+        if introduces && number_described(event, descriptor) == Some(number) {
             count = count.saturating_add(1);
         }
     }
@@ -152,11 +138,8 @@ fn put_overdrawn(past: &Past<'_>, text: &mut String, source: usize) -> Result<()
     let Some(event) = past.get(source) else {
         return Ok(());
     };
-    let DecodedRecord::Wire { sent, .. } = event else {
-        return Ok(());
-    };
     for life in past.lives.each() {
-        let given = introduced(*sent, event.descriptors(), life.number);
+        let given = introduced(event, life.number);
         if life.held < given {
             write!(
                 text,
@@ -170,26 +153,11 @@ fn put_overdrawn(past: &Past<'_>, text: &mut String, source: usize) -> Result<()
 
 /// The record whose capabilities this one gives back: the Call of a Return, the Return of a Finish.
 fn source_of(past: &Past<'_>) -> Option<usize> {
-    let DecodedRecord::Wire {
-        sent,
-        connection,
-        message,
-        ..
-    } = &past.event
-    else {
-        return None;
-    };
-    match message {
-        RpcMessage::Return { answer, .. } => {
-            let key = TableKey::of_receiver(*sent, *connection, *answer);
-            opening_of(past, key).map(|opening: Opening| opening.at)
-        }
-        RpcMessage::Finish { question, .. } => {
-            let key = TableKey::of_sender(*sent, *connection, *question);
-            opening_of(past, key).and_then(|opening: Opening| opening.returned)
-        }
-        _ => None,
+    if let Some(returned) = past.event.question_returned() {
+        return opening_of(past, returned).map(|opening: Opening| opening.at);
     }
+    let finished = past.event.question_finished()?;
+    opening_of(past, finished).and_then(|opening: Opening| opening.returned)
 }
 
 /// Notes of the numbers that a Return or a Finish gives back: the log is walked once more, since these numbers stand in
@@ -200,14 +168,7 @@ fn put_given_back(past: &Past<'_>, text: &mut String) -> Result<(), AllocError> 
     };
     let mut lives = Lives::none(past.alloc);
     if let Some(event) = past.get(source) {
-        if let DecodedRecord::Wire {
-            sent,
-            connection,
-            ..
-        } = event
-        {
-            lives.add_described(*sent, *connection, event.descriptors())?;
-        }
+        lives.add_described(event)?;
     }
     let Some(event) = decoded(past.alloc, past.log, past.at)? else {
         return Ok(());
@@ -220,22 +181,17 @@ fn put_given_back(past: &Past<'_>, text: &mut String) -> Result<(), AllocError> 
 
 /// Notes of what more is given back than is held.
 pub(crate) fn put_miscounted(past: &Past<'_>, text: &mut String) -> Result<(), AllocError> {
-    if let DecodedRecord::Wire {
-        sent,
+    let DecodedRecord::Wire {
         connection,
-        message,
+        message: RpcMessage::Release { count, .. },
         ..
     } = &past.event
-    {
-        if let RpcMessage::Release { count, .. } = message {
-            let life = number_named(*sent, message).and_then(|number| past
-                .lives
-                .of(*connection, number));
-            return match life {
-                Some(life) => put_counted(past, text, life, u64::from(*count)),
-                None => Ok(()),
-            };
-        }
+    else {
+        return put_given_back(past, text);
+    };
+    let life = number_named(&past.event).and_then(|number| past.lives.of(*connection, number));
+    match life {
+        Some(life) => put_counted(past, text, life, u64::from(*count)),
+        None => Ok(()),
     }
-    put_given_back(past, text)
 }

@@ -1,13 +1,13 @@
 //! The picture of a case, or a page with it: its bytes go to a file, and then the report is said.
 
-ghost use Rattle.std.specs.Prelude.{◌≡◌, None, IfOk, List, ℕ, Option, option_map};
+ghost use Rattle.std.specs.Prelude.{IfOk, List, ℕ, Option, option_map};
 ghost use Rattle.audit_core.specs.Report.{IsReport};
 ghost use Rattle.report_lines.specs.Lines.{answer_status, answer_text, line};
 ghost use Rattle.command_run.specs.DrawAnswers.{AnswersDraw, IsDrawing, IsRunFor};
 ghost use Rattle.command_run.specs.Glue.{ComesDrawn};
 ghost use Rattle.command_run.specs.Runs.{Writes, Wrote};
 
-use crate::answering::{save, say};
+use crate::answering::{FileAnswer, say_made};
 use crate::commands::case_report::fault_of;
 use crate::host::Host;
 use crate::output::{Failed, Output};
@@ -23,14 +23,6 @@ use run_model::Run;
 use std::alloc::{AllocError, Global};
 use std::sync::Wait;
 use std::thread::Threads;
-
-/// What answers a case that is drawn.
-#[derive(Drop)]
-struct DrawAnswer {
-    answer: Answer,
-    /// The bytes of the picture, where there is one.
-    picture: Option<Bytes>,
-}
 
 /// A run of the case of these findings, where their report names the order of calls; no steps where it doesn't.
 fn run_for(alloc: Global, findings: &Findings, report: &Report) -> Result<Run, AllocError>
@@ -73,7 +65,7 @@ fn drawing<R: Threads + Wait + Sync, G: Watch + Sync, S: Source>(
     asked: Asked,
     source: &mut S,
     heard: &mut Heard,
-) -> Result<DrawAnswer, Fault>
+) -> Result<FileAnswer, Fault>
     ensures { ComesDrawn asked S.read_gives source.old name.now result source.new }
 {
     let ReadCase { case, order } = read_case(host.alloc, source, name)?;
@@ -83,9 +75,9 @@ fn drawing<R: Threads + Wait + Sync, G: Watch + Sync, S: Source>(
         Ok((report, findings)) => {
             let picture = picture_bytes(host.alloc, &findings, &arranged, &report, asked)?;
             heard.keep(findings);
-            Ok(DrawAnswer {
+            Ok(FileAnswer {
                 answer: Answer::Report(report),
-                picture: Some(picture),
+                bytes: Some(picture),
             })
         }
         Err(error) => Err(fault_of(error)),
@@ -99,16 +91,13 @@ fn draw_answer<R: Threads + Wait + Sync, G: Watch + Sync, S: Source>(
     asked: Asked,
     source: &mut S,
     heard: &mut Heard,
-) -> DrawAnswer
+) -> FileAnswer
     ensures { AnswersDraw asked S.read_gives source.old name.now (line (answer_text result.answer))
-        (answer_status result.answer) (option_map (λ bytes. bytes) result.picture) source.new }
+        (answer_status result.answer) (option_map (λ bytes. bytes) result.bytes) source.new }
 {
     match drawing(host, name, asked, source, heard) {
         Ok(made) => made,
-        Err(fault) => DrawAnswer {
-            answer: Answer::Fault(fault),
-            picture: None,
-        },
+        Err(fault) => FileAnswer::of_fault(fault),
     }
 }
 
@@ -143,13 +132,7 @@ pub fn say_drawn<R: Threads + Wait + Sync, G: Watch + Sync, S: Source, O: Output
         status bytes source.new) (Wrote O.contents O.is_finished)
         (Wrote F.contents F.is_finished) out.old out.new file.old file.new result }
 {
-    let DrawAnswer { answer, picture } = draw_answer(host, name, asked, source, heard);
+    let made = draw_answer(host, name, asked, source, heard);
     hear_limit(asked, heard);
-    if let Err(fault) = save(&picture, file) {
-        return Err(Failed::File(fault));
-    }
-    match say(answer, heard, out) {
-        Ok(status) => Ok(status),
-        Err(fault) => Err(Failed::Out(fault)),
-    }
+    say_made(made, heard, out, file)
 }

@@ -15,7 +15,7 @@ use bytes::Bytes;
 use case_book::{CaseError, Link, MAX_LINKS, MAX_VATS};
 use case_files::{Source, file_names, read_log_list, written_case};
 use cause_notes::{Heard, JoinNote, NotedEnd};
-use log_ends::{End, EndPair, Joining, alike_ends, join_ends, renumbered_logs, vat_of};
+use log_ends::{EndPair, Joining, LogEnd, alike_ends, join_ends, renumbered_logs, vat_of};
 use report_lines::{Answer, Fault, JoinLine};
 use std::alloc::{AllocError, Global};
 use vat_log::VatLog;
@@ -58,7 +58,7 @@ fn line_answer(line: JoinLine) -> JoinAnswer
 }
 
 /// An end, as people are told of it.
-fn noted(end: End) -> NotedEnd {
+fn noted(end: LogEnd) -> NotedEnd {
     NotedEnd {
         log: end.log,
         connection: end.connection,
@@ -73,7 +73,7 @@ fn link_of(logs: &[VatLog], pair: EndPair, number: u32) -> Link
     ensures { IsLinkOf logs.now pair number result }
 {
     Link {
-        conn: number,
+        connection: number,
         a: vat_of(logs, pair.first.log),
         b: vat_of(logs, pair.second.log),
     }

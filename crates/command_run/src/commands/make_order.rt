@@ -1,14 +1,13 @@
 //! The order of the records of a case: its bytes go to a file, and then it is said.
 
-ghost use Rattle.std.specs.Prelude.{◌≡◌, None, IfOk, option_map};
+ghost use Rattle.std.specs.Prelude.{IfOk, option_map};
 ghost use Rattle.report_lines.specs.Lines.{answer_status, answer_text, line};
 ghost use Rattle.command_run.specs.CommandAnswers.{AnswersOrder};
 ghost use Rattle.command_run.specs.OrderAnswers.{AnswersLogs};
 ghost use Rattle.command_run.specs.Runs.{Writes, Wrote};
 
-use crate::answering::{save, say};
+use crate::answering::{FileAnswer, say_made};
 use crate::output::{Failed, Output};
-use bytes::Bytes;
 use case_book::Case;
 use case_files::{Source, read_case};
 use cause_notes::Heard;
@@ -16,56 +15,37 @@ use merge_order::{make_order, write_order};
 use report_lines::{Answer, Fault};
 use std::alloc::{AllocError, Global};
 
-/// What answers a case whose order is asked for.
-#[derive(Drop)]
-struct OrderAnswer {
-    answer: Answer,
-    /// The bytes of the order, where one is made.
-    order: Option<Bytes>,
-}
-
 /// The answer to a case: the order that takes the smallest vat number that may come at each step, or that none exists.
-fn answer_of_case(alloc: Global, case: &Case) -> Result<OrderAnswer, AllocError>
+fn answer_of_case(alloc: Global, case: &Case) -> Result<FileAnswer, AllocError>
     ensures { IfOk result
         (λ made. AnswersLogs case.now.logs (line (answer_text made.answer))
-        (answer_status made.answer) (option_map (λ bytes. bytes) made.order)) }
+        (answer_status made.answer) (option_map (λ bytes. bytes) made.bytes)) }
 {
     let Some(order) = make_order(alloc, case.logs())? else {
-        return Ok(OrderAnswer {
+        return Ok(FileAnswer {
             answer: Answer::NoOrder,
-            order: None,
+            bytes: None,
         });
     };
     let bytes = write_order(alloc, &order)?;
-    Ok(OrderAnswer {
+    Ok(FileAnswer {
         answer: Answer::Order(order),
-        order: Some(bytes),
+        bytes: Some(bytes),
     })
 }
 
-/// The answer that has a fault, without an order.
-fn fault_answer(fault: Fault) -> OrderAnswer
-    ensures answer { result.answer ≡ Answer.Fault fault }
-    ensures order { result.order ≡ None }
-{
-    OrderAnswer {
-        answer: Answer::Fault(fault),
-        order: None,
-    }
-}
-
 /// The answer to the case that a source has under a name: the order of its records, or its first fault.
-fn order_answer<S: Source>(alloc: Global, source: &mut S, name: &str) -> OrderAnswer
+fn order_answer<S: Source>(alloc: Global, source: &mut S, name: &str) -> FileAnswer
     ensures { AnswersOrder S.read_gives source.old name.now (line (answer_text result.answer))
-        (answer_status result.answer) (option_map (λ bytes. bytes) result.order) source.new }
+        (answer_status result.answer) (option_map (λ bytes. bytes) result.bytes) source.new }
 {
     let read = match read_case(alloc, source, name) {
         Ok(read) => read,
-        Err(fault) => return fault_answer(Fault::from(fault)),
+        Err(fault) => return FileAnswer::of_fault(Fault::from(fault)),
     };
     match answer_of_case(alloc, &read.case) {
         Ok(made) => made,
-        Err(AllocError) => fault_answer(Fault::OutOfMemory),
+        Err(AllocError) => FileAnswer::of_fault(Fault::OutOfMemory),
     }
 }
 
@@ -89,12 +69,6 @@ pub fn say_order<S: Source, O: Output, F: Output>(
         bytes source.new) (Wrote O.contents O.is_finished)
         (Wrote F.contents F.is_finished) out.old out.new file.old file.new result }
 {
-    let OrderAnswer { answer, order } = order_answer(alloc, source, name);
-    if let Err(fault) = save(&order, file) {
-        return Err(Failed::File(fault));
-    }
-    match say(answer, heard, out) {
-        Ok(status) => Ok(status),
-        Err(fault) => Err(Failed::Out(fault)),
-    }
+    let made = order_answer(alloc, source, name);
+    say_made(made, heard, out, file)
 }

@@ -1,29 +1,20 @@
 //! A log in another version: its bytes go to a file, and then it is said.
 
-ghost use Rattle.std.specs.Prelude.{◌≡◌, None, IfOk, IfErr, option_map};
+ghost use Rattle.std.specs.Prelude.{◌≡◌, IfOk, IfErr, option_map};
 ghost use Rattle.case_files.specs.CaseReading.{Read};
 ghost use Rattle.report_lines.specs.Lines.{answer_status, answer_text, line};
 ghost use Rattle.command_run.specs.CommandAnswers.{AnswersMigration};
-ghost use Rattle.command_run.specs.Glue.{IsMade, Migrates};
+ghost use Rattle.command_run.specs.Glue.{Migrates};
 ghost use Rattle.command_run.specs.MigrationAnswers.{made_of};
 ghost use Rattle.command_run.specs.Runs.{Writes, Wrote};
 
-use crate::answering::{save, say};
+use crate::answering::{FileAnswer, say_made};
 use crate::output::{Failed, Output};
-use bytes::Bytes;
 use case_files::Source;
 use cause_notes::Heard;
 use report_lines::{Answer, Fault};
 use std::alloc::Global;
 use vat_log::{LogError, VatLog, migrate, parse_log, raise};
-
-/// What answers a log that is to be migrated.
-#[derive(Drop)]
-struct MigrationAnswer {
-    answer: Answer,
-    /// The bytes of the new log, where there is one.
-    bytes: Option<Bytes>,
-}
 
 /// The log that is made of one: of version 3 where the later edition is asked for, or else one that is judged alike.
 fn made_of(alloc: Global, old: &VatLog, later: bool) -> Result<VatLog, LogError>
@@ -43,7 +34,7 @@ fn migration<S: Source>(
     source: &mut S,
     name: &str,
     later: bool,
-) -> Result<MigrationAnswer, Fault>
+) -> Result<FileAnswer, Fault>
     ensures { (read : Read) × S.read_gives source.old name.now read source.new
         × Migrates later read result }
 {
@@ -51,51 +42,21 @@ fn migration<S: Source>(
     let old = parse_log(alloc, bytes)?;
     let log = made_of(alloc, &old, later)?;
     let bytes = log.bytes().clone()?;
-    Ok(MigrationAnswer {
+    Ok(FileAnswer {
         answer: Answer::Migrated(log),
         bytes: Some(bytes),
     })
 }
 
 /// The answer to the log that a source has under a name: the log that is made of it, or its first fault.
-fn migration_answer<S: Source>(
-    alloc: Global,
-    source: &mut S,
-    name: &str,
-    later: bool,
-) -> MigrationAnswer
+fn migration_answer<S: Source>(alloc: Global, source: &mut S, name: &str, later: bool) -> FileAnswer
     ensures { (read : Read) × S.read_gives source.old name.now read source.new
         × AnswersMigration later read (line (answer_text result.answer)) (answer_status result.answer)
         (option_map (λ bytes. bytes) result.bytes) }
 {
     match migration(alloc, source, name, later) {
         Ok(made) => made,
-        Err(fault) => MigrationAnswer {
-            answer: Answer::Fault(fault),
-            bytes: None,
-        },
-    }
-}
-
-/// Writes the bytes of an answer to `file`, if it has any, and then says it.
-fn say_made<O: Output, F: Output>(
-    made: MigrationAnswer,
-    heard: &mut Heard,
-    out: &mut O,
-    file: &mut F,
-) -> Result<u8, Failed<O::Error, F::Error>>
-    requires out { O.can_write out.old }
-    requires file { F.can_write file.old }
-    ensures { Writes (IsMade made) (Wrote O.contents O.is_finished)
-        (Wrote F.contents F.is_finished) out.old out.new file.old file.new result }
-{
-    let MigrationAnswer { answer, bytes } = made;
-    if let Err(fault) = save(&bytes, file) {
-        return Err(Failed::File(fault));
-    }
-    match say(answer, heard, out) {
-        Ok(status) => Ok(status),
-        Err(fault) => Err(Failed::Out(fault)),
+        Err(fault) => FileAnswer::of_fault(fault),
     }
 }
 

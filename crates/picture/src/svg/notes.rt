@@ -1,6 +1,6 @@
 //! What stands beside columns, rows and arrows.
 
-ghost use Rattle.std.specs.Prelude.{◌≡◌, ◌+◌, ◌++◌, Some, codes};
+ghost use Rattle.std.specs.Prelude.{◌≡◌, ◌+◌, Some, codes};
 ghost use Rattle.std.specs.Fmt.{WritesOnOk};
 ghost use Rattle.picture.specs.Picture.{code_text, head_text, height_of, left_out_text, line_end, opening, sentence_of, sentence_text, why_text, wrapped, y_of};
 

@@ -4,11 +4,10 @@ ghost use Rattle.std.specs.Prelude.{◌≡◌, Some};
 ghost use Rattle.std.specs.Fmt.{WritesOnOk};
 ghost use Rattle.picture.specs.Picture.{arrow_line, arrow_text, band_lines, band_text, column_text, circle_text, line_text, linked_text, mark_word, place_text, row_text, shape_text, stroke_word, tone_word, words_at, words_text, words_y, y_of};
 ghost use Rattle.picture.specs.Labels.{label_text};
-ghost use Rattle.picture.specs.Places.{passage_of};
+ghost use Rattle.vat_log.specs.Passages.{passage_of};
 
 use crate::arrow::{Arrow, Stroke};
 use crate::columns::Column;
-use crate::frames::passage_of;
 use crate::label::Label;
 use crate::place::Place;
 use crate::row::{Row, Tone, label_of};
@@ -147,7 +146,7 @@ fn words_y(body: &Body, line: u32) -> u64
     ensures { result ≡ words_y (passage_of body.now) (y_of line) }
 {
     let y = y_of(line);
-    match passage_of(body) {
+    match body.passage() {
         None => y + 4,
         Some((true, _)) => y - 5,
         Some((false, _)) => y + 11,
@@ -204,9 +203,9 @@ fn words_at(row: &Row<'_>) -> Point
 
 /// A row: its mark and its words.
 #[derive(Clone, Copy)]
-struct Plain<'a>(&'a Row<'a>);
+struct PlainRow<'a>(&'a Row<'a>);
 
-impl Display for Plain<'_> {
+impl Display for PlainRow<'_> {
     ghost output = { λ shape. Some (row_text shape.0.now) };
 
     fn fmt<W: fmt::Write>(&self, f: &mut Formatter<W>) -> fmt::Result {
@@ -246,7 +245,7 @@ impl Display for Linked<'_> {
 
     fn fmt<W: fmt::Write>(&self, f: &mut Formatter<W>) -> fmt::Result {
         let row = self.0;
-        let (name, shape) = (RowName(row.place), Plain(row));
+        let (name, shape) = (RowName(row.place), PlainRow(row));
         write!(f, "<a id='row-{name}' href='#record-{name}'>{shape}</a>\n")
     }
 }
@@ -265,7 +264,7 @@ impl Display for Shape<'_> {
         if self.linked {
             write!(f, "{}", Linked(self.row))
         } else {
-            write!(f, "{}", Plain(self.row))
+            write!(f, "{}", PlainRow(self.row))
         }
     }
 }

@@ -9,8 +9,8 @@ use std::sync::atomic::{AtomicU64, Ordering};
 use std::thread::Threads;
 use vat_rules::{Rule, Why};
 use worked_cases::{
-    Conversation, EMBARGOED_CALLS, LINK, PIPELINED_CALL, RELEASED_PROMISE, REUSED_QUESTION,
-    Refused, case_of, is_so,
+    Conversation, EMBARGOED_CALLS, LINK, NoAnswer, PIPELINED_CALL, RELEASED_PROMISE,
+    REUSED_QUESTION, case_of, is_so,
 };
 
 /// Two frames that are received in the other order.
@@ -61,7 +61,7 @@ const MISSING_LOG: Conversation<'static> = Conversation {
 const SAME_ENDS: Conversation<'static> = Conversation {
     vats: &ONE_VAT,
     links: &[Link {
-        conn: 0,
+        connection: 0,
         a: 1,
         b: 1,
     }],
@@ -84,7 +84,11 @@ pub(super) fn line_of(report: &Report) -> Option<Line> {
     match report {
         Report::Vat { vat, at, rule } => Some(Line::Vat(*vat, *at, *rule)),
         Report::OutsideVat { vat, at, why } => Some(Line::OutsideVat(*vat, *at, *why)),
-        Report::Link { conn, end, message } => Some(Line::Link(*conn, *end, *message)),
+        Report::Link {
+            connection,
+            end,
+            message,
+        } => Some(Line::Link(*connection, *end, *message)),
         Report::OrderStep(step) => Some(Line::OrderStep(*step)),
         Report::NoOrder => Some(Line::NoOrder),
         Report::Yes {
@@ -108,7 +112,7 @@ impl Gate for Open {
 }
 
 /// The order of these steps, if one is given.
-fn order_of(alloc: Global, order: Option<&[u32]>) -> Result<Option<Order>, Refused> {
+fn order_of(alloc: Global, order: Option<&[u32]>) -> Result<Option<Order>, NoAnswer> {
     match order {
         Some(vats) => Ok(Some(Order::new(Vec::from_slice(alloc, vats)?))),
         None => Ok(None),
@@ -122,10 +126,10 @@ fn audited<R: Threads + Wait + Sync>(
     case: Case,
     order: Option<Order>,
     workers: u32,
-) -> Result<Result<Line, AuditError>, Refused> {
+) -> Result<Result<Line, AuditError>, NoAnswer> {
     match audit(rt, alloc, case, order, workers, &Open) {
         Ok(report) => Ok(Ok(line_of(&report).ok_or("a run of all records")?)),
-        Err(AuditError::OutOfMemory) => Err(Refused::OutOfMemory),
+        Err(AuditError::OutOfMemory) => Err(NoAnswer::OutOfMemory),
         Err(error) => Ok(Err(error)),
     }
 }
@@ -205,7 +209,7 @@ fn is_answered<R: Threads + Wait + Sync>(
     alloc: Global,
     row: &Row,
     workers: u32,
-) -> Result<bool, Refused> {
+) -> Result<bool, NoAnswer> {
     let (given, changes, order, answer) = row;
     let order = order_of(alloc, *order)?;
     let case = case_of(alloc, given, changes)?;
@@ -216,7 +220,7 @@ fn is_answered<R: Threads + Wait + Sync>(
 fn a_case_has_its_report(rt: HostRuntime) {
     for (place, row) in ROWS.iter().enumerate() {
         let is_so = match is_answered(&rt, rt.alloc(), row, 1) {
-            Err(Refused::OutOfMemory) => is_answered(&rt, rt.alloc(), row, 1) == Ok(true),
+            Err(NoAnswer::OutOfMemory) => is_answered(&rt, rt.alloc(), row, 1) == Ok(true),
             answer => answer == Ok(true),
         };
         assert!(rt; is_so, "row {place}");
@@ -238,7 +242,7 @@ fn is_the_same<R: Threads + Wait + Sync>(
     alloc: Global,
     workers: u32,
     refusal: Option<AuditError>,
-) -> Result<bool, Refused> {
+) -> Result<bool, NoAnswer> {
     let (yes, missing) = match refusal {
         Some(error) => (Err(error), Err(error)),
         None => (Ok(Line::Yes(2, 28, 3, 0)), Err(AuditError::MissingLog(0))),
@@ -270,7 +274,7 @@ impl Gate for Counting {
 }
 
 /// Whether the gate is passed once for each of the three pieces of embargoed_calls.
-fn is_passed<R: Threads + Wait + Sync>(rt: &R, alloc: Global) -> Result<bool, Refused> {
+fn is_passed<R: Threads + Wait + Sync>(rt: &R, alloc: Global) -> Result<bool, NoAnswer> {
     let gate = Counting {
         passed: AtomicU64::new(0),
     };
@@ -285,20 +289,20 @@ fn the_gate_is_passed_once_for_each_piece(rt: HostRuntime) {
 }
 
 /// What is found for a piece, where the case ties up.
-fn found(alloc: Global, book: &Book, piece: Piece) -> Result<Finding, Refused> {
+fn found(alloc: Global, book: &Book, piece: Piece) -> Result<Finding, NoAnswer> {
     let found = book.case().find(alloc, piece)?;
     Ok(found.ok_or("a piece of the case")?)
 }
 
 /// Posts what is found for a piece that isn't claimed yet.
-fn post_next(alloc: Global, book: &mut Book) -> Result<(), Refused> {
+fn post_next(alloc: Global, book: &mut Book) -> Result<(), NoAnswer> {
     let piece = book.claim().ok_or("three pieces")?;
     let found = found(alloc, book, piece)?;
     Ok(book.post(found)?)
 }
 
 /// Posts what is found for each of three pieces.
-fn post_all(alloc: Global, book: &mut Book) -> Result<(), Refused> {
+fn post_all(alloc: Global, book: &mut Book) -> Result<(), NoAnswer> {
     for _ in 0..3 {
         post_next(alloc, book)?;
     }
@@ -306,15 +310,15 @@ fn post_all(alloc: Global, book: &mut Book) -> Result<(), Refused> {
 }
 
 /// The book of a case that ties up.
-fn book_of(alloc: Global, case: Case) -> Result<Book, Refused> {
+fn book_of(alloc: Global, case: Case) -> Result<Book, NoAnswer> {
     if case.tie_fault().is_some() {
-        return Err(Refused::Otherwise);
+        return Err(NoAnswer::Otherwise);
     }
     Ok(Book::new(alloc, case)?)
 }
 
 /// All findings of a case of three pieces that ties up.
-fn all_found(alloc: Global, case: Case) -> Result<Findings, Refused> {
+fn all_found(alloc: Global, case: Case) -> Result<Findings, NoAnswer> {
     let mut book = book_of(alloc, case)?;
     post_all(alloc, &mut book)?;
     Ok(book.into_findings()?)
@@ -324,25 +328,25 @@ fn all_found(alloc: Global, case: Case) -> Result<Findings, Refused> {
 const YES: Option<Line> = Some(Line::Yes(2, 14, 1, 0));
 
 /// The order that is made of the logs of a case.
-fn made_order(alloc: Global, case: &Case) -> Result<Order, Refused> {
+fn made_order(alloc: Global, case: &Case) -> Result<Order, NoAnswer> {
     Ok(make_order(alloc, case.logs())?.ok_or("an order")?)
 }
 
 /// Whether all findings of pipelined_call are judged so by the order that is made.
-fn is_ordered(alloc: Global, case: Case) -> Result<bool, Refused> {
+fn is_ordered(alloc: Global, case: Case) -> Result<bool, NoAnswer> {
     let order = made_order(alloc, &case)?;
     let report = judge(alloc, all_found(alloc, case)?, order)?;
     Ok(line_of(&report) == YES)
 }
 
 /// Whether they are judged so without an order.
-fn is_unordered(alloc: Global, case: Case) -> Result<bool, Refused> {
+fn is_unordered(alloc: Global, case: Case) -> Result<bool, NoAnswer> {
     let report = judge_unordered(alloc, all_found(alloc, case)?)?;
     Ok(line_of(&report) == YES)
 }
 
 /// Whether what was posted in a book is judged as the whole case is, by the order that is made and without one.
-fn is_judged(alloc: Global) -> Result<bool, Refused> {
+fn is_judged(alloc: Global) -> Result<bool, NoAnswer> {
     let case = case_of(alloc, &PIPELINED_CALL, &[])?;
     let copy = case.copy(alloc)?;
     let ordered = is_ordered(alloc, case);

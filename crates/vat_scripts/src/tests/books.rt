@@ -9,7 +9,7 @@ use std::thread;
 use std::thread::Threads;
 use vat_log::VatLog;
 use vat_rules::{Outcome, VatFinding, audit_vat};
-use worked_cases::{Refused, is_so, log};
+use worked_cases::{NoAnswer, is_so, log};
 
 /// The two logs of pipelined_call.
 const ASKING: &str = "S0 c1 boot q0; FIELD r1 c1 []; MAKE c2 r1; S0 c2 call q1 answer 0 []; \
@@ -28,7 +28,7 @@ const STRANGE: &str =
 
 /// Vat 1's bootstrap call and vat 2's object are on connection 0.
 const LINK: Link = Link {
-    conn: 0,
+    connection: 0,
     a: 1,
     b: 2,
 };
@@ -41,14 +41,14 @@ struct Logs {
 }
 
 /// Those that vats 1 and 2 recorded.
-fn given_logs(alloc: Global) -> Result<Logs, Refused> {
+fn given_logs(alloc: Global) -> Result<Logs, NoAnswer> {
     let asking = log(alloc, "1", ASKING)?;
     let asked = log(alloc, "2", ASKED)?;
     Ok(Logs { asking, asked })
 }
 
 /// Their case.
-fn case_of(alloc: Global, given: &Logs) -> Result<Case, Refused> {
+fn case_of(alloc: Global, given: &Logs) -> Result<Case, NoAnswer> {
     let mut logs = Vec::new(alloc);
     logs.push(Arc::try_clone(&given.asked)?)?;
     logs.push(Arc::try_clone(&given.asking)?)?;
@@ -56,10 +56,10 @@ fn case_of(alloc: Global, given: &Logs) -> Result<Case, Refused> {
 }
 
 /// The book of their case, where it ties up.
-fn book_of(alloc: Global, given: &Logs) -> Result<Book, Refused> {
+fn book_of(alloc: Global, given: &Logs) -> Result<Book, NoAnswer> {
     let case = case_of(alloc, given)?;
     if case.tie_fault().is_some() {
-        return Err(Refused::Otherwise);
+        return Err(NoAnswer::Otherwise);
     }
     Ok(Book::new(alloc, case)?)
 }
@@ -72,14 +72,14 @@ struct Keeper {
 }
 
 /// The keeper of a book of which nothing is claimed yet.
-fn new_keeper(alloc: Global) -> Result<Keeper, Refused> {
+fn new_keeper(alloc: Global) -> Result<Keeper, NoAnswer> {
     let logs = given_logs(alloc)?;
     let book = book_of(alloc, &logs)?;
     Ok(Keeper { logs, book })
 }
 
 /// The audit of a log where so many words may be read.
-fn audited(alloc: Global, log: &Arc<VatLog>, words: u64) -> Result<Finding, Refused> {
+fn audited(alloc: Global, log: &Arc<VatLog>, words: u64) -> Result<Finding, NoAnswer> {
     let limits = Limits {
         words,
         ..Limits::default()
@@ -88,9 +88,9 @@ fn audited(alloc: Global, log: &Arc<VatLog>, words: u64) -> Result<Finding, Refu
 }
 
 /// What is found of the link between two logs.
-fn compared(one: &Arc<VatLog>, other: &Arc<VatLog>) -> Result<Finding, Refused> {
+fn compared(one: &Arc<VatLog>, other: &Arc<VatLog>) -> Result<Finding, NoAnswer> {
     if one.vat() == other.vat() {
-        return Err(Refused::Otherwise);
+        return Err(NoAnswer::Otherwise);
     }
     Ok(Finding::Link(check_link(0, one, other)?))
 }
@@ -99,7 +99,7 @@ fn compared(one: &Arc<VatLog>, other: &Arc<VatLog>) -> Result<Finding, Refused> 
 const WORDS: u64 = 8_388_608;
 
 /// What is found of vat 1's log of the other conversation.
-fn strange_audit(alloc: Global) -> Result<Finding, Refused> {
+fn strange_audit(alloc: Global) -> Result<Finding, NoAnswer> {
     let log = log(alloc, "1", STRANGE)?;
     audited(alloc, &log, WORDS)
 }
@@ -164,7 +164,7 @@ fn post_text(posted: &Result<(), Unposted>) -> &'static str {
 }
 
 /// The finding that is posted.
-fn finding_of(alloc: Global, logs: &Logs, posted: Posted) -> Result<Finding, Refused> {
+fn finding_of(alloc: Global, logs: &Logs, posted: Posted) -> Result<Finding, NoAnswer> {
     match posted {
         Posted::Asking(words) => audited(alloc, &logs.asking, words),
         Posted::Asked => audited(alloc, &logs.asked, WORDS),
@@ -182,7 +182,7 @@ fn post(book: &mut Book, finding: Finding) -> &'static str {
 
 impl Keeper {
     /// Takes a step, and tells what comes of it.
-    fn take(&mut self, alloc: Global, step: Step) -> Result<&'static str, Refused> {
+    fn take(&mut self, alloc: Global, step: Step) -> Result<&'static str, NoAnswer> {
         match step {
             Step::Claim => Ok(claim_text(self.book.claim())),
             Step::Next => Ok(claim_text(self.book.next_missing())),
@@ -195,7 +195,7 @@ impl Keeper {
     }
 
     /// Whether each of these steps is told so.
-    fn take_each(&mut self, alloc: Global, rows: &[(Step, &str)]) -> Result<bool, Refused> {
+    fn take_each(&mut self, alloc: Global, rows: &[(Step, &str)]) -> Result<bool, NoAnswer> {
         for (step, told) in rows {
             if self.take(alloc, *step)? != *told {
                 return Ok(false);
@@ -226,7 +226,7 @@ fn is_unfinished(keeper: Keeper) -> bool {
 }
 
 /// Whether those steps are told so, and leave the book unfinished.
-fn is_claimed_and_posted(alloc: Global) -> Result<bool, Refused> {
+fn is_claimed_and_posted(alloc: Global) -> Result<bool, NoAnswer> {
     let mut keeper = new_keeper(alloc)?;
     let told = keeper.take_each(alloc, &CLAIMED);
     let left = is_unfinished(keeper);
@@ -288,7 +288,7 @@ fn is_whole(keeper: Keeper) -> bool {
 }
 
 /// Whether those steps are told so, and the book gives all findings at last.
-fn is_finished(alloc: Global) -> Result<bool, Refused> {
+fn is_finished(alloc: Global) -> Result<bool, NoAnswer> {
     let mut keeper = new_keeper(alloc)?;
     let told = keeper.take_each(alloc, &FINISHED);
     let whole = is_whole(keeper);
@@ -301,7 +301,7 @@ fn a_whole_book_gives_all_findings(rt: HostRuntime) {
 }
 
 /// What is found for a piece of a case, where it ties up.
-fn found(alloc: Global, case: &Case, number: u32) -> Result<Option<Finding>, Refused> {
+fn found(alloc: Global, case: &Case, number: u32) -> Result<Option<Finding>, NoAnswer> {
     if case.tie_fault().is_some() {
         return Ok(None);
     }
@@ -309,7 +309,7 @@ fn found(alloc: Global, case: &Case, number: u32) -> Result<Option<Finding>, Ref
 }
 
 /// Whether the audit of the first log is found.
-fn is_audit_found(alloc: Global, case: &Case) -> Result<bool, Refused> {
+fn is_audit_found(alloc: Global, case: &Case) -> Result<bool, NoAnswer> {
     let audit = found(alloc, case, 0)?;
     Ok(match &audit {
         Some(Finding::Vat(found)) => {
@@ -320,7 +320,7 @@ fn is_audit_found(alloc: Global, case: &Case) -> Result<bool, Refused> {
 }
 
 /// Whether the comparison of the link is found.
-fn is_link_found(alloc: Global, case: &Case) -> Result<bool, Refused> {
+fn is_link_found(alloc: Global, case: &Case) -> Result<bool, NoAnswer> {
     let comparison = found(alloc, case, 2)?;
     Ok(match &comparison {
         Some(Finding::Link(found)) => found.connection() == 0,
@@ -329,13 +329,13 @@ fn is_link_found(alloc: Global, case: &Case) -> Result<bool, Refused> {
 }
 
 /// Whether no fourth piece is found.
-fn is_none_found(alloc: Global, case: &Case) -> Result<bool, Refused> {
+fn is_none_found(alloc: Global, case: &Case) -> Result<bool, NoAnswer> {
     let none = found(alloc, case, 3)?;
     Ok(none.is_none())
 }
 
 /// Whether these have the same logs and links, and the pieces of the second are found.
-fn are_same(alloc: Global, case: &Case, copy: &Case) -> Result<bool, Refused> {
+fn are_same(alloc: Global, case: &Case, copy: &Case) -> Result<bool, NoAnswer> {
     let same = match (case.logs(), copy.logs()) {
         ([one, other], [a, b]) => one.bytes() == a.bytes() && other.bytes() == b.bytes(),
         _ => false,
@@ -345,19 +345,19 @@ fn are_same(alloc: Global, case: &Case, copy: &Case) -> Result<bool, Refused> {
 }
 
 /// Whether the copy of a case has the same logs and links, and its pieces are found.
-fn is_copied(alloc: Global, case: &Case) -> Result<bool, Refused> {
+fn is_copied(alloc: Global, case: &Case) -> Result<bool, NoAnswer> {
     let copy = case.copy(alloc)?;
     are_same(alloc, case, &copy)
 }
 
 /// The case of pipelined_call.
-fn pipelined_call(alloc: Global) -> Result<Case, Refused> {
+fn pipelined_call(alloc: Global) -> Result<Case, NoAnswer> {
     let logs = given_logs(alloc)?;
     case_of(alloc, &logs)
 }
 
 /// Whether that case is copied so.
-fn is_found(alloc: Global) -> Result<bool, Refused> {
+fn is_found(alloc: Global) -> Result<bool, NoAnswer> {
     let case = pipelined_call(alloc)?;
     is_copied(alloc, &case)
 }
@@ -375,7 +375,7 @@ fn post_shared(rt: &impl Wait, book: &SharedBook, finding: Finding) -> &'static 
 
 /// Whether of two threads that post a finding of one piece just one is told that it is posted, and the other that the piece
 /// has a finding; and whether one piece less is missing then.
-fn is_posted_once<R: Threads + Wait + Sync>(rt: &R, alloc: Global) -> Result<bool, Refused> {
+fn is_posted_once<R: Threads + Wait + Sync>(rt: &R, alloc: Global) -> Result<bool, NoAnswer> {
     let logs = given_logs(alloc)?;
     let mut book = book_of(alloc, &logs)?;
     let claimed = claim_text(book.claim());

@@ -4,23 +4,23 @@ use case_book::{Case, CaseError, Link, TieFault};
 use std::alloc::Global;
 use std::sync::Arc;
 use vat_log::VatLog;
-use worked_cases::{Refused, ask_again, is_so, log};
+use worked_cases::{NoAnswer, ask_again, is_so, log};
 
 /// A link of vats 7 and 1, and one of vats 3 and 7.
 const FAR: Link = Link {
-    conn: 5,
+    connection: 5,
     a: 7,
     b: 1,
 };
 
 const NEAR: Link = Link {
-    conn: 2,
+    connection: 2,
     a: 3,
     b: 7,
 };
 
 /// The case of the logs of vats 7, 1 and 3.
-fn three_logs(alloc: Global) -> Result<Case, Refused> {
+fn three_logs(alloc: Global) -> Result<Case, NoAnswer> {
     let mut logs = Vec::new(alloc);
     for (number, records) in [
         ("7", "S5 abort; R2 abort"),
@@ -41,7 +41,7 @@ fn are_ordered(logs: &[Arc<VatLog>]) -> bool {
 }
 
 /// Whether the logs and links of the case are lent by rising number, and what doesn't tie up is told.
-fn is_lent(alloc: Global) -> Result<bool, Refused> {
+fn is_lent(alloc: Global) -> Result<bool, NoAnswer> {
     let case = three_logs(alloc)?;
     let is_tied = case.tie_fault() == Some(TieFault::MissingLog(2));
     Ok(is_tied && are_ordered(case.logs()) && case.links() == [NEAR, FAR].as_slice())
@@ -53,12 +53,16 @@ fn logs_and_links_are_lent_by_rising_number(rt: HostRuntime) {
 }
 
 /// A link with vats 1 and 2.
-fn link(conn: u32) -> Link {
-    Link { conn, a: 1, b: 2 }
+fn link(connection: u32) -> Link {
+    Link {
+        connection,
+        a: 1,
+        b: 2,
+    }
 }
 
 /// The logs of so many vats, with numbers from 0 on.
-fn logs(alloc: Global, vats: u32) -> Result<Vec<Arc<VatLog>>, Refused> {
+fn logs(alloc: Global, vats: u32) -> Result<Vec<Arc<VatLog>>, NoAnswer> {
     let mut logs = Vec::new(alloc);
     for vat in 0..vats {
         let number = format!(in alloc; "{vat}")?;
@@ -68,13 +72,13 @@ fn logs(alloc: Global, vats: u32) -> Result<Vec<Arc<VatLog>>, Refused> {
 }
 
 /// The case of so many logs and links, with vat numbers and connections from 0 on. Running out of memory is a failure.
-fn case_of(alloc: Global, vats: u32, links: u32) -> Result<Option<CaseError>, Refused> {
+fn case_of(alloc: Global, vats: u32, links: u32) -> Result<Option<CaseError>, NoAnswer> {
     let mut ends = Vec::new(alloc);
-    for conn in 0..links {
-        ends.push(link(conn))?;
+    for connection in 0..links {
+        ends.push(link(connection))?;
     }
     match Case::new(logs(alloc, vats)?, ends).err() {
-        Some(CaseError::OutOfMemory) => Err(Refused::OutOfMemory),
+        Some(CaseError::OutOfMemory) => Err(NoAnswer::OutOfMemory),
         refusal => Ok(refusal),
     }
 }
@@ -95,7 +99,7 @@ fn as_many_as_may_be(rt: HostRuntime) {
 }
 
 /// The logs where vat 1 uses a connection. Vat 3, if it is there, uses it too.
-fn users(alloc: Global, used: u32, third: bool) -> Result<Vec<Arc<VatLog>>, Refused> {
+fn users(alloc: Global, used: u32, third: bool) -> Result<Vec<Arc<VatLog>>, NoAnswer> {
     let send = format!(in alloc; "S{used} abort")?;
     let mut logs: Vec<Arc<VatLog>> = Vec::new(alloc);
     logs.push(log(alloc, "1", send.as_str())?)?;
@@ -107,7 +111,7 @@ fn users(alloc: Global, used: u32, third: bool) -> Result<Vec<Arc<VatLog>>, Refu
 }
 
 /// What doesn't tie up between these logs, where the links are those of 256 odd connections.
-fn fault_of(alloc: Global, used: u32, third: bool) -> Result<Option<TieFault>, Refused> {
+fn fault_of(alloc: Global, used: u32, third: bool) -> Result<Option<TieFault>, NoAnswer> {
     let mut ends = Vec::new(alloc);
     for number in 0..256 {
         ends.push(link(2 * number + 1))?;

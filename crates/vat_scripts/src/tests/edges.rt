@@ -29,7 +29,7 @@ enum Did {
 
 use Did::{Bind, Host};
 use Held::{Field, Nothing, Object, Promise};
-use worked_cases::{Refused, is_so};
+use worked_cases::{NoAnswer, is_so};
 
 /// A vat, a capability, the record and the place.
 type Told = (u32, Held, u64, u64);
@@ -89,7 +89,7 @@ const RUNS: [(&[Did], &[Told]); 9] = [
 ];
 
 /// The capability of it.
-fn cap_of(alloc: Global, held: Held) -> Result<Cap, Refused> {
+fn cap_of(alloc: Global, held: Held) -> Result<Cap, NoAnswer> {
     Ok(match held {
         Object(vat, object) => Cap::Object(vat, object),
         Promise(vat, promise) => Cap::Promise(vat, promise),
@@ -117,7 +117,7 @@ fn is_cap(cap: &Cap, held: Held) -> bool {
 }
 
 /// The step of it.
-fn step(alloc: Global, did: Did) -> Result<Step, Refused> {
+fn step(alloc: Global, did: Did) -> Result<Step, NoAnswer> {
     match did {
         Host(vat) => Ok(Step::Host { vat, object: 1 }),
         Bind(vat, held) => {
@@ -140,7 +140,7 @@ fn step(alloc: Global, did: Did) -> Result<Step, Refused> {
 }
 
 /// The run of these.
-fn run_of(alloc: Global, did: &[Did]) -> Result<Run, Refused> {
+fn run_of(alloc: Global, did: &[Did]) -> Result<Run, NoAnswer> {
     let mut steps = Vec::new(alloc);
     for one in did {
         steps.push(step(alloc, *one)?)?;
@@ -149,7 +149,7 @@ fn run_of(alloc: Global, did: &[Did]) -> Result<Run, Refused> {
 }
 
 /// Whether the run of these has just these edges.
-fn has_edges(alloc: Global, did: &[Did], told: &[Told]) -> Result<bool, Refused> {
+fn has_edges(alloc: Global, did: &[Did], told: &[Told]) -> Result<bool, NoAnswer> {
     let found = graph(alloc, &run_of(alloc, did)?)?;
     let mut all = found.edges().len() == told.len();
     for (edge, (vat, held, at_record, bound_index)) in found.edges().iter().zip(told) {
@@ -185,7 +185,7 @@ const RECORDS: (&[Did], &[u64]) = (
 );
 
 /// Whether the records of the run of these have these numbers.
-fn has_records(alloc: Global, did: &[Did], numbers: &[u64]) -> Result<bool, Refused> {
+fn has_records(alloc: Global, did: &[Did], numbers: &[u64]) -> Result<bool, NoAnswer> {
     Ok(record_numbers(alloc, &run_of(alloc, did)?)?.as_slice() == numbers)
 }
 

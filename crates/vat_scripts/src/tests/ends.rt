@@ -1,7 +1,7 @@
 //! Which connections are one, and what the new logs say, as text.
 
 use bytes::Bytes;
-use log_ends::{End, Joining, join_ends, renumbered_logs};
+use log_ends::{Joining, LogEnd, join_ends, renumbered_logs};
 use std::alloc::{AllocError, Global};
 use std::test::Fail;
 use vat_log::{Body, LogWriter, Record, References, VatLog};
@@ -49,7 +49,7 @@ fn log_of(alloc: Global, vat: u32, passing: &[Passing<'_>]) -> Result<VatLog, Fa
 }
 
 /// An end: the log's place, and the connection's number.
-fn put_end(text: &mut String, end: End) -> Result<(), AllocError> {
+fn put_end(text: &mut String, end: LogEnd) -> Result<(), AllocError> {
     let log = end.log;
     let connection = end.connection;
     write!(text, "{log}.{connection}")

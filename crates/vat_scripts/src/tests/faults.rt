@@ -13,7 +13,7 @@ enum Did {
 }
 
 use Did::{Deliver, Make};
-use worked_cases::{Refused, early_delivery, is_so};
+use worked_cases::{NoAnswer, early_delivery, is_so};
 
 /// The step of it: each call asks for object 5 of vat 2.
 fn step(did: Did) -> Step {
@@ -96,7 +96,7 @@ fn is_found(
     first: &[Did],
     then: &[Did],
     place: Option<(u32, u32)>,
-) -> Result<bool, Refused> {
+) -> Result<bool, NoAnswer> {
     let mut steps = Vec::new(alloc);
     for did in first {
         steps.push(step(*did))?;

@@ -3,7 +3,7 @@
 use super::given::{bytes_of_words, frame};
 use cap_frame::{Frame, Path};
 use std::alloc::Global;
-use worked_cases::{Refused, is_so};
+use worked_cases::{NoAnswer, is_so};
 
 /// A Release in segments of 1 and 4 words, with other bytes in the padding of its table.
 const RELEASE: &str = "100000001 ffffffff00000004 100000002 1000100000000 6 100000000 200000003";
@@ -12,7 +12,7 @@ const RELEASE: &str = "100000001 ffffffff00000004 100000002 1000100000000 6 1000
 const THREE: &str = "200000002 100000000 1 2 3 7";
 
 /// Whether the first frame of these words has so many bytes.
-fn is_as_long(alloc: Global, words: &str, len: usize) -> Result<bool, Refused> {
+fn is_as_long(alloc: Global, words: &str, len: usize) -> Result<bool, NoAnswer> {
     let bytes = bytes_of_words(alloc, words)?;
     Ok(Frame::first_len(bytes.as_slice()) == Ok(len))
 }
@@ -34,7 +34,7 @@ const WORDS: [(u32, u64, Option<u64>); 5] = [
 ];
 
 /// Whether the Release has two segments and these words.
-fn has_words(alloc: Global) -> Result<bool, Refused> {
+fn has_words(alloc: Global) -> Result<bool, NoAnswer> {
     let release = frame(alloc, RELEASE)?;
     let mut has_all = release.segments() == 2;
     for (segment, number, word) in &WORDS {
@@ -52,7 +52,7 @@ fn words_of_a_frame(rt: HostRuntime) {
 const PATHS: [&[u16]; 2] = [&[0, 3], &[0, 3, 258, 7, 65535]];
 
 /// Whether a path of these numbers and its copy have them.
-fn is_copied(alloc: Global, numbers: &[u16]) -> Result<bool, Refused> {
+fn is_copied(alloc: Global, numbers: &[u16]) -> Result<bool, NoAnswer> {
     let path = Path::new(numbers.to_vec(alloc)?)?;
     let copy = path.copy()?;
     Ok(path.as_slice() == numbers && copy.as_slice() == numbers)

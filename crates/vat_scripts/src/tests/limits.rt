@@ -1,15 +1,15 @@
 //! Cases of more logs and links than may be, and of many.
 
-use crate::asking::{Told, ask};
+use crate::asking::{RunOutput, ask};
 use bytes::Bytes;
 use std::alloc::Global;
 use std::fmt::Write;
 use std::sync::Wait;
 use std::thread::Threads;
-use worked_cases::{Refused, is_so};
+use worked_cases::{NoAnswer, is_so};
 
 /// The case file of the logs of so many vats, with numbers from 0 on, and of so many links between vats 0 and 1.
-fn case_file(alloc: Global, vats: u32, links: u32) -> Result<Bytes, Refused> {
+fn case_file(alloc: Global, vats: u32, links: u32) -> Result<Bytes, NoAnswer> {
     let mut text = String::new(alloc);
     text.push_str("{\"logs\": [")?;
     for vat in 0..vats {
@@ -28,7 +28,7 @@ fn case_file(alloc: Global, vats: u32, links: u32) -> Result<Bytes, Refused> {
 }
 
 /// The log of a vat, without records.
-fn empty_log(alloc: Global, vat: u32) -> Result<Bytes, Refused> {
+fn empty_log(alloc: Global, vat: u32) -> Result<Bytes, NoAnswer> {
     let mut bytes = Vec::new(alloc);
     bytes.extend_from_slice("VATLOG01".as_bytes())?;
     bytes.extend_from_slice(&vat.to_le_bytes())?;
@@ -36,7 +36,7 @@ fn empty_log(alloc: Global, vat: u32) -> Result<Bytes, Refused> {
 }
 
 /// That file, and the logs that it names.
-fn files(alloc: Global, vats: u32, links: u32) -> Result<Vec<(String, Bytes)>, Refused> {
+fn files(alloc: Global, vats: u32, links: u32) -> Result<Vec<(String, Bytes)>, NoAnswer> {
     let mut files = Vec::new(alloc);
     files.push((
         String::from_str(alloc, "case")?,
@@ -55,11 +55,11 @@ fn check_prints<R: Threads + Wait + Sync>(
     vats: u32,
     links: u32,
     line: &str,
-) -> Result<bool, Refused> {
+) -> Result<bool, NoAnswer> {
     let files = files(alloc, vats, links)?;
-    let Told { out, status, .. } = ask(rt, alloc, &["vataudit", "check", "case"], files)?;
+    let RunOutput { out, status, .. } = ask(rt, alloc, &["vataudit", "check", "case"], files)?;
     if status == 3 {
-        return Err(Refused::OutOfMemory);
+        return Err(NoAnswer::OutOfMemory);
     }
     Ok(out.as_slice() == line.as_bytes())
 }

@@ -2,7 +2,7 @@
 
 use link_check::{LinkFinding, LinkOutcome, check_link};
 use std::alloc::Global;
-use worked_cases::{Refused, ask_again, is_so, log};
+use worked_cases::{NoAnswer, ask_again, is_so, log};
 
 /// A vat's number and what it recorded.
 type End = (&'static str, &'static str);
@@ -54,11 +54,11 @@ const BROKEN: [(End, End, u32, u64); 7] = [
 ];
 
 /// What is found of connection 0 between two vats.
-fn link(alloc: Global, one: End, other: End) -> Result<LinkFinding, Refused> {
+fn link(alloc: Global, one: End, other: End) -> Result<LinkFinding, NoAnswer> {
     let first = log(alloc, one.0, one.1)?;
     let second = log(alloc, other.0, other.1)?;
     if first.vat() == second.vat() {
-        return Err(Refused::Otherwise);
+        return Err(NoAnswer::Otherwise);
     }
     Ok(check_link(0, &first, &second)?)
 }
@@ -94,7 +94,7 @@ fn each_frame_is_compared_byte_for_byte(rt: HostRuntime) {
 }
 
 /// Whether a link has its connection, and its two ends by rising number.
-fn has_ends(alloc: Global) -> Result<bool, Refused> {
+fn has_ends(alloc: Global) -> Result<bool, NoAnswer> {
     let found = link(alloc, EXPORTER, IMPORTER)?;
     let ends = (found.first().vat(), found.second().vat());
     Ok(found.connection() == 0 && ends == (1, 2))

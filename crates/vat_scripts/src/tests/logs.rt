@@ -10,7 +10,9 @@ use vat_log::{
     Body, LogError, LogWriter, Record, References, VatLog, migrate, parse_log, raise,
     write_later_log, write_log,
 };
-use worked_cases::{Refused, ask_again, bytes_of_later_log, bytes_of_log, bytes_of_new_log, is_so};
+use worked_cases::{
+    NoAnswer, ask_again, bytes_of_later_log, bytes_of_log, bytes_of_new_log, is_so,
+};
 
 /// Records in the notation, as the bytes of vat 3's log in hexadecimal, and as they are read.
 const RECORDS: [(&str, &str, &str); 9] = [
@@ -97,7 +99,7 @@ pub(super) const SAMPLES: [(&str, &str, &str); 2] = [
 ];
 
 /// The vat and the records of a log.
-fn shown(alloc: Global, log: &VatLog) -> Result<String, Refused> {
+fn shown(alloc: Global, log: &VatLog) -> Result<String, NoAnswer> {
     let vat = log.vat();
     let mut text = format!(in alloc; "vat {vat}:")?;
     for index in 0..log.len() {
@@ -108,7 +110,7 @@ fn shown(alloc: Global, log: &VatLog) -> Result<String, Refused> {
 }
 
 /// A second body that says the same.
-pub(super) fn copied(body: &Body) -> Result<Body, Refused> {
+pub(super) fn copied(body: &Body) -> Result<Body, NoAnswer> {
     Ok(match body {
         Body::Host { reference, object } => Body::Host {
             reference: *reference,
@@ -183,7 +185,7 @@ pub(super) fn copied(body: &Body) -> Result<Body, Refused> {
 }
 
 /// The log of the same vat with a second record for each.
-fn written_again(alloc: Global, log: &VatLog) -> Result<VatLog, Refused> {
+fn written_again(alloc: Global, log: &VatLog) -> Result<VatLog, NoAnswer> {
     Ok(write_log(alloc, log.vat(), &records_again(alloc, log)?)?)
 }
 
@@ -193,20 +195,20 @@ fn is_log_of(log: &VatLog, version: u32, bytes: &[u8]) -> bool {
 }
 
 /// Whether a log of version 2 has these bytes, and stays so where it is migrated.
-fn is_new_log_of(alloc: Global, log: &VatLog, bytes: &[u8]) -> Result<bool, Refused> {
+fn is_new_log_of(alloc: Global, log: &VatLog, bytes: &[u8]) -> Result<bool, NoAnswer> {
     let same = migrate(alloc, log)?;
     Ok(is_log_of(log, 2, bytes) && is_log_of(&same, 2, bytes))
 }
 
 /// Whether a log of version 3 has these bytes, and stays so where it is migrated or raised.
-fn is_later_log_of(alloc: Global, log: &VatLog, bytes: &[u8]) -> Result<bool, Refused> {
+fn is_later_log_of(alloc: Global, log: &VatLog, bytes: &[u8]) -> Result<bool, NoAnswer> {
     let migrated = migrate(alloc, log)?;
     let raised = raise(alloc, log)?;
     Ok(is_log_of(log, 3, bytes) && is_log_of(&migrated, 3, bytes) && is_log_of(&raised, 3, bytes))
 }
 
 /// Whether a log of version 1 has these bytes, and its records written again, and it migrated, have those of version 2.
-fn has_bytes(alloc: Global, log: &VatLog, old: &[u8], new: &[u8]) -> Result<bool, Refused> {
+fn has_bytes(alloc: Global, log: &VatLog, old: &[u8], new: &[u8]) -> Result<bool, NoAnswer> {
     let written = written_again(alloc, log)?;
     let migrated = migrate(alloc, log)?;
     Ok(
@@ -217,7 +219,7 @@ fn has_bytes(alloc: Global, log: &VatLog, old: &[u8], new: &[u8]) -> Result<bool
 }
 
 /// The second list of a log's records.
-fn records_again(alloc: Global, log: &VatLog) -> Result<Vec<Record>, Refused> {
+fn records_again(alloc: Global, log: &VatLog) -> Result<Vec<Record>, NoAnswer> {
     let mut records = Vec::new(alloc);
     for index in 0..log.len() {
         let record = log.get(index).ok_or("a record")?;
@@ -229,7 +231,7 @@ fn records_again(alloc: Global, log: &VatLog) -> Result<Vec<Record>, Refused> {
 
 /// Whether a log's records written again in version 3, all at once and one by one, and it and its version 2 raised, have
 /// these bytes.
-fn rises_to(alloc: Global, log: &VatLog, later: &[u8]) -> Result<bool, Refused> {
+fn rises_to(alloc: Global, log: &VatLog, later: &[u8]) -> Result<bool, NoAnswer> {
     let written = write_later_log(alloc, log.vat(), &records_again(alloc, log)?)?;
     let mut writer = LogWriter::later(alloc, log.vat());
     for record in records_again(alloc, log)? {
@@ -247,12 +249,12 @@ fn rises_to(alloc: Global, log: &VatLog, later: &[u8]) -> Result<bool, Refused> 
 }
 
 /// The log of a vat that recorded these records.
-pub(super) fn log_of_records(alloc: Global, vat: &str, records: &str) -> Result<VatLog, Refused> {
+pub(super) fn log_of_records(alloc: Global, vat: &str, records: &str) -> Result<VatLog, NoAnswer> {
     Ok(parse_log(alloc, bytes_of_log(alloc, vat, records)?)?)
 }
 
 /// Whether records are spelled so in version 1, written and migrated in version 2, and written and raised in version 3.
-fn is_spelled(alloc: Global, vat: &str, records: &str, digits: &str) -> Result<bool, Refused> {
+fn is_spelled(alloc: Global, vat: &str, records: &str, digits: &str) -> Result<bool, NoAnswer> {
     let bytes = bytes_of_digits(alloc, digits)?;
     let log = log_of_records(alloc, vat, records)?;
     let new = bytes_of_new_log(alloc, vat, records)?;
@@ -264,18 +266,18 @@ fn is_spelled(alloc: Global, vat: &str, records: &str, digits: &str) -> Result<b
 }
 
 /// Whether a log is shown so, and has no more records than that.
-fn is_text_of(alloc: Global, log: &VatLog, text: &str) -> Result<bool, Refused> {
+fn is_text_of(alloc: Global, log: &VatLog, text: &str) -> Result<bool, NoAnswer> {
     Ok(shown(alloc, log)?.as_str() == text && log.get(log.len()).is_none())
 }
 
 /// Whether records are read so.
-fn is_shown(alloc: Global, vat: &str, records: &str, text: &str) -> Result<bool, Refused> {
+fn is_shown(alloc: Global, vat: &str, records: &str, text: &str) -> Result<bool, NoAnswer> {
     let log = log_of_records(alloc, vat, records)?;
     is_text_of(alloc, &log, text)
 }
 
 /// The same two questions of vat 3's log.
-fn is_row(alloc: Global, records: &str, digits: &str, text: &str) -> Result<bool, Refused> {
+fn is_row(alloc: Global, records: &str, digits: &str, text: &str) -> Result<bool, NoAnswer> {
     let digits = format!(in alloc; "5641544c4f473031 03000000 {digits}")?;
     Ok(is_spelled(alloc, "3", records, digits.as_str())? && is_shown(alloc, "3", records, text)?)
 }
@@ -317,7 +319,7 @@ const NEW: [(&str, &str); 3] = [
 ];
 
 /// Whether records are written so in version 2, and read from that.
-fn is_new_row(alloc: Global, records: &str, digits: &str) -> Result<bool, Refused> {
+fn is_new_row(alloc: Global, records: &str, digits: &str) -> Result<bool, NoAnswer> {
     let digits = format!(in alloc; "5641544c4f473032 03000000 {digits}")?;
     let bytes = bytes_of_digits(alloc, digits.as_str())?;
     let old = log_of_records(alloc, "3", records)?;
@@ -338,7 +340,7 @@ fn each_count_of_version_2(rt: HostRuntime) {
 }
 
 /// A path of 65,536 fields, which version 2 alone can hold.
-fn is_wide(alloc: Global) -> Result<bool, Refused> {
+fn is_wide(alloc: Global) -> Result<bool, NoAnswer> {
     let body = Body::Field {
         reference: 1,
         call: 1,
@@ -355,14 +357,14 @@ fn a_path_that_version_1_has_no_count_for(rt: HostRuntime) {
 }
 
 /// Why no log can hold a body, and what is handed back.
-fn refused(alloc: Global, body: Body) -> Result<String, Refused> {
+fn refused(alloc: Global, body: Body) -> Result<String, NoAnswer> {
     match Record::new(body) {
-        Ok(_) => Err(Refused::Otherwise),
+        Ok(_) => Err(NoAnswer::Otherwise),
         Err((fault, body)) => Ok(format!(in alloc; "{fault:?} {body:?}")?),
     }
 }
 
-fn refusals_once(rt: &(impl Abort + AllocGlobal)) -> Result<(), Refused> {
+fn refusals_once(rt: &(impl Abort + AllocGlobal)) -> Result<(), NoAnswer> {
     let host = refused(
         rt.alloc(),
         Body::Host {
@@ -402,7 +404,7 @@ fn sent_with(body: &Body) -> usize {
 }
 
 /// A frame that goes out with one reference more than can be counted.
-fn long_body(alloc: Global) -> Result<Body, Refused> {
+fn long_body(alloc: Global) -> Result<Body, NoAnswer> {
     let references = References::new(vec![in alloc; 1u64; 1_048_577]?);
     Ok(Body::Send {
         connection: 0,
@@ -421,7 +423,7 @@ fn is_handed_back(body: Body) -> bool {
 }
 
 /// Whether that frame is handed back.
-fn is_too_long(alloc: Global) -> Result<bool, Refused> {
+fn is_too_long(alloc: Global) -> Result<bool, NoAnswer> {
     Ok(is_handed_back(long_body(alloc)?))
 }
 

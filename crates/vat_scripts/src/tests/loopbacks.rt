@@ -5,7 +5,7 @@ use std::alloc::Global;
 use std::fmt::Write;
 use std::process::Abort;
 use vat_view::{TableKey, VatState};
-use worked_cases::{Refused, is_so};
+use worked_cases::{NoAnswer, is_so};
 
 /// Records, and what is known after them of the loopbacks of the peer's number 3 and of our number 3: whether it waits for
 /// its echo, what its target stood for, and whether its echo is held up.
@@ -39,7 +39,7 @@ const ROWS: [(&str, &str); 6] = [
 ];
 
 /// The loopback of number 3 of connection 0, given out by this vat or by its peer.
-fn put_loopback(out: &mut String, state: &VatState, ours: bool) -> Result<(), Refused> {
+fn put_loopback(out: &mut String, state: &VatState, ours: bool) -> Result<(), NoAnswer> {
     let number = TableKey {
         connection: 0,
         ours,
@@ -56,21 +56,21 @@ fn put_loopback(out: &mut String, state: &VatState, ours: bool) -> Result<(), Re
 }
 
 /// Both of them.
-fn put_loopbacks(out: &mut String, state: &VatState) -> Result<(), Refused> {
+fn put_loopbacks(out: &mut String, state: &VatState) -> Result<(), NoAnswer> {
     put_loopback(out, state, false)?;
     write!(out, "; ")?;
     put_loopback(out, state, true)
 }
 
 /// Whether what is known of loopbacks is told so.
-fn are_loopbacks(alloc: Global, state: &VatState, told: &str) -> Result<bool, Refused> {
+fn are_loopbacks(alloc: Global, state: &VatState, told: &str) -> Result<bool, NoAnswer> {
     let mut out = String::new(alloc);
     put_loopbacks(&mut out, state)?;
     Ok(out.as_str() == told)
 }
 
 /// Whether what is known of loopbacks after these records is told so.
-fn is_told(alloc: Global, records: &str, told: &str) -> Result<bool, Refused> {
+fn is_told(alloc: Global, records: &str, told: &str) -> Result<bool, NoAnswer> {
     let state = state_of(alloc, records)?;
     are_loopbacks(alloc, &state, told)
 }

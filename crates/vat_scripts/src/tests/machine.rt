@@ -5,7 +5,7 @@ use run_model::{Cap, Caps, Message, Name, Plain, Results, Run, Step};
 use std::alloc::Global;
 use std::fmt::Write;
 use std::process::Abort;
-use worked_cases::{Refused, ask_again, is_so};
+use worked_cases::{NoAnswer, ask_again, is_so};
 
 /// The fourth call of vat 1.
 const CALL: Name = Name {
@@ -14,7 +14,7 @@ const CALL: Name = Name {
 };
 
 /// Its Return: object 7 of vat 2 stands in the results at path 3, and another place of the table is empty.
-fn returned(alloc: Global) -> Result<Message, Refused> {
+fn returned(alloc: Global) -> Result<Message, NoAnswer> {
     let path = Path::new(vec![in alloc; 3]?)?;
     let object = Cap::Object(2, 7);
     let results = vec![in alloc; (path, object.copy()?)]?;
@@ -27,7 +27,7 @@ fn returned(alloc: Global) -> Result<Message, Refused> {
 }
 
 /// Vat 2 sends this message on connection 0.
-fn sent(message: &Message) -> Result<Step, Refused> {
+fn sent(message: &Message) -> Result<Step, NoAnswer> {
     let message = message.copy()?;
     Ok(Step::Send {
         vat: 2,
@@ -37,7 +37,7 @@ fn sent(message: &Message) -> Result<Step, Refused> {
 }
 
 /// Vat 1 receives it, and binds object 7 of vat 2.
-fn received(alloc: Global, message: Message) -> Result<Step, Refused> {
+fn received(alloc: Global, message: Message) -> Result<Step, NoAnswer> {
     let bound = Caps::new(vec![in alloc; Cap::Object(2, 7)]?);
     Ok(Step::Receive {
         vat: 1,
@@ -48,7 +48,7 @@ fn received(alloc: Global, message: Message) -> Result<Step, Refused> {
 }
 
 /// The run in which it is sent and received.
-fn passed(alloc: Global, message: Message) -> Result<Run, Refused> {
+fn passed(alloc: Global, message: Message) -> Result<Run, NoAnswer> {
     let send = sent(&message)?;
     let receive = received(alloc, message)?;
     Ok(Run::new(vec![in alloc; send, receive]?))
@@ -63,14 +63,14 @@ const PASSED: &str =
     bound: Caps { caps: [Object(2, 7)] } }]";
 
 /// What a run tells.
-fn text_of(alloc: Global, run: &Run) -> Result<String, Refused> {
+fn text_of(alloc: Global, run: &Run) -> Result<String, NoAnswer> {
     let mut out = String::new(alloc);
     write!(out, "{:?}", run.steps())?;
     Ok(out)
 }
 
 /// Whether the run of that Return is told so.
-fn is_told(alloc: Global) -> Result<bool, Refused> {
+fn is_told(alloc: Global) -> Result<bool, NoAnswer> {
     let run = passed(alloc, returned(alloc)?)?;
     let text = text_of(alloc, &run)?;
     Ok(text.as_str() == PASSED)

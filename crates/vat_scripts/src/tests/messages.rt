@@ -7,7 +7,7 @@ use report_lines::{Answer, Fault};
 use rpc_view::{Edition, RpcMessage, ViewError, read_bytes, read_message};
 use std::alloc::Global;
 use std::process::Abort;
-use worked_cases::{Refused, is_so};
+use worked_cases::{NoAnswer, is_so};
 
 /// A Release of 2 of number 3: 3 words, 2 structs one in another.
 const RELEASE: &str = "400000000 1000100000000 6 100000000 200000003";
@@ -36,10 +36,10 @@ const ROWS: [(&str, u64, u8, &str); 8] = [
 ];
 
 /// What is shown of a frame that was read. Running out of memory is a failure, and no answer.
-fn shown(alloc: Global, read: Result<RpcMessage, ViewError>) -> Result<String, Refused> {
+fn shown(alloc: Global, read: Result<RpcMessage, ViewError>) -> Result<String, NoAnswer> {
     let answer = match read {
         Ok(message) => Answer::Message(message),
-        Err(ViewError::OutOfMemory) => return Err(Refused::OutOfMemory),
+        Err(ViewError::OutOfMemory) => return Err(NoAnswer::OutOfMemory),
         Err(fault) => Answer::Fault(Fault::from(fault)),
     };
     Ok(format!(in alloc; "{answer}")?)
@@ -54,7 +54,7 @@ struct Asked<'a> {
 }
 
 /// What is shown of a frame that is read as a frame.
-fn shown_of_frame(alloc: Global, asked: Asked<'_>) -> Result<String, Refused> {
+fn shown_of_frame(alloc: Global, asked: Asked<'_>) -> Result<String, NoAnswer> {
     let frame = frame(alloc, asked.words)?;
     shown(
         alloc,
@@ -63,13 +63,13 @@ fn shown_of_frame(alloc: Global, asked: Asked<'_>) -> Result<String, Refused> {
 }
 
 /// What is shown of a frame that is read as bytes.
-fn shown_of_bytes(alloc: Global, asked: Asked<'_>) -> Result<String, Refused> {
+fn shown_of_bytes(alloc: Global, asked: Asked<'_>) -> Result<String, NoAnswer> {
     let bytes = bytes_of_words(alloc, asked.words)?;
     shown(alloc, read_bytes(alloc, bytes, asked.limits, asked.edition))
 }
 
 /// Whether a frame is shown so, read as a frame and as bytes.
-fn is_shown(alloc: Global, asked: Asked<'_>, text: &str) -> Result<bool, Refused> {
+fn is_shown(alloc: Global, asked: Asked<'_>, text: &str) -> Result<bool, NoAnswer> {
     let of_frame = shown_of_frame(alloc, asked)?;
     let of_bytes = shown_of_bytes(alloc, asked)?;
     Ok(of_frame.as_str() == text && of_bytes.as_str() == text)

@@ -5,7 +5,7 @@ use merge_order::Order;
 use run_model::Run;
 use std::alloc::Global;
 use worked_cases::{
-    Conversation, EMBARGOED_CALLS, RELAYED_CALL, Refused, case_of, early_delivery, is_so, run_of,
+    Conversation, EMBARGOED_CALLS, NoAnswer, RELAYED_CALL, case_of, early_delivery, is_so, run_of,
 };
 
 /// Conversations, what is changed in them, how many steps their run has, and where it breaks the order of calls.
@@ -22,7 +22,7 @@ const NAMED: [(Conversation<'static>, &[&str], usize, Option<(u32, u32)>); 3] = 
 ];
 
 /// How many steps a run has, and where it breaks the order of calls.
-fn told(alloc: Global, run: &Run) -> Result<(usize, Option<(u32, u32)>), Refused> {
+fn told(alloc: Global, run: &Run) -> Result<(usize, Option<(u32, u32)>), NoAnswer> {
     Ok((run.steps().len(), early_delivery(alloc, run)?))
 }
 
@@ -33,7 +33,7 @@ fn is_named(
     changes: &[&str],
     steps: usize,
     place: Option<(u32, u32)>,
-) -> Result<bool, Refused> {
+) -> Result<bool, NoAnswer> {
     let run = run_of(alloc, case_of(alloc, given, changes)?)?;
     Ok(told(alloc, &run)? == (steps, place))
 }
@@ -49,7 +49,7 @@ fn good_logs_name_a_run(rt: HostRuntime) {
 }
 
 /// Whether no findings and the order without steps name the run without steps.
-fn is_without_steps(alloc: Global) -> Result<bool, Refused> {
+fn is_without_steps(alloc: Global) -> Result<bool, NoAnswer> {
     let order = Order::new(Vec::new(alloc));
     no_findings_have_the_empty_run();
     let run = name_run(alloc, &[], &order)?;

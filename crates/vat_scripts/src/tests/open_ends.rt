@@ -5,7 +5,7 @@ use left_open::{Open, open_at_end};
 use std::alloc::Global;
 use std::process::Abort;
 use vat_view::DecodedRecord;
-use worked_cases::{Refused, is_so, log};
+use worked_cases::{NoAnswer, is_so, log};
 
 /// Records, and what is open after them: `q` a question without a Return, `u` one without a Finish, `l` a loopback, `p` a
 /// promise, `n` a number that is held. A `+` stands before a number that the vat gave out. Each ends with the record that
@@ -65,7 +65,7 @@ fn side(ours: bool) -> char {
 }
 
 /// Appends what is open.
-fn put_open(out: &mut String, open: &Open) -> Result<(), Refused> {
+fn put_open(out: &mut String, open: &Open) -> Result<(), NoAnswer> {
     if !out.is_empty() {
         out.push(' ')?;
     }
@@ -103,7 +103,7 @@ fn put_open(out: &mut String, open: &Open) -> Result<(), Refused> {
 }
 
 /// The records of a log.
-fn events_of(alloc: Global, records: &str) -> Result<Vec<DecodedRecord>, Refused> {
+fn events_of(alloc: Global, records: &str) -> Result<Vec<DecodedRecord>, NoAnswer> {
     let log = log(alloc, "2", records)?;
     let mut events = Vec::new(alloc);
     for at in 0..log.len() {
@@ -115,7 +115,7 @@ fn events_of(alloc: Global, records: &str) -> Result<Vec<DecodedRecord>, Refused
 }
 
 /// What is open after these records.
-fn open_after(alloc: Global, records: &str) -> Result<String, Refused> {
+fn open_after(alloc: Global, records: &str) -> Result<String, NoAnswer> {
     let events = events_of(alloc, records)?;
     let mut out = String::new(alloc);
     match open_at_end(alloc, events.as_slice())? {
@@ -130,7 +130,7 @@ fn open_after(alloc: Global, records: &str) -> Result<String, Refused> {
 }
 
 /// Whether just this is open after these records.
-fn is_open(alloc: Global, records: &str, open: &str) -> Result<bool, Refused> {
+fn is_open(alloc: Global, records: &str, open: &str) -> Result<bool, NoAnswer> {
     Ok(open_after(alloc, records)?.as_str() == open)
 }
 

@@ -7,10 +7,10 @@ use merge_order::{
     Order, OrderError, OrderFinding, check_order, make_order, read_order, write_order,
 };
 use std::alloc::Global;
-use worked_cases::{Refused, is_so, log};
+use worked_cases::{NoAnswer, is_so, log};
 
 /// The case of vats 1 and 2, which recorded this, without links.
-fn case(alloc: Global, first: &str, second: &str) -> Result<Case, Refused> {
+fn case(alloc: Global, first: &str, second: &str) -> Result<Case, NoAnswer> {
     let first = log(alloc, "1", first)?;
     let second = log(alloc, "2", second)?;
     Ok(Case::new(vec![in alloc; second, first]?, Vec::new(alloc))?)
@@ -38,7 +38,7 @@ fn has_finding(
     case: &Case,
     order: &Order,
     finding: OrderFinding,
-) -> Result<bool, Refused> {
+) -> Result<bool, NoAnswer> {
     Ok(check_order(alloc, case.logs(), order)? == finding)
 }
 
@@ -48,7 +48,7 @@ fn is_found(
     recorded: (&str, &str),
     vats: &[u32],
     finding: OrderFinding,
-) -> Result<bool, Refused> {
+) -> Result<bool, NoAnswer> {
     let order = Order::new(Vec::from_slice(alloc, vats)?);
     let case = case(alloc, recorded.0, recorded.1)?;
     has_finding(alloc, &case, &order, finding)
@@ -77,7 +77,7 @@ const MADE: [((&str, &str), &[u32]); 2] = [
 ];
 
 /// Whether just this order is made of the logs of a case, which aren't all empty.
-fn makes(alloc: Global, case: &Case, vats: &[u32]) -> Result<bool, Refused> {
+fn makes(alloc: Global, case: &Case, vats: &[u32]) -> Result<bool, NoAnswer> {
     Ok(match make_order(alloc, case.logs())? {
         Some(order) => !vats.is_empty() && order.as_slice() == vats,
         None => vats.is_empty(),
@@ -85,7 +85,7 @@ fn makes(alloc: Global, case: &Case, vats: &[u32]) -> Result<bool, Refused> {
 }
 
 /// Whether just this order is made of the logs of vats 1 and 2, which aren't both empty.
-fn is_made(alloc: Global, recorded: (&str, &str), vats: &[u32]) -> Result<bool, Refused> {
+fn is_made(alloc: Global, recorded: (&str, &str), vats: &[u32]) -> Result<bool, NoAnswer> {
     let case = case(alloc, recorded.0, recorded.1)?;
     makes(alloc, &case, vats)
 }
@@ -106,10 +106,10 @@ const REFUSED: [(&str, OrderError); 4] = [
 ];
 
 /// Whether bytes are refused for this. Running out of memory is a failure, and no answer.
-fn is_refused(alloc: Global, digits: &str, fault: OrderError) -> Result<bool, Refused> {
+fn is_refused(alloc: Global, digits: &str, fault: OrderError) -> Result<bool, NoAnswer> {
     let bytes = bytes_of_digits(alloc, digits)?;
     match read_order(alloc, Bytes::from_vec(bytes)?) {
-        Err(OrderError::OutOfMemory) => Err(Refused::OutOfMemory),
+        Err(OrderError::OutOfMemory) => Err(NoAnswer::OutOfMemory),
         Err(came) => Ok(came == fault),
         Ok(_) => Ok(false),
     }
@@ -132,26 +132,26 @@ const SPELLED: [(&str, &[u32]); 2] = [
 ];
 
 /// The order that these bytes spell.
-fn order_of(alloc: Global, digits: &str) -> Result<Order, Refused> {
+fn order_of(alloc: Global, digits: &str) -> Result<Order, NoAnswer> {
     let bytes = Bytes::from_vec(bytes_of_digits(alloc, digits)?)?;
     Ok(read_order(alloc, bytes)?)
 }
 
 /// Whether an order is written with these bytes.
-fn is_written(alloc: Global, order: &Order, bytes: &[u8]) -> Result<bool, Refused> {
+fn is_written(alloc: Global, order: &Order, bytes: &[u8]) -> Result<bool, NoAnswer> {
     let written = write_order(alloc, order)?;
     Ok(written.as_slice() == bytes)
 }
 
 /// Whether an order has these steps, and is written with these bytes.
-fn has_steps(alloc: Global, order: &Order, vats: &[u32], digits: &str) -> Result<bool, Refused> {
+fn has_steps(alloc: Global, order: &Order, vats: &[u32], digits: &str) -> Result<bool, NoAnswer> {
     let bytes = bytes_of_digits(alloc, digits)?;
     let is_written = is_written(alloc, order, bytes.as_slice())?;
     Ok(is_written && order.as_slice() == vats)
 }
 
 /// Whether an order is read so, and written again with the same bytes.
-fn is_spelled(alloc: Global, digits: &str, vats: &[u32]) -> Result<bool, Refused> {
+fn is_spelled(alloc: Global, digits: &str, vats: &[u32]) -> Result<bool, NoAnswer> {
     let order = order_of(alloc, digits)?;
     has_steps(alloc, &order, vats, digits)
 }

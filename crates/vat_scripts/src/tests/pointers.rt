@@ -3,8 +3,8 @@
 use super::given::frame;
 use cap_frame::Frame;
 use cap_reader::{
-    Limits, ListAt, ReadError, StructAt, bit_at, fields, list_field, root, struct_field, u16_at,
-    u32_at, u64_at,
+    Limits, ListAt, ReadError, StructAt, TextAt, bit_at, fields, list_field, root, struct_field,
+    text_field, u16_at, u32_at, u64_at,
 };
 use std::alloc::Global;
 use std::fmt::Write;
@@ -28,10 +28,12 @@ enum Step {
     Element(u32),
     /// The capabilities at and below the pointer of this number.
     Fields(u16),
+    /// The text at the pointer of this number.
+    Text(u16),
 }
 
-use Step::{Bit, Element, Fields, List, Struct, U16, U32, U64};
-use worked_cases::{Refused, ask_again};
+use Step::{Bit, Element, Fields, List, Struct, Text, U16, U32, U64};
+use worked_cases::{NoAnswer, ask_again};
 
 /// A Release of the export 3, two times.
 const RELEASE: &str = "400000000 1000100000000 6 100000000 200000003";
@@ -72,8 +74,14 @@ const CAPABILITIES_IN_TWO: &str =
 /// A capability at the root's pointer.
 const CAPABILITY: &str = "200000000 1000000000000 400000003";
 
+/// A list of nine bytes and a zero.
+const TEXT: &str = "400000000 1000000000000 5200000001 6867666564636261 69";
+
+/// The same bytes in a second segment, its pad behind them.
+const TEXT_IN_TWO: &str = "200000001 3 1000000000000 100000012 6867666564636261 69 52fffffff5";
+
 /// Frames by their words, the words and the depth of the limits, the steps from the root, and what is told of them.
-const ROWS: [(&str, u64, u8, &[Step], &str); 34] = [
+const ROWS: [(&str, u64, u8, &[Step], &str); 41] = [
     (
         RELEASE,
         3,
@@ -271,6 +279,57 @@ const ROWS: [(&str, u64, u8, &[Step], &str); 34] = [
         &[Fields(0)],
         "root, 59 left; TooMuch, 0 left",
     ),
+    // A text costs the words of its bytes and its zero; one without a zero isn't paid for.
+    (
+        TEXT,
+        4,
+        1,
+        &[Text(0), Text(0)],
+        "root, 3 left; text of 9, 1 left; 61; 62; 63; 64; 65; 66; 67; 68; 69; TooMuch, 1 left",
+    ),
+    (
+        TEXT_IN_TWO,
+        3,
+        1,
+        &[Text(0), Text(1)],
+        "root, 2 left; text of 9, 0 left; 61; 62; 63; 64; 65; 66; 67; 68; 69; null, 0 left",
+    ),
+    (
+        "300000000 1000000000000 a00000001 ff00",
+        2,
+        1,
+        &[Text(0)],
+        "root, 1 left; text of 0, 0 left",
+    ),
+    (
+        "300000000 1000000000000 2200000001 64636261",
+        1,
+        1,
+        &[Text(0)],
+        "root, 0 left; NoZero, 0 left",
+    ),
+    (
+        "200000000 1000000000000 200000001",
+        2,
+        1,
+        &[Text(0)],
+        "root, 1 left; NoZero, 1 left",
+    ),
+    // A list of numbers of two bytes, and one of nine bytes in one word.
+    (
+        "300000000 1000000000000 b00000001 0",
+        2,
+        1,
+        &[Text(0)],
+        "root, 1 left; WrongKind, 1 left",
+    ),
+    (
+        "300000000 1000000000000 4a00000001 0",
+        2,
+        1,
+        &[Text(0)],
+        "root, 1 left; OutOfSegment, 1 left",
+    ),
     // A null pad is null, which costs nothing; a tag of all zeros is an empty struct.
     ("300000000 a 0 0", 5, 1, &[U64(0)], "root, 5 left; 0"),
     ("300000000 e 2 0", 5, 1, &[U64(0)], "root, 4 left; 0"),
@@ -288,16 +347,16 @@ struct Walk {
 
 impl Walk {
     /// Tells to what a visit came, and the words that it left.
-    fn tell(&mut self, came: &str) -> Result<(), Refused> {
+    fn tell(&mut self, came: &str) -> Result<(), NoAnswer> {
         let left = self.limits.words;
         write!(self.text, "; {came}, {left} left")?;
         Ok(())
     }
 
     /// Tells why a visit was refused. Running out of memory is a failure, and no answer.
-    fn tell_fault(&mut self, fault: ReadError) -> Result<(), Refused> {
+    fn tell_fault(&mut self, fault: ReadError) -> Result<(), NoAnswer> {
         if fault == ReadError::OutOfMemory {
-            return Err(Refused::OutOfMemory);
+            return Err(NoAnswer::OutOfMemory);
         }
         let left = self.limits.words;
         write!(self.text, "; {fault:?}, {left} left")?;
@@ -305,18 +364,18 @@ impl Walk {
     }
 
     /// Tells a number.
-    fn tell_number(&mut self, number: u64) -> Result<(), Refused> {
+    fn tell_number(&mut self, number: u64) -> Result<(), NoAnswer> {
         write!(self.text, "; {number:x}")?;
         Ok(())
     }
 
-    fn tell_bit(&mut self, bit: u16) -> Result<(), Refused> {
+    fn tell_bit(&mut self, bit: u16) -> Result<(), NoAnswer> {
         let is_set = bit_at(&self.frame, &self.place, u32::from(bit));
         write!(self.text, "; {is_set}")?;
         Ok(())
     }
 
-    fn to_struct(&mut self, n: u16) -> Result<(), Refused> {
+    fn to_struct(&mut self, n: u16) -> Result<(), NoAnswer> {
         match struct_field(&self.frame, &self.place, n, &mut self.limits) {
             Ok(Some(place)) => {
                 self.place = place;
@@ -327,7 +386,7 @@ impl Walk {
         }
     }
 
-    fn to_list(&mut self, n: u16) -> Result<(), Refused> {
+    fn to_list(&mut self, n: u16) -> Result<(), NoAnswer> {
         match list_field(&self.frame, &self.place, n, &mut self.limits) {
             Ok(Some(list)) => {
                 self.list = Some(list);
@@ -342,10 +401,10 @@ impl Walk {
         }
     }
 
-    fn to_element(&mut self, i: u32) -> Result<(), Refused> {
+    fn to_element(&mut self, i: u32) -> Result<(), NoAnswer> {
         let list = self.list.ok_or("a list")?;
         if i >= list.len() {
-            return Err(Refused::Otherwise);
+            return Err(NoAnswer::Otherwise);
         }
         match list.element(i, &mut self.limits) {
             Ok(place) => {
@@ -356,7 +415,7 @@ impl Walk {
         }
     }
 
-    fn tell_fields(&mut self, alloc: Global, n: u16) -> Result<(), Refused> {
+    fn tell_fields(&mut self, alloc: Global, n: u16) -> Result<(), NoAnswer> {
         match fields(alloc, &self.frame, &self.place, n, &mut self.limits) {
             Ok(found) => {
                 for (path, index) in found.as_slice() {
@@ -368,7 +427,30 @@ impl Walk {
         }
     }
 
-    fn take(&mut self, alloc: Global, step: Step) -> Result<(), Refused> {
+    /// Tells the bytes of a text.
+    fn tell_bytes(&mut self, text: TextAt) -> Result<(), NoAnswer> {
+        for i in 0..text.len() {
+            let byte = text.byte(&self.frame, i);
+            self.tell_number(u64::from(byte))?;
+        }
+        Ok(())
+    }
+
+    fn to_text(&mut self, n: u16) -> Result<(), NoAnswer> {
+        match text_field(&self.frame, &self.place, n, &mut self.limits) {
+            Ok(Some(text)) => {
+                let len = text.len();
+                write!(self.text, "; text of {len}")?;
+                let left = self.limits.words;
+                write!(self.text, ", {left} left")?;
+                self.tell_bytes(text)
+            }
+            Ok(None) => self.tell("null"),
+            Err(fault) => self.tell_fault(fault),
+        }
+    }
+
+    fn take(&mut self, alloc: Global, step: Step) -> Result<(), NoAnswer> {
         match step {
             U16(n) => {
                 let number = u16_at(&self.frame, &self.place, 2 * u32::from(n));
@@ -387,11 +469,12 @@ impl Walk {
             List(n) => self.to_list(n),
             Element(i) => self.to_element(i),
             Fields(n) => self.tell_fields(alloc, n),
+            Text(n) => self.to_text(n),
         }
     }
 
     /// Takes these steps, one after another.
-    fn take_each(&mut self, alloc: Global, steps: &[Step]) -> Result<(), Refused> {
+    fn take_each(&mut self, alloc: Global, steps: &[Step]) -> Result<(), NoAnswer> {
         for step in steps {
             self.take(alloc, *step)?;
         }
@@ -400,7 +483,7 @@ impl Walk {
 }
 
 /// The walk that begins at this root.
-fn begun(alloc: Global, frame: Frame, place: StructAt, limits: Limits) -> Result<Walk, Refused> {
+fn begun(alloc: Global, frame: Frame, place: StructAt, limits: Limits) -> Result<Walk, NoAnswer> {
     let left = limits.words;
     let text = format!(in alloc; "root, {left} left")?;
     Ok(Walk {
@@ -413,19 +496,19 @@ fn begun(alloc: Global, frame: Frame, place: StructAt, limits: Limits) -> Result
 }
 
 /// What is told of a walk once it has taken these steps.
-fn text_behind(alloc: Global, walk: Walk, steps: &[Step]) -> Result<String, Refused> {
+fn text_behind(alloc: Global, walk: Walk, steps: &[Step]) -> Result<String, NoAnswer> {
     let mut walk = walk;
     walk.take_each(alloc, steps)?;
     Ok(walk.text)
 }
 
 /// What is told where no root is reached.
-fn fault_text(alloc: Global, fault: ReadError, left: u64) -> Result<String, Refused> {
+fn fault_text(alloc: Global, fault: ReadError, left: u64) -> Result<String, NoAnswer> {
     Ok(format!(in alloc; "{fault:?}, {left} left")?)
 }
 
 /// What is told of a walk through the frame of these words.
-fn walked(alloc: Global, words: &str, limits: Limits, steps: &[Step]) -> Result<String, Refused> {
+fn walked(alloc: Global, words: &str, limits: Limits, steps: &[Step]) -> Result<String, NoAnswer> {
     let frame = frame(alloc, words)?;
     let mut limits = limits;
     match root(&frame, &mut limits) {
@@ -464,7 +547,7 @@ fn default_limits(rt: HostRuntime) {
 
 /// What is told of a frame of 512 segments, of which the first has a far pointer, the last its pad and a word behind it,
 /// and the others nothing.
-fn many_segments(alloc: Global) -> Result<String, Refused> {
+fn many_segments(alloc: Global) -> Result<String, NoAnswer> {
     let mut words = String::from_str(alloc, "1000001ff ")?;
     for _ in 0..255 {
         words.push_str("0 ")?;

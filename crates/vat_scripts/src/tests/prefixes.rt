@@ -10,8 +10,8 @@ use std::sync::Wait;
 use std::thread::Threads;
 use vat_notation::{Places, Vat, Version, add_records, log_and_places_of};
 use worked_cases::{
-    Conversation, EMBARGOED_CALLS, LATE_RETURN, PIPELINED_CALL, REINTRODUCED_EXPORT, RELAYED_CALL,
-    RELEASED_PROMISE, REUSED_QUESTION, Refused, is_so,
+    Conversation, EMBARGOED_CALLS, LATE_RETURN, NoAnswer, PIPELINED_CALL, REINTRODUCED_EXPORT,
+    RELAYED_CALL, RELEASED_PROMISE, REUSED_QUESTION, is_so,
 };
 
 const CONVERSATIONS: [Conversation<'static>; 7] = [
@@ -36,7 +36,7 @@ struct Whole<'a> {
 }
 
 /// The log of a vat that recorded this.
-fn whole_log<'a>(alloc: Global, number: &'a str, records: &'a str) -> Result<Whole<'a>, Refused> {
+fn whole_log<'a>(alloc: Global, number: &'a str, records: &'a str) -> Result<Whole<'a>, NoAnswer> {
     let mut vat = Vat {
         number,
         version: Version::One,
@@ -64,7 +64,7 @@ impl Whole<'_> {
     }
 
     /// The line that must come of so many of its bytes: its records as far as they go, or the field that is cut.
-    fn line_of(&self, alloc: Global, len: usize) -> Result<String, Refused> {
+    fn line_of(&self, alloc: Global, len: usize) -> Result<String, NoAnswer> {
         if len < 8 {
             return Ok(String::from_str(alloc, "bad log BadMagic\n")?);
         }
@@ -91,7 +91,7 @@ impl Whole<'_> {
         rt: &R,
         alloc: Global,
         len: usize,
-    ) -> Result<bool, Refused> {
+    ) -> Result<bool, NoAnswer> {
         let wanted = self.line_of(alloc, len)?;
         let wanted_status = if wanted.starts_with("bad") { 2 } else { 0 };
         let begin = self.bytes.as_slice().get(..len).ok_or("so many bytes")?;
@@ -100,7 +100,7 @@ impl Whole<'_> {
         let mut source = FileList::new(files);
         let mut out = Vec::new(alloc);
         match run_on(rt, alloc, &VAT, &mut source, &mut out, &mut io::sink()) {
-            3 => Err(Refused::OutOfMemory),
+            3 => Err(NoAnswer::OutOfMemory),
             status => Ok(status == wanted_status && out.as_slice() == wanted.as_bytes()),
         }
     }
@@ -112,7 +112,7 @@ fn are_told<R: Threads + Wait + Sync>(
     alloc: Global,
     number: &str,
     records: &str,
-) -> Result<bool, Refused> {
+) -> Result<bool, NoAnswer> {
     let whole = whole_log(alloc, number, records)?;
     for len in 0..=whole.bytes.len() {
         if !is_so(|| whole.is_told(rt, alloc, len)) {

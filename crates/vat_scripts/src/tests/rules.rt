@@ -4,7 +4,7 @@ use cap_reader::Limits;
 use std::alloc::Global;
 use vat_rules::{Outcome, RecordFacts, Story, VatFinding, Why, audit_vat};
 use vat_view::{DecodedRecord, View};
-use worked_cases::{Refused, is_so, log};
+use worked_cases::{NoAnswer, is_so, log};
 
 /// Vat 2's log of pipelined_call.
 const PIPELINED_CALL: &str =
@@ -17,7 +17,7 @@ fn found(
     number: &str,
     records: &str,
     limits: Limits,
-) -> Result<VatFinding, Refused> {
+) -> Result<VatFinding, NoAnswer> {
     let log = log(alloc, number, records)?;
     Ok(audit_vat(alloc, &log, limits)?)
 }
@@ -38,7 +38,7 @@ fn is_told_at(at: usize, event: &DecodedRecord, seen: &RecordFacts) -> bool {
 
 /// Whether all eight records are told.
 fn are_told(story: &Story) -> bool {
-    for (at, (event, seen)) in story.events().iter().zip(story.seen()).enumerate() {
+    for (at, (event, seen)) in story.events().iter().zip(story.facts()).enumerate() {
         if !is_told_at(at, event, seen) {
             return false;
         }
@@ -47,7 +47,7 @@ fn are_told(story: &Story) -> bool {
 }
 
 /// Whether the audit of a good log tells its records.
-fn is_good(alloc: Global) -> Result<bool, Refused> {
+fn is_good(alloc: Global) -> Result<bool, NoAnswer> {
     let found = found(alloc, "2", PIPELINED_CALL, Limits::default())?;
     let is_of_log = found.log().vat() == 2 && found.limits() == Limits::default();
     Ok(match found.outcome() {
@@ -68,17 +68,17 @@ const RESOLVED: &str = "S0 c1 boot q0; R0 r1 ret q0 senderPromise 0@[]; \
 /// Whether a story of three records tells what a promise is that is resolved: what the first descriptor of record 1
 /// brought.
 fn is_promise_told(story: &Story) -> bool {
-    for (at, seen) in story.seen().iter().enumerate() {
+    for (at, seen) in story.facts().iter().enumerate() {
         let brought = matches!(seen.promise(), Some(View::Import(1, 0)));
         if (seen.promise().is_some(), brought) != (at == 2, at == 2) {
             return false;
         }
     }
-    story.seen().len() == 3
+    story.facts().len() == 3
 }
 
 /// Whether the audit tells so.
-fn is_resolved(alloc: Global) -> Result<bool, Refused> {
+fn is_resolved(alloc: Global) -> Result<bool, NoAnswer> {
     let found = found(alloc, "1", RESOLVED, Limits::default())?;
     Ok(match found.outcome() {
         Outcome::Good(story) => is_promise_told(story),
@@ -92,7 +92,7 @@ fn a_resolved_promise_is_told(rt: HostRuntime) {
 }
 
 /// Whether a frame that needs more words than there are is unread.
-fn is_unread(alloc: Global) -> Result<bool, Refused> {
+fn is_unread(alloc: Global) -> Result<bool, NoAnswer> {
     let limits = Limits {
         words: 3,
         depth: 64,

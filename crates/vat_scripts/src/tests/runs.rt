@@ -11,7 +11,7 @@ use std::io::Write;
 use std::sync::Wait;
 use std::sync::atomic::{AtomicU64, Ordering};
 use std::thread::Threads;
-use worked_cases::{Conversation, RELAYED_CALL, REUSED_QUESTION, Refused, bytes_of_log, is_so};
+use worked_cases::{Conversation, NoAnswer, RELAYED_CALL, REUSED_QUESTION, bytes_of_log, is_so};
 
 /// A source without memory.
 #[derive(Drop)]
@@ -58,10 +58,10 @@ const READERS: [&[&str]; 7] = [
 ];
 
 /// Why words are no command.
-fn refusal_of(error: &clap::Error) -> Refused {
+fn refusal_of(error: &clap::Error) -> NoAnswer {
     match error.kind() {
-        ErrorKind::OutOfMemory => Refused::OutOfMemory,
-        _ => Refused::Otherwise,
+        ErrorKind::OutOfMemory => NoAnswer::OutOfMemory,
+        _ => NoAnswer::Otherwise,
     }
 }
 
@@ -70,7 +70,7 @@ fn status_without_memory<R: Threads + Wait + Sync + AllocGlobal, W: Write>(
     rt: &R,
     words: &[&str],
     out: &mut W,
-) -> Result<u8, Refused> {
+) -> Result<u8, NoAnswer> {
     let command = command_of(rt.alloc(), words).map_err(|error| refusal_of(&error))?;
     Ok(run_on(rt, rt.alloc(), &command, &mut Poor, out, &mut io::sink()))
 }
@@ -79,7 +79,7 @@ fn status_without_memory<R: Threads + Wait + Sync + AllocGlobal, W: Write>(
 fn is_poor<R: Threads + Wait + Sync + AllocGlobal>(
     rt: &R,
     words: &[&str],
-) -> Result<bool, Refused> {
+) -> Result<bool, NoAnswer> {
     let mut out = Vec::with_capacity(rt.alloc(), 256)?;
     let status = status_without_memory(rt, words, &mut out)?;
     Ok(status == 3 && out.as_slice() == "out of memory\n".as_bytes())
@@ -97,7 +97,7 @@ fn is_the_last<R: Threads + Wait + Sync + AllocGlobal>(
     rt: &R,
     words: &[&str],
     room: usize,
-) -> Result<bool, Refused> {
+) -> Result<bool, NoAnswer> {
     let mut out = Narrow { room, refusals: 0 };
     let status = status_without_memory(rt, words, &mut out)?;
     Ok(status == 2 && out.room == 0 && out.refusals == 1)
@@ -113,14 +113,14 @@ fn a_failed_write_is_the_last(rt: HostRuntime) {
 }
 
 /// The case without logs, under the name `given`.
-fn empty_case(alloc: Global) -> Result<FileList, Refused> {
+fn empty_case(alloc: Global) -> Result<FileList, NoAnswer> {
     let name = String::from_str(alloc, "given")?;
     let text = Bytes::copy_from_slice(alloc, b"{\"logs\": [], \"links\": []}")?;
     Ok(FileList::new(vec![in alloc; (name, text)]?))
 }
 
 /// Whether nothing is printed of an order that can't be written.
-fn is_unwritten<R: Threads + Wait + Sync + AllocGlobal>(rt: &R) -> Result<bool, Refused> {
+fn is_unwritten<R: Threads + Wait + Sync + AllocGlobal>(rt: &R) -> Result<bool, NoAnswer> {
     let alloc = rt.alloc();
     let order = Command::Order {
         case: "given",
@@ -133,7 +133,7 @@ fn is_unwritten<R: Threads + Wait + Sync + AllocGlobal>(rt: &R) -> Result<bool, 
         refusals: 0,
     };
     match run_on(rt, alloc, &order, &mut source, &mut out, &mut file) {
-        3 => Err(Refused::OutOfMemory),
+        3 => Err(NoAnswer::OutOfMemory),
         status => Ok(out.is_empty() && status == 2 && file.refusals == 1),
     }
 }
@@ -157,7 +157,7 @@ const REUSED: Told = (
 );
 
 /// The files of a conversation: its logs, and the case under the name `case`.
-fn files_of(alloc: Global, told: &Told) -> Result<FileList, Refused> {
+fn files_of(alloc: Global, told: &Told) -> Result<FileList, NoAnswer> {
     let mut files = Vec::new(alloc);
     for (number, records) in told.0.vats {
         let name = format!(in alloc; "vat{number}")?;
@@ -196,7 +196,7 @@ fn refuse_write<R: Threads + Wait + Sync>(
     told: &Told,
     words: &[&str],
     refused: u64,
-) -> Result<(u8, u64), Refused> {
+) -> Result<(u8, u64), NoAnswer> {
     let command = command_of(alloc, words).map_err(|error| refusal_of(&error))?;
     let writes = AtomicU64::new(0);
     let mut source = files_of(alloc, told)?;
@@ -209,7 +209,7 @@ fn refuse_write<R: Threads + Wait + Sync>(
         writes: &writes,
     };
     match run_on(rt, alloc, &command, &mut source, &mut out, &mut file) {
-        3 => Err(Refused::OutOfMemory),
+        3 => Err(NoAnswer::OutOfMemory),
         status => Ok((status, writes.load(Ordering::SeqCst))),
     }
 }
@@ -220,7 +220,7 @@ fn each_is_the_last<R: Threads + Wait + Sync>(
     alloc: Global,
     told: &Told,
     words: &[&str],
-) -> Result<bool, Refused> {
+) -> Result<bool, NoAnswer> {
     for refused in 0..1000 {
         let (status, writes) = refuse_write(rt, alloc, told, words, refused)?;
         if writes <= refused {
@@ -264,7 +264,7 @@ fn is_read<R: Threads + Wait + Sync>(
     alloc: Global,
     left: u64,
     printed: (&str, u8),
-) -> Result<bool, Refused> {
+) -> Result<bool, NoAnswer> {
     let files = files_of(alloc, &RELAYED)?;
     let mut source = Failing { files, left };
     let mut out = Vec::with_capacity(alloc, 256)?;
@@ -273,7 +273,7 @@ fn is_read<R: Threads + Wait + Sync>(
         workers: 1,
     };
     match run_on(rt, alloc, &check, &mut source, &mut out, &mut io::sink()) {
-        3 => Err(Refused::OutOfMemory),
+        3 => Err(NoAnswer::OutOfMemory),
         status => Ok(status == printed.1 && out.as_slice() == printed.0.as_bytes()),
     }
 }
@@ -336,7 +336,7 @@ const UNBOUND_NOTES: &str =
 fn noted_source<N: Write + Drop>(
     alloc: Global,
     notes: N,
-) -> Result<NotedSource<'static, One, N, Unwatched>, Refused> {
+) -> Result<NotedSource<'static, One, N, Unwatched>, NoAnswer> {
     let name = String::from_str(alloc, "given")?;
     let bytes = Bytes::copy_from_slice(alloc, UNBOUND)?;
     let source = One {
@@ -353,21 +353,21 @@ fn noted_source<N: Write + Drop>(
 fn is_told<R: Threads + Wait + Sync + AllocGlobal, N: Write>(
     rt: &R,
     noted: &mut NotedSource<'_, One, N, Unwatched>,
-) -> Result<bool, Refused> {
+) -> Result<bool, NoAnswer> {
     let alloc = rt.alloc();
     let mut out = Vec::with_capacity(alloc, 256)?;
     let vat = Command::Vat { file: "given" };
     match run_with_notes(rt, alloc, &vat, noted, &mut out, &mut io::sink()) {
-        3 => Err(Refused::OutOfMemory),
+        3 => Err(NoAnswer::OutOfMemory),
         status => Ok(status == 1 && out.as_slice() == b"no vat 7 record 0 rule REF\n".as_slice()),
     }
 }
 
 /// Whether it is noted, too. Where memory is refused for the notes alone, there are none.
-fn is_noted<R: Threads + Wait + Sync + AllocGlobal>(rt: &R) -> Result<bool, Refused> {
+fn is_noted<R: Threads + Wait + Sync + AllocGlobal>(rt: &R) -> Result<bool, NoAnswer> {
     let mut noted = noted_source(rt.alloc(), Vec::with_capacity(rt.alloc(), 256)?)?;
     match is_told(rt, &mut noted)? {
-        true if noted.notes.is_empty() => Err(Refused::OutOfMemory),
+        true if noted.notes.is_empty() => Err(NoAnswer::OutOfMemory),
         is_so => Ok(is_so && noted.notes.as_slice() == UNBOUND_NOTES.as_bytes()),
     }
 }
@@ -378,14 +378,14 @@ fn notes_a_no(rt: HostRuntime) {
 }
 
 /// Whether it is told just so where its notes can't be written.
-fn is_told_alone<R: Threads + Wait + Sync + AllocGlobal>(rt: &R) -> Result<bool, Refused> {
+fn is_told_alone<R: Threads + Wait + Sync + AllocGlobal>(rt: &R) -> Result<bool, NoAnswer> {
     let notes = Narrow {
         room: 3,
         refusals: 0,
     };
     let mut noted = noted_source(rt.alloc(), notes)?;
     match is_told(rt, &mut noted)? {
-        true if noted.notes.room == 3 => Err(Refused::OutOfMemory),
+        true if noted.notes.room == 3 => Err(NoAnswer::OutOfMemory),
         is_so => Ok(is_so && noted.notes.room == 0 && noted.notes.refusals == 1),
     }
 }
@@ -511,11 +511,11 @@ fn is_meant(
     alloc: Global,
     words: &[&str],
     meant: &Result<Command<'static>, ErrorKind>,
-) -> Result<bool, Refused> {
+) -> Result<bool, NoAnswer> {
     let found = command_of(alloc, words).map_err(|error| error.kind());
     let found = format!(in alloc; "{found:?}")?;
     if found.as_str() == "Err(OutOfMemory)" {
-        return Err(Refused::OutOfMemory);
+        return Err(NoAnswer::OutOfMemory);
     }
     let meant = format!(in alloc; "{meant:?}")?;
     Ok(found.as_str() == meant.as_str())
@@ -529,7 +529,7 @@ fn words_are_commands(rt: HostRuntime) {
 }
 
 /// Whether these words ask for both logs to be joined.
-fn asks_to_join(alloc: Global, words: &[&str]) -> Result<bool, Refused> {
+fn asks_to_join(alloc: Global, words: &[&str]) -> Result<bool, NoAnswer> {
     let command = command_of(alloc, words).map_err(|error| refusal_of(&error))?;
     let Command::Join { logs, out } = &command else {
         return Ok(false);
@@ -572,19 +572,19 @@ const HELP: [(&str, &str); 10] = [
 ];
 
 /// The help of a command. Running out of memory is a failure.
-fn help_of(alloc: Global, command: &str) -> Result<String, Refused> {
+fn help_of(alloc: Global, command: &str) -> Result<String, NoAnswer> {
     let words = ["vataudit", command, "--help"];
     let Some(error) = command_of(alloc, &words).err() else {
-        return Err(Refused::Otherwise);
+        return Err(NoAnswer::Otherwise);
     };
     if error.kind() == ErrorKind::OutOfMemory {
-        return Err(Refused::OutOfMemory);
+        return Err(NoAnswer::OutOfMemory);
     }
     Ok(error.to_string(alloc)?)
 }
 
 /// Whether a command's help has this line, and the statuses.
-fn is_help(alloc: Global, command: &str, line: &str) -> Result<bool, Refused> {
+fn is_help(alloc: Global, command: &str, line: &str) -> Result<bool, NoAnswer> {
     let text = help_of(alloc, command)?;
     Ok(text.contains(line) && text.contains("3  memory ran out"))
 }

@@ -10,7 +10,7 @@ use std::process::Abort;
 use std::sync::Arc;
 use vat_log::{Body, References, VatLog};
 use vat_view::{DecodedRecord, Number, TableKey, VatState, View};
-use worked_cases::{Refused, is_so, log};
+use worked_cases::{NoAnswer, is_so, log};
 
 /// Records, and what is known after them.
 const ROWS: [(&str, &str); 3] = [
@@ -24,7 +24,7 @@ const ROWS: [(&str, &str); 3] = [
         "HOST r1 7; R0 c1 boot q0; R0 c2 call q1 answer 0 []; ANSWER c1 r1@[]; DELIVER c2 7; \
         S0 r1 ret q0 senderHosted 0@[]; ANSWER c2; S0 ret q1",
         "r1 Some(Object(7)); export Some(Object(7)) 1; answer Some(Field(1, Path { fields: [] })); \
-        call Some(Asked { goal: Some(Field(1, Path { fields: [] })), interface: 4660, method: 2 }) \
+        call Some(Request { goal: Some(Field(1, Path { fields: [] })), interface: 4660, method: 2 }) \
         Some(Field(1, Path { fields: [] })) false true true true; \
         opening Some(1) finished false promised Some(false) resolved false; \
         stays false leads true by turns false end Some(Object(7))",
@@ -33,7 +33,7 @@ const ROWS: [(&str, &str); 3] = [
         "HOST r1 7; R0 c1 boot q0; R0 c2 call q1 answer 0 []; ANSWER c1 r1@[]; DELIVER c2 7; \
         S0 r1 ret q0 senderHosted 0@[]; R0 fin q0 keep; R0 release id 0 count 1",
         "r1 Some(Object(7)); export None 0; answer None; \
-        call Some(Asked { goal: Some(Field(1, Path { fields: [] })), interface: 4660, method: 2 }) \
+        call Some(Request { goal: Some(Field(1, Path { fields: [] })), interface: 4660, method: 2 }) \
         Some(Field(1, Path { fields: [] })) false true false false; \
         opening Some(1) finished true promised None resolved false; \
         stays false leads true by turns false end Some(Object(7))",
@@ -122,7 +122,7 @@ const OVER: [(&str, &str); 5] = [
 ];
 
 /// The message of a frame, by the later edition.
-fn message(alloc: Global, frame: &Bytes) -> Result<RpcMessage, Refused> {
+fn message(alloc: Global, frame: &Bytes) -> Result<RpcMessage, NoAnswer> {
     Ok(read_bytes(alloc, frame.clone()?, Limits::default(), Edition::Later)?)
 }
 
@@ -133,7 +133,7 @@ fn wire(
     call: u64,
     references: &References,
     message: RpcMessage,
-) -> Result<DecodedRecord, Refused> {
+) -> Result<DecodedRecord, NoAnswer> {
     let references = references.copy()?;
     Ok(DecodedRecord::Wire {
         sent,
@@ -145,7 +145,7 @@ fn wire(
 }
 
 /// A stored record with its message read, of the kinds of these rows.
-pub(crate) fn event_of(alloc: Global, body: &Body) -> Result<DecodedRecord, Refused> {
+pub(crate) fn event_of(alloc: Global, body: &Body) -> Result<DecodedRecord, NoAnswer> {
     match body {
         Body::Host { reference, object } => Ok(DecodedRecord::Host {
             reference: *reference,
@@ -211,24 +211,24 @@ pub(crate) fn event_of(alloc: Global, body: &Body) -> Result<DecodedRecord, Refu
             references,
             message(alloc, frame)?,
         ),
-        _ => Err(Refused::Otherwise),
+        _ => Err(NoAnswer::Otherwise),
     }
 }
 
 /// Applies a record that is as it should be.
-fn apply(state: &mut VatState, event: DecodedRecord) -> Result<(), Refused> {
+fn apply(state: &mut VatState, event: DecodedRecord) -> Result<(), NoAnswer> {
     match (state.refers(&event), state.gives_back_held(&event)) {
         (Ok(true), Ok(true))
             if state.opens_free(&event)
                 && state.uses_questions(&event)
                 && state.uses_numbers(&event)
                 && state.notes_each(&event) => { Ok(state.apply(&event)?) }
-        _ => Err(Refused::Otherwise),
+        _ => Err(NoAnswer::Otherwise),
     }
 }
 
 /// Applies each record of a log.
-fn apply_each(alloc: Global, state: &mut VatState, log: &Arc<VatLog>) -> Result<(), Refused> {
+fn apply_each(alloc: Global, state: &mut VatState, log: &Arc<VatLog>) -> Result<(), NoAnswer> {
     for at in 0..log.len() {
         if let Some(record) = log.get(at) {
             apply(state, event_of(alloc, record.body())?)?;
@@ -238,14 +238,14 @@ fn apply_each(alloc: Global, state: &mut VatState, log: &Arc<VatLog>) -> Result<
 }
 
 /// The state after the records of a log.
-fn state_after(alloc: Global, log: &Arc<VatLog>) -> Result<VatState, Refused> {
+fn state_after(alloc: Global, log: &Arc<VatLog>) -> Result<VatState, NoAnswer> {
     let mut state = VatState::new(alloc);
     apply_each(alloc, &mut state, log)?;
     Ok(state)
 }
 
 /// The state after these records.
-pub fn state_of(alloc: Global, records: &str) -> Result<VatState, Refused> {
+pub fn state_of(alloc: Global, records: &str) -> Result<VatState, NoAnswer> {
     let log = log(alloc, "2", records)?;
     state_after(alloc, &log)
 }
@@ -256,21 +256,21 @@ fn put_number(
     state: &VatState,
     number: Number,
     path: &Path,
-) -> Result<(), Refused> {
+) -> Result<(), NoAnswer> {
     let view = state.stands_for(0, number, path)?;
     write!(out, "{view:?}")?;
     Ok(())
 }
 
 /// What reference 1 stands for.
-fn put_reference(out: &mut String, state: &VatState) -> Result<(), Refused> {
+fn put_reference(out: &mut String, state: &VatState) -> Result<(), NoAnswer> {
     let view = state.view_of_reference(1)?;
     write!(out, "r1 {view:?}; ")?;
     Ok(())
 }
 
 /// Reference 1, and export and answer 0 of connection 0.
-fn put_numbers(out: &mut String, state: &VatState, path: &Path) -> Result<(), Refused> {
+fn put_numbers(out: &mut String, state: &VatState, path: &Path) -> Result<(), NoAnswer> {
     put_reference(out, state)?;
     out.push_str("export ")?;
     put_number(out, state, Number::Export(0), path)?;
@@ -281,21 +281,21 @@ fn put_numbers(out: &mut String, state: &VatState, path: &Path) -> Result<(), Re
 }
 
 /// What call 2 asked for.
-fn put_asked(out: &mut String, state: &VatState) -> Result<(), Refused> {
+fn put_asked(out: &mut String, state: &VatState) -> Result<(), NoAnswer> {
     let asked = state.request_of(2)?;
     write!(out, "call {asked:?} ")?;
     Ok(())
 }
 
 /// The goal of call 2.
-fn put_goal(out: &mut String, state: &VatState) -> Result<(), Refused> {
+fn put_goal(out: &mut String, state: &VatState) -> Result<(), NoAnswer> {
     let goal = state.goal_of(2)?;
     write!(out, "{goal:?} ")?;
     Ok(())
 }
 
 /// Call 2.
-fn put_call(out: &mut String, state: &VatState) -> Result<(), Refused> {
+fn put_call(out: &mut String, state: &VatState) -> Result<(), NoAnswer> {
     put_asked(out, state)?;
     put_goal(out, state)?;
     write!(
@@ -310,7 +310,7 @@ fn put_call(out: &mut String, state: &VatState) -> Result<(), Refused> {
 }
 
 /// The question and the life of answer 0 and export 0.
-fn put_lives(out: &mut String, state: &VatState) -> Result<(), Refused> {
+fn put_lives(out: &mut String, state: &VatState) -> Result<(), NoAnswer> {
     let answer = Number::Answer(0).on(0);
     let export = TableKey {
         connection: 0,
@@ -335,7 +335,7 @@ fn ways_of(state: &VatState, field: &View) -> (bool, bool, bool) {
 }
 
 /// Where a view leads.
-fn put_walk(out: &mut String, state: &VatState, field: &View) -> Result<(), Refused> {
+fn put_walk(out: &mut String, state: &VatState, field: &View) -> Result<(), NoAnswer> {
     let (stays, leads, turns) = ways_of(state, field);
     write!(out, "stays {stays} leads {leads} by turns {turns} ")?;
     let end = state.end(field);
@@ -344,7 +344,12 @@ fn put_walk(out: &mut String, state: &VatState, field: &View) -> Result<(), Refu
 }
 
 /// All that is asked of a state, where the whole result of call 1 is this field and has this path.
-fn put_state(out: &mut String, state: &VatState, field: &View, path: &Path) -> Result<(), Refused> {
+fn put_state(
+    out: &mut String,
+    state: &VatState,
+    field: &View,
+    path: &Path,
+) -> Result<(), NoAnswer> {
     put_numbers(out, state, path)?;
     put_call(out, state)?;
     put_lives(out, state)?;
@@ -352,7 +357,7 @@ fn put_state(out: &mut String, state: &VatState, field: &View, path: &Path) -> R
 }
 
 /// What is told of a state.
-fn text_of(alloc: Global, state: &VatState) -> Result<String, Refused> {
+fn text_of(alloc: Global, state: &VatState) -> Result<String, NoAnswer> {
     let path = Path::new(Vec::new(alloc))?;
     let field = View::Field(1, Path::new(Vec::new(alloc))?);
     let mut out = String::new(alloc);
@@ -361,12 +366,12 @@ fn text_of(alloc: Global, state: &VatState) -> Result<String, Refused> {
 }
 
 /// Whether a state is told so.
-fn is_text_of(alloc: Global, state: &VatState, told: &str) -> Result<bool, Refused> {
+fn is_text_of(alloc: Global, state: &VatState, told: &str) -> Result<bool, NoAnswer> {
     Ok(text_of(alloc, state)?.as_str() == told)
 }
 
 /// Whether what is known after these records is told so.
-fn is_told(alloc: Global, records: &str, told: &str) -> Result<bool, Refused> {
+fn is_told(alloc: Global, records: &str, told: &str) -> Result<bool, NoAnswer> {
     let state = state_of(alloc, records)?;
     is_text_of(alloc, &state, told)
 }
@@ -384,7 +389,7 @@ fn leads_to_import(state: &VatState, from: &View) -> bool {
 }
 
 /// How often import 0 is held, whether this field leads to what record 4 brought, and whether that came as senderHosted.
-fn put_import(out: &mut String, state: &VatState, field: &View) -> Result<(), Refused> {
+fn put_import(out: &mut String, state: &VatState, field: &View) -> Result<(), NoAnswer> {
     let held = state.held(0, Number::Import(0));
     let leads = leads_to_import(state, field);
     let hosted = state.came_hosted(4, 0);
@@ -398,14 +403,14 @@ fn put_asking(
     state: &VatState,
     field: &View,
     path: &Path,
-) -> Result<(), Refused> {
+) -> Result<(), NoAnswer> {
     out.push_str("question ")?;
     put_number(out, state, Number::Question(0), path)?;
     put_import(out, state, field)
 }
 
 /// What is told of the state of a vat that asks.
-fn text_of_asking(alloc: Global, state: &VatState) -> Result<String, Refused> {
+fn text_of_asking(alloc: Global, state: &VatState) -> Result<String, NoAnswer> {
     let path = Path::new(Vec::new(alloc))?;
     let field = View::Field(1, Path::new(Vec::new(alloc))?);
     let mut out = String::new(alloc);
@@ -414,7 +419,7 @@ fn text_of_asking(alloc: Global, state: &VatState) -> Result<String, Refused> {
 }
 
 /// Whether a vat that asks knows what it must.
-fn knows_what_it_asked(alloc: Global) -> Result<bool, Refused> {
+fn knows_what_it_asked(alloc: Global) -> Result<bool, NoAnswer> {
     let (records, told) = ASKING;
     let state = state_of(alloc, records)?;
     Ok(text_of_asking(alloc, &state)?.as_str() == told)
@@ -426,19 +431,19 @@ fn asking(rt: HostRuntime) {
 }
 
 /// The first record of a log.
-fn first_of(alloc: Global, log: &Arc<VatLog>) -> Result<DecodedRecord, Refused> {
+fn first_of(alloc: Global, log: &Arc<VatLog>) -> Result<DecodedRecord, NoAnswer> {
     let record = log.get(0).ok_or("a record")?;
     event_of(alloc, record.body())
 }
 
 /// The first of these records.
-fn first_event(alloc: Global, records: &str) -> Result<DecodedRecord, Refused> {
+fn first_event(alloc: Global, records: &str) -> Result<DecodedRecord, NoAnswer> {
     let log = log(alloc, "2", records)?;
     first_of(alloc, &log)
 }
 
 /// The descriptors of a record, and the references that it newly binds.
-fn put_parts(out: &mut String, event: &DecodedRecord) -> Result<(), Refused> {
+fn put_parts(out: &mut String, event: &DecodedRecord) -> Result<(), NoAnswer> {
     let descriptors = event.descriptors();
     let new = event.new_references();
     write!(out, "descriptors {descriptors:?}; new {new:?}")?;
@@ -446,20 +451,20 @@ fn put_parts(out: &mut String, event: &DecodedRecord) -> Result<(), Refused> {
 }
 
 /// What is said of a record where it comes next.
-fn put_event(out: &mut String, state: &VatState, event: &DecodedRecord) -> Result<(), Refused> {
+fn put_event(out: &mut String, state: &VatState, event: &DecodedRecord) -> Result<(), NoAnswer> {
     let keeps = state.keeps_kinds(event)?;
     write!(out, "keeps {keeps}; ")?;
     put_parts(out, event)
 }
 
 /// What is said of the first of these records where it comes next.
-fn put_next(alloc: Global, out: &mut String, state: &VatState, next: &str) -> Result<(), Refused> {
+fn put_next(alloc: Global, out: &mut String, state: &VatState, next: &str) -> Result<(), NoAnswer> {
     let event = first_event(alloc, next)?;
     put_event(out, state, &event)
 }
 
 /// Whether what is said of a record that comes next is told so.
-fn is_next_told(alloc: Global, records: &str, next: &str, told: &str) -> Result<bool, Refused> {
+fn is_next_told(alloc: Global, records: &str, next: &str, told: &str) -> Result<bool, NoAnswer> {
     let state = state_of(alloc, records)?;
     let mut out = String::new(alloc);
     put_next(alloc, &mut out, &state, next)?;
@@ -482,14 +487,14 @@ fn put_elsewhere(
     state: &VatState,
     from: &View,
     edition: Edition,
-) -> Result<(), Refused> {
+) -> Result<(), NoAnswer> {
     let first = state.leads_elsewhere(from, 0, edition);
     let second = state.leads_elsewhere(from, 1, edition);
     Ok(write!(out, "{first} {second}")?)
 }
 
 /// Whether a view leads over connections 0 and 1, and elsewhere than over each.
-fn put_leads(out: &mut String, state: &VatState, from: &View) -> Result<(), Refused> {
+fn put_leads(out: &mut String, state: &VatState, from: &View) -> Result<(), NoAnswer> {
     let over = (state.leads_over(from, 0), state.leads_over(from, 1));
     write!(out, "over {} {}; elsewhere ", over.0, over.1)?;
     put_elsewhere(out, state, from, Edition::First)?;
@@ -500,7 +505,7 @@ fn put_leads(out: &mut String, state: &VatState, from: &View) -> Result<(), Refu
 }
 
 /// What is known of connections 0 and 1.
-fn put_connections(out: &mut String, state: &VatState, from: &View) -> Result<(), Refused> {
+fn put_connections(out: &mut String, state: &VatState, from: &View) -> Result<(), NoAnswer> {
     put_leads(out, state, from)?;
     let aborted = (state.is_aborted(0), state.is_aborted(1));
     let here = (state.is_aborted_here(0), state.is_aborted_here(1));
@@ -510,7 +515,7 @@ fn put_connections(out: &mut String, state: &VatState, from: &View) -> Result<()
 }
 
 /// What is told of connections.
-fn text_of_connections(alloc: Global, state: &VatState) -> Result<String, Refused> {
+fn text_of_connections(alloc: Global, state: &VatState) -> Result<String, NoAnswer> {
     let from = View::Field(1, Path::new(Vec::new(alloc))?);
     let mut out = String::new(alloc);
     put_connections(&mut out, state, &from)?;
@@ -518,12 +523,12 @@ fn text_of_connections(alloc: Global, state: &VatState) -> Result<String, Refuse
 }
 
 /// Whether connections are told so.
-fn are_connections(alloc: Global, state: &VatState, told: &str) -> Result<bool, Refused> {
+fn are_connections(alloc: Global, state: &VatState, told: &str) -> Result<bool, NoAnswer> {
     Ok(text_of_connections(alloc, state)?.as_str() == told)
 }
 
 /// Whether what is known of connections after these records is told so.
-fn is_over(alloc: Global, records: &str, told: &str) -> Result<bool, Refused> {
+fn is_over(alloc: Global, records: &str, told: &str) -> Result<bool, NoAnswer> {
     let state = state_of(alloc, records)?;
     are_connections(alloc, &state, told)
 }

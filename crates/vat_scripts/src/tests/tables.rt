@@ -2,7 +2,7 @@
 
 use rising_table::RisingTable;
 use std::alloc::Global;
-use worked_cases::{Refused, is_so};
+use worked_cases::{NoAnswer, is_so};
 
 /// Numbers in the order in which they come.
 const COME: [&[u64]; 7] = [
@@ -16,7 +16,7 @@ const COME: [&[u64]; 7] = [
 ];
 
 /// A table in which each number has its place among these, counted from 0, with the last place where it comes twice.
-fn table(alloc: Global, come: &[u64]) -> Result<RisingTable<u64>, Refused> {
+fn table(alloc: Global, come: &[u64]) -> Result<RisingTable<u64>, NoAnswer> {
     let mut table = RisingTable::new(alloc);
     for (place, number) in come.iter().enumerate() {
         table.put(*number, place as u64)?;
@@ -25,7 +25,7 @@ fn table(alloc: Global, come: &[u64]) -> Result<RisingTable<u64>, Refused> {
 }
 
 /// Whether each of these numbers is there, with another value once it is replaced, and gone once it is taken out.
-fn keeps(alloc: Global, come: &[u64]) -> Result<bool, Refused> {
+fn keeps(alloc: Global, come: &[u64]) -> Result<bool, NoAnswer> {
     let mut table = table(alloc, come)?;
     let mut kept = !table.has(7) && table.replace(7, 1).is_none() && table.get(7).is_none();
     for number in come {

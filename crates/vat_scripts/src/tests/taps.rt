@@ -14,10 +14,10 @@ use std::thread::Threads;
 use vat_log::{Body, LogWriter, Record, VatLog, write_lent_log};
 use vat_rules::{Outcome, audit_vat};
 use vat_tap::{CloseError, Full, Lane, Tap};
-use worked_cases::{Refused, bytes_of_new_log, is_so};
+use worked_cases::{NoAnswer, bytes_of_new_log, is_so};
 
 /// The log of the same vat, to which a second record for each is pushed.
-fn pushed(alloc: Global, log: &VatLog) -> Result<VatLog, Refused> {
+fn pushed(alloc: Global, log: &VatLog) -> Result<VatLog, NoAnswer> {
     let mut writer = LogWriter::new(alloc, log.vat());
     for index in 0..log.len() {
         let record = log.get(index).ok_or("a record")?;
@@ -28,7 +28,7 @@ fn pushed(alloc: Global, log: &VatLog) -> Result<VatLog, Refused> {
 }
 
 /// The log of the same vat with the same records.
-fn lent(alloc: Global, log: &VatLog) -> Result<VatLog, Refused> {
+fn lent(alloc: Global, log: &VatLog) -> Result<VatLog, NoAnswer> {
     let mut records = Vec::new(alloc);
     for index in 0..log.len() {
         records.push(log.get(index).ok_or("a record")?)?;
@@ -37,26 +37,26 @@ fn lent(alloc: Global, log: &VatLog) -> Result<VatLog, Refused> {
 }
 
 /// Whether a log has these bytes where its records are pushed.
-fn is_pushed(alloc: Global, log: &VatLog, wanted: &[u8]) -> Result<bool, Refused> {
+fn is_pushed(alloc: Global, log: &VatLog, wanted: &[u8]) -> Result<bool, NoAnswer> {
     let pushed = pushed(alloc, log)?;
     Ok(pushed.bytes().as_slice() == wanted)
 }
 
 /// Whether a log has these bytes where its records are lent.
-fn is_lent(alloc: Global, log: &VatLog, wanted: &[u8]) -> Result<bool, Refused> {
+fn is_lent(alloc: Global, log: &VatLog, wanted: &[u8]) -> Result<bool, NoAnswer> {
     let lent = lent(alloc, log)?;
     Ok(lent.bytes().as_slice() == wanted)
 }
 
 /// Whether a log has these 488 bytes either way.
-fn has_bytes(alloc: Global, log: &VatLog, wanted: &[u8]) -> Result<bool, Refused> {
+fn has_bytes(alloc: Global, log: &VatLog, wanted: &[u8]) -> Result<bool, NoAnswer> {
     let is_pushed = is_pushed(alloc, log, wanted)?;
     let is_lent = is_lent(alloc, log, wanted)?;
     Ok(is_pushed && is_lent && wanted.len() == 488)
 }
 
 /// Whether vat 2's log of pipelined_call is written so.
-fn is_written(alloc: Global) -> Result<bool, Refused> {
+fn is_written(alloc: Global) -> Result<bool, NoAnswer> {
     let (vat, records, _) = &SAMPLES[1];
     let wanted = bytes_of_new_log(alloc, vat, records)?;
     let log = log_of_records(alloc, vat, records)?;
@@ -69,7 +69,7 @@ fn a_log_is_written_record_by_record(rt: HostRuntime) {
 }
 
 /// A tap of this vat with two lanes, each with a ring of so many records.
-fn two_lanes(alloc: Global, vat: u32, ring: usize) -> Result<(Tap, Lane, Lane), Refused>
+fn two_lanes(alloc: Global, vat: u32, ring: usize) -> Result<(Tap, Lane, Lane), NoAnswer>
     requires { (1 ≤ ring) × (ring ≤ 65536) }
     ensures first { IfOk result (λ opened. IsLaneOf opened.0 opened.1 × (opened.1.number ≡ 0)) }
     ensures second { IfOk result (λ opened. IsLaneOf opened.0 opened.2 × (opened.2.number ≡ 1)) }
@@ -82,7 +82,7 @@ fn two_lanes(alloc: Global, vat: u32, ring: usize) -> Result<(Tap, Lane, Lane), 
 }
 
 /// The log of what two lanes of a tap recorded.
-fn closed(alloc: Global, tap: Tap, first: Lane, second: Lane) -> Result<VatLog, Refused>
+fn closed(alloc: Global, tap: Tap, first: Lane, second: Lane) -> Result<VatLog, NoAnswer>
     requires first { IsLaneOf tap first }
     requires second { IsLaneOf tap second }
     requires different { first.number ≢ second.number }
@@ -92,22 +92,22 @@ fn closed(alloc: Global, tap: Tap, first: Lane, second: Lane) -> Result<VatLog, 
     lanes.push(second)?;
     match tap.close(lanes) {
         Ok(log) => Ok(log),
-        Err((CloseError::OutOfMemory, _, _)) => Err(Refused::OutOfMemory),
-        Err(_) => Err(Refused::Otherwise),
+        Err((CloseError::OutOfMemory, _, _)) => Err(NoAnswer::OutOfMemory),
+        Err(_) => Err(NoAnswer::Otherwise),
     }
 }
 
 /// Records VOW of this reference, and answers its ticket.
-fn vow(lane: &mut Lane, reference: u64) -> Result<u64, Refused>
+fn vow(lane: &mut Lane, reference: u64) -> Result<u64, NoAnswer>
     ensures { SameLane lane.old lane.new }
 {
     let vowed = Record::new(Body::Vow { reference })?;
-    let ticket = lane.record(vowed).map_err(|_| Refused::Otherwise)?;
+    let ticket = lane.record(vowed).map_err(|_| NoAnswer::Otherwise)?;
     Ok(ticket.number())
 }
 
 /// Whether the lane has no room for VOW of this reference, and hands it back.
-fn is_full(lane: &mut Lane, vowed: u64) -> Result<bool, Refused>
+fn is_full(lane: &mut Lane, vowed: u64) -> Result<bool, NoAnswer>
     ensures { SameLane lane.old lane.new }
 {
     match lane.record(Record::new(Body::Vow { reference: vowed })?) {
@@ -119,7 +119,7 @@ fn is_full(lane: &mut Lane, vowed: u64) -> Result<bool, Refused>
 }
 
 /// Whether two lanes of ring 1 record what they have room for, and go on once it is drained.
-fn go_on(tap: &mut Tap, first: &mut Lane, second: &mut Lane) -> Result<bool, Refused>
+fn go_on(tap: &mut Tap, first: &mut Lane, second: &mut Lane) -> Result<bool, NoAnswer>
     ensures tap { SameTap tap.old tap.new }
     ensures first { SameLane first.old first.new }
     ensures second { SameLane second.old second.new }
@@ -132,7 +132,7 @@ fn go_on(tap: &mut Tap, first: &mut Lane, second: &mut Lane) -> Result<bool, Ref
 }
 
 /// The tap and the lane, from a tap that isn't closed without its other lane.
-fn missing(alloc: Global, tap: Tap, second: Lane) -> Result<(Tap, Lane), Refused>
+fn missing(alloc: Global, tap: Tap, second: Lane) -> Result<(Tap, Lane), NoAnswer>
     requires { IsLaneOf tap second }
     ensures { IfOk result (λ back. SameTap tap back.0 × (back.1 ≡ second)) }
 {
@@ -144,7 +144,7 @@ fn missing(alloc: Global, tap: Tap, second: Lane) -> Result<(Tap, Lane), Refused
             let second = lanes.pop().ok_or("lane 1")?;
             Ok((tap, second))
         }
-        _ => Err(Refused::Otherwise),
+        _ => Err(NoAnswer::Otherwise),
     }
 }
 
@@ -162,7 +162,7 @@ fn has_vows(log: &VatLog, references: &[u64]) -> bool {
 }
 
 /// Whether a tap of vat 1 with two lanes of ring 1 answers so, and a lane goes on after the tap wasn't closed.
-fn is_drained(alloc: Global) -> Result<bool, Refused> {
+fn is_drained(alloc: Global) -> Result<bool, NoAnswer> {
     let (tap, first, second) = two_lanes(alloc, 1, 1)?;
     let (mut tap, mut first, mut second) = (tap, first, second);
     let is_so = go_on(&mut tap, &mut first, &mut second)?;
@@ -178,7 +178,7 @@ fn a_full_ring_goes_on_once_it_is_drained(rt: HostRuntime) {
 }
 
 /// Records a share of 16,384 VOWs.
-fn record_share(lane: &mut Lane) -> Result<(), Refused> {
+fn record_share(lane: &mut Lane) -> Result<(), NoAnswer> {
     for reference in 1..=16_384 {
         vow(lane, reference)?;
     }
@@ -186,7 +186,7 @@ fn record_share(lane: &mut Lane) -> Result<(), Refused> {
 }
 
 /// Whether a lane records its share and no more, also once its ring is empty.
-fn has_its_share(tap: &mut Tap, lane: &mut Lane) -> Result<bool, Refused> {
+fn has_its_share(tap: &mut Tap, lane: &mut Lane) -> Result<bool, NoAnswer> {
     record_share(lane)?;
     let is_before = is_full(lane, 16_385)?;
     let is_drained = tap.drain()? == 16_384;
@@ -194,7 +194,7 @@ fn has_its_share(tap: &mut Tap, lane: &mut Lane) -> Result<bool, Refused> {
 }
 
 /// Whether a lane of 64 does so.
-fn is_shared(alloc: Global) -> Result<bool, Refused> {
+fn is_shared(alloc: Global) -> Result<bool, NoAnswer> {
     let (opened, lanes) = Tap::open(alloc, 1, 64, 16_384)?;
     let (mut tap, mut lanes) = (opened, lanes);
     let mut lane = lanes.pop().ok_or("lane 63")?;
@@ -207,13 +207,13 @@ fn a_lane_records_its_share(rt: HostRuntime) {
 }
 
 /// Whether a tap of vat 3 with 64 lanes gives a log without records.
-fn is_empty(alloc: Global) -> Result<bool, Refused> {
+fn is_empty(alloc: Global) -> Result<bool, NoAnswer> {
     let wanted = bytes_of_digits(alloc, "5641544c4f473032 03000000")?;
     let (tap, lanes) = Tap::open(alloc, 3, 64, 1)?;
     match tap.close(lanes) {
         Ok(log) => Ok(log.bytes().as_slice() == wanted.as_slice()),
-        Err((CloseError::OutOfMemory, _, _)) => Err(Refused::OutOfMemory),
-        Err(_) => Err(Refused::Otherwise),
+        Err((CloseError::OutOfMemory, _, _)) => Err(NoAnswer::OutOfMemory),
+        Err(_) => Err(NoAnswer::Otherwise),
     }
 }
 
@@ -262,14 +262,14 @@ fn are_in_order(log: &VatLog) -> bool {
 }
 
 /// Whether the audit of a log finds all of its records good, 1,000 of them.
-fn is_good(alloc: Global, log: VatLog) -> Result<bool, Refused> {
+fn is_good(alloc: Global, log: VatLog) -> Result<bool, NoAnswer> {
     let log = Arc::new(alloc, log)?;
     let found = audit_vat(alloc, &log, Limits::default())?;
     Ok(matches!(found.outcome(), Outcome::Good(story) if story.events().len() == 1_000))
 }
 
 /// Whether what two threads recorded at once is a good log that has each lane's records in their order.
-fn is_of_both<R: Threads>(rt: &R, alloc: Global) -> Result<bool, Refused> {
+fn is_of_both<R: Threads>(rt: &R, alloc: Global) -> Result<bool, NoAnswer> {
     let (tap, first, second) = two_lanes(alloc, 1, 1_024)?;
     let ((first, odd), (second, even)) = record_at_once(rt, first, second);
     let log = closed(alloc, tap, first, second)?;
@@ -312,7 +312,7 @@ fn fill_at_once<R: Threads>(
 const ROUNDS: [[u64; 4]; 4] = [[1, 3, 2, 4], [1, 3, 4, 2], [3, 1, 2, 4], [3, 1, 4, 2]];
 
 /// Whether two threads fill their lanes of ring 1, and once more when these are drained, and no ticket is left out.
-fn are_filled_twice<R: Threads>(rt: &R, alloc: Global) -> Result<bool, Refused> {
+fn are_filled_twice<R: Threads>(rt: &R, alloc: Global) -> Result<bool, NoAnswer> {
     let (tap, first, second) = two_lanes(alloc, 1, 1)?;
     let ((first, is_1), (second, is_3)) = fill_at_once(rt, first, second, (1, 3));
     let mut tap = tap;
@@ -329,7 +329,7 @@ fn two_threads_fill_their_lanes(rt: HostRuntime) {
 }
 
 /// Records, and then tells so by a flag. The flag is raised whether or not it was recorded.
-fn record_and_tell(lane: Lane, flag: &AtomicBool) -> Result<u64, Refused> {
+fn record_and_tell(lane: Lane, flag: &AtomicBool) -> Result<u64, NoAnswer> {
     let mut lane = lane;
     let ticket = vow(&mut lane, 1);
     flag.store(true, Ordering::SeqCst);
@@ -337,7 +337,7 @@ fn record_and_tell(lane: Lane, flag: &AtomicBool) -> Result<u64, Refused> {
 }
 
 /// Waits for the flag, and then records.
-fn wait_and_record(rt: &impl Wait, lane: Lane, flag: &AtomicBool) -> Result<u64, Refused> {
+fn wait_and_record(rt: &impl Wait, lane: Lane, flag: &AtomicBool) -> Result<u64, NoAnswer> {
     for _ in rt.forever() {
         if flag.load(Ordering::SeqCst) {
             break;
@@ -349,7 +349,7 @@ fn wait_and_record(rt: &impl Wait, lane: Lane, flag: &AtomicBool) -> Result<u64,
 }
 
 /// Whether a lane that records after another draws the later ticket.
-fn is_later<R: Threads + Wait + Sync>(rt: &R, alloc: Global) -> Result<bool, Refused> {
+fn is_later<R: Threads + Wait + Sync>(rt: &R, alloc: Global) -> Result<bool, NoAnswer> {
     let (_tap, first, second) = two_lanes(alloc, 1, 1)?;
     let flag = AtomicBool::new(false);
     let (earlier, later) = thread::join(

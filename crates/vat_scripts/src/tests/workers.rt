@@ -8,7 +8,7 @@ use std::sync::Wait;
 use std::sync::atomic::{AtomicBool, AtomicU64, Ordering};
 use std::thread;
 use std::thread::Threads;
-use worked_cases::{EMBARGOED_CALLS, Refused, case_of};
+use worked_cases::{EMBARGOED_CALLS, NoAnswer, case_of};
 
 /// How often a worker yields before it gives up on the others.
 const TURNS: u64 = 10_000_000;
@@ -41,7 +41,7 @@ impl Gate for Meeting {
 
 /// Whether so many workers hold a piece each at the same time, and what they find is answered as ever. Where a worker was
 /// refused memory, the pieces may not meet.
-fn meet<R: Threads + Wait + Sync>(rt: &R, alloc: Global, workers: u32) -> Result<bool, Refused> {
+fn meet<R: Threads + Wait + Sync>(rt: &R, alloc: Global, workers: u32) -> Result<bool, NoAnswer> {
     let gate = Meeting {
         wanted: u64::from(workers),
         came: AtomicU64::new(0),
@@ -56,7 +56,7 @@ fn meet<R: Threads + Wait + Sync>(rt: &R, alloc: Global, workers: u32) -> Result
 fn workers_hold_their_pieces_at_once(rt: HostRuntime) {
     for workers in [2, 3] {
         let is_so = match meet(&rt, rt.alloc(), workers) {
-            Ok(false) | Err(Refused::OutOfMemory) => meet(&rt, rt.alloc(), workers) == Ok(true),
+            Ok(false) | Err(NoAnswer::OutOfMemory) => meet(&rt, rt.alloc(), workers) == Ok(true),
             met => met == Ok(true),
         };
         assert!(rt; is_so, "{workers} workers");

@@ -1,7 +1,7 @@
 use Rattle.std.proofs.Common.{◌≡◌, ◌+◌, get_or, length, subst, sym, arith, rules, List}
 use Rattle.std.proofs.lemmas.Option.{slice_get-get_or}
 use Rattle.case_book.specs.declared.link.Link.{Link}
-use Rattle.log_ends.specs.declared.end.EndPair.{EndPair}
+use Rattle.log_ends.specs.declared.log_end.EndPair.{EndPair}
 use Rattle.command_run.proofs.Joins.{LinksUpTo, all_links, first_within, no_links, one_link, second_within}
 use Rattle.command_run.proofs.commands.join_logs.links_of.Goals as goal
 

@@ -21,5 +21,5 @@ faulty gives old new name (fault.Untied x) comes = inl (Err (fault.Untied x), (c
 
 pub returns-in-Err : goal.returns-in-Err
 returns-in-Err g c =
-    rw (c.fault_answer.ensures.answer, c.fault_answer.ensures.order, c.from.ensures)
+    rw (c.of_fault.ensures.answer, c.of_fault.ensures.bytes, c.from.ensures)
     (faulty g.S.Source.read_gives c.args.source.now c.read_case.new.source c.args.name.now c.in-Err.fault c.in-Err.ensures)

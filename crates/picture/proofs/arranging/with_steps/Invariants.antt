@@ -1,5 +1,0 @@
-use Rattle.std.proofs.Common.{◌≡◌, ◌++◌, replicate}
-use Rattle.picture.proofs.arranging.with_steps.Given as goal
-
-abbrev pub invariant-loop : goal.invariant-loop
-invariant-loop l = l.order.items ≡ l.initial.order.items ++ replicate l.counter l.vat

@@ -1,7 +1,0 @@
-use Rattle.std.proofs.Common.{◌≡◌, drop}
-use Rattle.std.specs.Prelude.{slice_get}
-use Rattle.picture.specs.Places.{passes, places_from}
-use Rattle.picture.proofs.frames.frame_number.Given as goal
-
-abbrev pub invariant-loop-at : goal.invariant-loop-at
-invariant-loop-at l = slice_get (places_from (passes l.sent l.connection) 0 l.log.records) l.frame ≡ slice_get (places_from (passes l.sent l.connection) l.at (drop l.at l.log.records)) l.left

@@ -1,7 +1,0 @@
-use Rattle.std.proofs.Common.{◌≡◌, ◌≤◌, take}
-use Rattle.std.specs.Prelude.{count_by}
-use Rattle.picture.specs.Places.{passes}
-use Rattle.picture.proofs.frames.frames_before.Given as goal
-
-abbrev pub invariant-loop-at : goal.invariant-loop-at
-invariant-loop-at l = (l.frames ≡ count_by (passes l.sent l.connection) (take l.at l.log.records)) × (l.frames ≤ l.at)

@@ -1,0 +1,21 @@
+//! A law of pictures, which holds of every log and not of one call.
+
+ghost use Rattle.std.specs.Prelude.{◌≡◌, ℕ, Ok};
+ghost use Rattle.cap_reader.specs.Defaults.{default_limits};
+ghost use Rattle.vat_log.specs.Log.{Log};
+ghost use Rattle.vat_log.specs.declared.body.Body.{Body};
+ghost use Rattle.vat_view.specs.declared.record.decoded.DecodedRecord.{DecodedRecord};
+ghost use Rattle.vat_view.specs.Questions.{is_late};
+ghost use Rattle.vat_rules.specs.Events.{event_of, past_at};
+ghost use Rattle.vat_rules.specs.Audit.{reads_by, edition_of};
+ghost use Rattle.picture.specs.Rows.{late_in};
+
+/// A picture and the audit call the same Returns late. Take the first `number` records of a log, and any record behind them
+/// that is read as an event: a picture has this record as a late Return just where vat_view's `is_late`, by which the rules
+/// judge, has the event as one. Records before it that aren't read count for neither.
+pub fn late_returns_are_the_audits()
+    ensures { (log : Log) (number : ℕ) (body : Body) (e : DecodedRecord)
+        → event_of (reads_by (edition_of log) default_limits) body ≡ Ok e
+        → late_in log number body
+        ≡ is_late (past_at (reads_by (edition_of log) default_limits) log.records number) e }
+{}

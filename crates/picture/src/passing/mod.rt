@@ -1,0 +1,6 @@
+//! What passes between two vats: frames, the messages in them, and the two ends of each.
+
+mod frames;
+pub(crate) mod late;
+pub(crate) mod mate;
+pub(crate) mod messages;

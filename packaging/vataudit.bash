@@ -1,4 +1,4 @@
-# Completions of vataudit's command line, for bash. tests/package compares them with the program's own commands and options.
+# Completions of vataudit's command line, for bash. tests/package.sh compares them with the program's own commands and options.
 
 # the options of a command, each that has a value with an equals sign behind it
 _vataudit_options() {

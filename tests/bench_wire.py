@@ -1,7 +1,7 @@
 #!/usr/bin/env python3
 """What `wire` costs: its instructions over those of `check` on the logs that it makes.
 
-usage: tests/bench_wire PROGRAM FOLDER     (the built program)
+usage: tests/bench_wire.py PROGRAM FOLDER     (the built program)
 
 FOLDER has a folder for each kind of connection, with the two files A.bin and B.bin that `wire` reads, of a good connection.
 valgrind counts instructions. Prints a line of a table for each kind: its frames, the instructions of `wire` for each frame, and

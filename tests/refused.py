@@ -4,7 +4,7 @@ by each of its commands over samples/, which has to end as ever, or to say that 
 --json, notes and what is open may be left out, and a file or folder that was made stands where memory ran out over the
 object of its line.
 
-usage: tests/refused [VATAUDIT [TRIALS]]
+usage: tests/refused.py [VATAUDIT [TRIALS]]
 
 They are built programs. `rt run` builds those that aren't named, for which everything is proved first: half an hour, the first
 time. tests/refuse.c refuses the allocations. Each run that differs is printed, and the last line counts. It takes some

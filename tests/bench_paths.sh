@@ -1,33 +1,22 @@
 #!/usr/bin/env bash
 # What a long list of results costs: the instructions of `vataudit vat` for each path of an ANSWER, and for each capability of a
 # Return that brings them, where there are 1,000 and where there are 100,000.
-# usage: tests/bench_paths PROGRAM     PROGRAM is vataudit; valgrind counts its instructions
+# usage: tests/bench_paths.sh PROGRAM     PROGRAM is vataudit; valgrind counts its instructions
 # An ANSWER is counted over the same log without results, a Return over the log that ends with its ANSWER. Prints both figures of
 # each and their ratio, which is to be at most 3; else the status is 1.
 set -euo pipefail
 [ $# -eq 1 ] || { sed -n '2,6s/^# //p' "$0" >&2; exit 2; }
 program=$(realpath "$1")
+lib=$(realpath "$(dirname "$0")/lib")
 folder=$(mktemp -d)
 trap 'rm -rf "$folder"' EXIT
 cd "$folder"
-python3 - "$program" <<'END'
+python3 - "$program" "$lib" <<'END'
 import re, struct, subprocess, sys
 program = sys.argv[1]
-
-def pointer(offset, data, pointers):
-    return struct.pack("<iHH", offset << 2, data, pointers)
-
-def frame(tag, *words):
-    words = pointer(0, 1, 1) + struct.pack("<Q", tag) + b"".join(words)
-    return struct.pack("<II", 0, len(words) // 8) + words
-
-def bootstrap(question):
-    return frame(8, pointer(0, 1, 1), struct.pack("<Q", question), bytes(8))
-
-# export 0 is hosted here: so it stands once in the results of a Bootstrap
-def hosted(question):
-    table = struct.pack("<II", 1, 2 << 3 | 7) + pointer(1, 1, 1) + struct.pack("<HHI", 1, 0, 0) + bytes(8)
-    return frame(3, pointer(0, 2, 1), struct.pack("<QQ", question, 0), pointer(0, 0, 2), struct.pack("<II", 3, 0), table)
+sys.dont_write_bytecode = True
+sys.path.insert(0, sys.argv[2])
+from spelled import bootstrap, deliver, frame, host, hosted, log, pointer
 
 def call(question, target):
     body = struct.pack("<IHHQQ", question, 0, 0, 0, 0)
@@ -42,16 +31,15 @@ def results(question, count):
     payload = pointer(1, 0, 2) + struct.pack("<II", (content_words) << 2 | 1, count * 2 << 3 | 7)
     return frame(3, pointer(0, 2, 1), struct.pack("<QQ", question, 0), pointer(0, 0, 2), payload, content, table)
 
-def host(reference): return struct.pack("<BQQ", 1, reference, 1)
-def deliver(number): return struct.pack("<BQQ", 7, number, 1)
 def answer(number, paths):
     return struct.pack("<BQI", 8, number, len(paths)) + b"".join(struct.pack(f"<QI{len(p)}H", 1, len(p), *p) for p in paths)
 def received(number, message): return struct.pack("<BIQII", 11, 0, number, 0, len(message)) + message
 def sent(count, message):
     return struct.pack("<BIQI", 10, 0, 0, count) + struct.pack("<Q", 1) * count + struct.pack("<I", len(message)) + message
 
-def log(count, paths, returned):
+def answered(count, paths, returned):
     """A call is delivered and answered with these paths; and so many capabilities are returned, if they are."""
+    # export 0 is hosted here: so it stands once in the results of a Bootstrap
     yield host(1) + received(1, bootstrap(0)) + answer(1, [()]) + sent(1, hosted(0))
     yield received(2, call(1, 0)) + deliver(2)
     yield answer(2, paths)
@@ -60,7 +48,7 @@ def log(count, paths, returned):
 
 def instructions(records):
     with open("paths.log", "wb") as out:
-        out.write(b"VATLOG02" + struct.pack("<I", 1) + b"".join(records))
+        out.writelines(log(2, records))
     words = ("valgrind", "--tool=callgrind", "--callgrind-out-file=/dev/null", program, "vat", "paths.log")
     ran = subprocess.run(words, capture_output=True, text=True)
     if not ran.stdout.startswith("good vat 1 "):
@@ -69,10 +57,10 @@ def instructions(records):
 
 def costs(count):
     paths = [(i // (count // 2), i % (count // 2)) for i in range(count)]
-    none = instructions(log(count, [], False))
-    answered = instructions(log(count, paths, False))
-    returned = instructions(log(count, paths, True))
-    return (answered - none) / count, (returned - answered) / count
+    none = instructions(answered(count, [], False))
+    listed = instructions(answered(count, paths, False))
+    returned = instructions(answered(count, paths, True))
+    return (listed - none) / count, (returned - listed) / count
 
 status = 0
 for name, few, many in zip(("a path of an ANSWER", "a capability of a Return"), costs(1_000), costs(100_000)):

@@ -1,6 +1,6 @@
 #!/usr/bin/env bash
 # What a record costs: the instructions of `vat` and `check` and their memory at the peak, over the records.
-# usage: tests/bench_records PROGRAM FOLDER
+# usage: tests/bench_records.sh PROGRAM FOLDER
 # FOLDER has a folder for each kind of log, with a large good log or several, and a case.json of them where they are a case
 # (samples/pipelined_call.json shows the form). `vat` is given the longest log. valgrind counts instructions; GNU time
 # says the peak, of which the files that were read are taken off. Notes are left out, since those of what is open at the end

@@ -2,41 +2,25 @@
 # What a chain of calls costs that are answered by one another, over a chain of promises: `vataudit vat` of 200,000 calls,
 # each answered by the next, and as many fields of the first through which a call is made that reaches the last one's
 # result; and of 200,000 promises, each fulfilled with the next, and as many results that lead from the first through all.
-# usage: tests/bench_tails PROGRAM [RUNS]     PROGRAM is vataudit; 5 runs of each if not said, in turn
+# usage: tests/bench_tails.sh PROGRAM [RUNS]     PROGRAM is vataudit; 5 runs of each if not said, in turn
 # Prints the medians of the processor time in seconds, and their ratio. It is to be at most 3; else the status is 1.
 set -euo pipefail
 [ $# -ge 1 ] || { sed -n '2,6s/^# //p' "$0" >&2; exit 2; }
 program=$(realpath "$1")
+lib=$(realpath "$(dirname "$0")/lib")
 folder=$(mktemp -d)
 trap 'rm -rf "$folder"' EXIT
 cd "$folder"
-python3 - "$program" "${2:-5}" <<'END'
+python3 - "$program" "${2:-5}" "$lib" <<'END'
 import resource, statistics, struct, subprocess, sys
 program, runs, count = sys.argv[1], int(sys.argv[2]), 200_000
+sys.dont_write_bytecode = True
+sys.path.insert(0, sys.argv[3])
+from spelled import answer_by, bootstrap, deliver, fulfil, host, hosted, log, make, vow
 
-def pointer(offset, data, pointers):
-    return struct.pack("<iHH", offset << 2, data, pointers)
-
-def frame(tag, *words):
-    words = pointer(0, 1, 1) + struct.pack("<Q", tag) + b"".join(words)
-    return struct.pack("<II", 0, len(words) // 8) + words
-
-def bootstrap(question):
-    return frame(8, pointer(0, 1, 1), struct.pack("<Q", question), bytes(8))
-
-# a Return whose results are export 0, hosted here
-def hosted(question):
-    table = struct.pack("<II", 1, 2 << 3 | 7) + pointer(1, 1, 1) + struct.pack("<HHI", 1, 0, 0) + bytes(8)
-    return frame(3, pointer(0, 2, 1), struct.pack("<QQ", question, 0), pointer(0, 0, 2), struct.pack("<II", 3, 0), table)
-
-def host(reference): return struct.pack("<BQQ", 1, reference, 1)
-def vow(reference): return struct.pack("<BQ", 2, reference)
-def fulfil(reference, to): return struct.pack("<BQQ", 3, reference, to)
-def make(call, reference): return struct.pack("<BQQQH", 5, call, reference, 0, 0)
+# in version 1 a path is counted in two bytes
 def field(reference, call): return struct.pack("<BQQH", 6, reference, call, 0)
-def deliver(call): return struct.pack("<BQQ", 7, call, 1)
 def answer(call, reference): return struct.pack("<BQHQH", 8, call, 1, reference, 0)
-def answer_by(call, by): return struct.pack("<BQQ", 12, call, by)
 def received(call, message): return struct.pack("<BIQHI", 11, 0, call, 0, len(message)) + message
 def sent(reference, message): return struct.pack("<BIQHQI", 10, 0, 0, 1, reference, len(message)) + message
 
@@ -58,9 +42,8 @@ def calls():
         yield field(2 + i, 1) + make(count + 1 + i, 2 + i) + deliver(count + 1 + i)
 
 def write(name, records):
-    with open(name, "wb") as log:
-        log.write(b"VATLOG01" + struct.pack("<I", 1))
-        log.writelines(records())
+    with open(name, "wb") as out:
+        out.writelines(log(1, records()))
     return name
 
 def seconds(name):
@@ -74,8 +57,8 @@ def seconds(name):
 logs = [write("calls", calls), write("promises", promises)]
 times = [[], []]
 for _ in range(runs):
-    for log_times, log in zip(times, logs):
-        log_times.append(seconds(log))
+    for log_times, name in zip(times, logs):
+        log_times.append(seconds(name))
 calls_take, promises_take = map(statistics.median, times)
 print(f"{count} calls: {calls_take:.2f}, {count} promises: {promises_take:.2f}, ratio {calls_take / promises_take:.2f}")
 sys.exit(calls_take > 3 * promises_take)

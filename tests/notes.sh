@@ -2,10 +2,10 @@
 # Compares what the program notes on standard error with what docs/FORMATS.md says of notes, and sees that they change nothing
 # else: with --quiet, with standard error closed, and where no byte can be written to it, lines and status stay the same. And
 # that an order is made under the name that was given, where a standard stream was closed at the start too.
-# usage: tests/notes PROGRAM          (the built program)
+# usage: tests/notes.sh PROGRAM          (the built program)
 # Each run that isn't as it must be is named, and the last line counts.
 set -uo pipefail
-program=$(realpath "${1:?usage: tests/notes PROGRAM}")
+program=$(realpath "${1:?usage: tests/notes.sh PROGRAM}")
 tests=$(realpath "$(dirname "$0")")
 samples=$tests/../samples
 version=$("$tests/../packaging/version") || exit 2
@@ -89,6 +89,10 @@ open_ends="note: open at the end of vat 1: 2 questions without a Finish, 1 impor
 note: open at the end of vat 2: 1 export held"
 must 0 "yes vats 2 records 14 delivered 1 under_way 0" "$open_ends" draw pipelined_call.json --out drawn --count 200
 must 0 "yes vats 2 records 14 delivered 1 under_way 0" "$open_ends" draw pipelined_call.json --out drawn --count 5000 --html
+must 0 "yes vats 2 records 14 delivered 1 under_way 0" "note: --count 201 asks for more rows than are drawn at most: 200
+$open_ends" draw pipelined_call.json --out drawn --count 201
+must 0 "yes vats 2 records 14 delivered 1 under_way 0" "note: --count 5001 asks for more rows than are drawn at most: 5000
+$open_ends" draw pipelined_call.json --html --out drawn --count 5001
 must 2 "cannot read" "note: cannot read no.json: $missing" draw no.json --out drawn --count 201
 must 2 "" "note: cannot write no_folder/drawn: $missing" draw pipelined_call.json --out no_folder/drawn --html
 must 0 "4 deliver call 2 object 9" "" records wrong_object.vat2.log --from 4 --count 1
@@ -320,7 +324,7 @@ differs "order pipelined_call.json, standard output closed" "status and file" "$
 
 # the notes of each rule, and those of a case with a planted cause
 for rows in note_rows planted; do
-    "$tests/$rows" "$program" && passed=$((passed + 1)) || failed=$((failed + 1))
+    "$tests/$rows.py" "$program" && passed=$((passed + 1)) || failed=$((failed + 1))
 done
 
 echo "$passed runs as they must, $failed differ"

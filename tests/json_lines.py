@@ -3,7 +3,7 @@
 what docs/FORMATS.md says of objects; the notes of the last object are those of standard error, those of what is open are made
 again from `open`, and with --quiet there are none of both; standard error stays empty, and the status is the same.
 
-usage: tests/json_lines PROGRAM [FOLDER [COUNT]]     (the built program)
+usage: tests/json_lines.py PROGRAM [FOLDER [COUNT]]     (the built program)
 
 It runs each command over samples/. FOLDER has more: rows.json, a list of objects with `args`, `files` and `stdin` (bytes in
 hexadecimal), and many/logs.jsonl.xz and many/cases.jsonl.xz, of which each line is an object with `log` or `files` (bytes

@@ -2,11 +2,11 @@
 # Makes the Debian package of a program by packaging/deb and tests it: that it has what it is to have and needs the C library
 # alone; that the manual page and the completions have the commands and options that the program has; and, installed in a
 # fresh debootstrap of Debian's stable, that the program gives each line that README.md shows.
-# usage: tests/package PROGRAM [FOLDER]   (the program by packaging/proved; FOLDER has a fresh debootstrap, which is copied)
+# usage: tests/package.sh PROGRAM [FOLDER]   (the program by packaging/proved; FOLDER has a fresh debootstrap, which is copied)
 # It wants Debian's dpkg-dev, man-db and python3; for the rest lintian, mandoc, debootstrap, root and a network. Each test that
 # fails is named, as is each that can't be run here, and the last line counts. It is no part of the gate.
 set -uo pipefail
-program=$(realpath -e "${1:?usage: tests/package PROGRAM [FOLDER]}") || exit 2
+program=$(realpath -e "${1:?usage: tests/package.sh PROGRAM [FOLDER]}") || exit 2
 fresh=${2:+$(realpath -e "$2")} || exit 2
 top=$(realpath "$(dirname "$0")/..")
 room=$(mktemp -d) || exit 2

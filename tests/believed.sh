@@ -1,6 +1,6 @@
 #!/usr/bin/env bash
 # The files that a reader has to believe: the definitions that public contracts cite, with their lines, a line for each crate.
-# usage: tests/believed [CRATE..]          (without a name: every crate)
+# usage: tests/believed.sh [CRATE..]          (without a name: every crate)
 # Left out are `Lib` and `Types`, which only pass names on, and what serves private contracts alone: files in a folder `Glue`,
 # `Glue.antt`, and those whose first line says that they are no part of the meaning. Comments and blank lines count.
 set -euo pipefail

@@ -1,6 +1,6 @@
 #!/usr/bin/env bash
 # What workers save: the time of `check --workers 4` over that of `check --workers 1`, on one case of four pairs of vats.
-# usage: tests/bench_workers PROGRAM FOLDER
+# usage: tests/bench_workers.sh PROGRAM FOLDER
 # FOLDER has a case.json with two logs of vats 1 and 2 and the link [0, 1, 2] (samples/pipelined_call.json shows the form),
 # large ones, or it says nothing. They are laid into a temporary folder four times, under vat numbers 1 to 8 and connections 0
 # to 3. Five runs of each, taken in turns; the best of each counts. Run it on a quiet machine with four processors. It is no

@@ -2,24 +2,19 @@
 """Compares the notes behind a broken rule with what must come: for each rule a log with one cause, and logs that break the rule
 alike with another.
 
-usage: tests/note_rows PROGRAM         (the built program)
+usage: tests/note_rows.py PROGRAM         (the built program)
 
 Each row is the log of one vat, the record at which it breaks the rule, and the notes that must come behind the rule's own.
 Each row that isn't as it must be is named, and the last line counts.
 """
-import importlib.machinery
-import importlib.util
 import os
 import struct
 import subprocess
 import sys
 import tempfile
 
-FOLDER = os.path.dirname(os.path.abspath(__file__))
-loader = importlib.machinery.SourceFileLoader("planted", os.path.join(FOLDER, "planted"))
-loader.exec_module(planted := importlib.util.module_from_spec(importlib.util.spec_from_loader("planted", loader)))
-boot, call, piped, given, returned = planted.boot, planted.call, planted.piped, planted.given, planted.returned
-keep_finish, release, abort, frame, inner = planted.finish, planted.release, planted.abort, planted.frame, planted.inner
+sys.path.insert(0, os.path.join(os.path.dirname(os.path.abspath(__file__)), "lib"))
+from frames import abort, boot, call, frame, given, inner, piped, release, returned, table
 
 
 def finish(question):
@@ -45,7 +40,7 @@ def taken(question, other):
 
 def promised(question, number):
     """A Return whose whole content is the capability senderPromise number."""
-    return frame(3, inner(struct.pack("<IHHQ", question, 0, 0, 0), inner(b"", 0, planted.table([(2, number)]))))
+    return frame(3, inner(struct.pack("<IHHQ", question, 0, 0, 0), inner(b"", 0, table([(2, number)]))))
 
 
 def resolve(promise, tag, number):

@@ -3,7 +3,7 @@
 # and letters on a light page, and no black field. With a program, sees that it draws just that picture of the sample's case;
 # and that its page of a case of 5,000 records is well formed, has each of them once in the picture and once in the table, that
 # each name in it is the only one, each link leads to one, and nothing is asked of elsewhere.
-# usage: tests/picture [PROGRAM]      (it wants Debian's librsvg2-bin and imagemagick)
+# usage: tests/picture.sh [PROGRAM]      (it wants Debian's librsvg2-bin and imagemagick)
 set -uo pipefail
 top=$(realpath "$(dirname "$0")/..")
 sample=$top/samples/overtaking_call.svg

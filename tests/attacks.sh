@@ -1,10 +1,10 @@
 #!/usr/bin/env bash
 # Tries the planted bugs of attacks/CRATE/*.edit, as the gate tries those of crates/CRATE/must-fail.
-# usage: tests/attacks [CRATE..]          (without a name: every crate that has attacks)
-#        tests/attacks --since COMMIT     the crates whose code or contracts changed since then: any line of src/ or specs/.
+# usage: tests/attacks.sh [CRATE..]          (without a name: every crate that has attacks)
+#        tests/attacks.sh --since COMMIT     the crates whose code or contracts changed since then: any line of src/ or specs/.
 #                                         Comments, blanks, and lines that only say where a file or name stands (mod, use)
 #                                         don't count, and a file that was moved is the same file.
-#        tests/attacks --apply            tries none: says in seconds of each edit, of the gate's too, that it still applies
+#        tests/attacks.sh --apply            tries none: says in seconds of each edit, of the gate's too, that it still applies
 #                                         (what it looks for stands just once). .ci/run begins with this.
 # The bugs are laid into a copy of the repository, in the place of the crate's must-fail edits, and tried there.
 # Each bug that the prover lets through, and each that no longer applies, is printed; the last line counts.
@@ -75,11 +75,11 @@ END
 case "${1-}" in
     --apply) apply; exit ;;
     --since)
-        git rev-parse --verify --quiet "${2-}^{commit}" >/dev/null || { echo "usage: tests/attacks --since COMMIT"; exit 2; }
+        git rev-parse --verify --quiet "${2-}^{commit}" >/dev/null || { echo "usage: tests/attacks.sh --since COMMIT"; exit 2; }
         mapfile -t crates < <(for crate in $(changed_since "$2"); do [ ! -d "attacks/$crate" ] || echo "$crate"; done)
         [ ${#crates[@]} -gt 0 ] || { echo "no crate with attacks changed since $2"; exit 0; }
         echo "changed: ${crates[*]}" ;;
-    -*) echo "usage: tests/attacks [CRATE..] | --since COMMIT | --apply"; exit 2 ;;
+    -*) echo "usage: tests/attacks.sh [CRATE..] | --since COMMIT | --apply"; exit 2 ;;
     "") mapfile -t crates < <(cd attacks && ls -d -- */ | tr -d /) ;;
     *) crates=("$@") ;;
 esac

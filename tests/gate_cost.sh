@@ -1,6 +1,6 @@
 #!/usr/bin/env bash
 # What the gate costs: runs `rt ci` from nothing in a clean clone of what is committed, and prints one line at the end.
-# usage: tests/gate_cost [FOLDER]         (the gate's own lines go to FOLDER/gate.txt, else to a temporary folder)
+# usage: tests/gate_cost.sh [FOLDER]         (the gate's own lines go to FOLDER/gate.txt, else to a temporary folder)
 # The figure is the last number: the gate's processor minutes over those that cap_reader's proof takes with one job on this
 # machine just before, with nothing kept. Machines differ by more than a factor of two, so minutes of two of them are never
 # compared; docs/TIMES.md has the figures. It takes about an hour and all processors: run nothing beside it.

@@ -1,7 +1,7 @@
 #!/usr/bin/env bash
 # What the later edition of rpc.capnp costs: the instructions of `vat` and `check` on logs of version 3 over those on the
 # same records in version 2.
-# usage: tests/bench_editions PROGRAM FOLDER..
+# usage: tests/bench_editions.sh PROGRAM FOLDER..
 # Each FOLDER has a case.json with its logs (samples/pipelined_call.json shows the form), large ones, or it says nothing.
 # They are laid into a temporary folder, migrated to version 2, and once more with the magic of version 3. valgrind counts.
 # Prints the ratio for each log and each case. It is to be at most 1.05; else the status is 1.

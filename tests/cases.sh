@@ -1,10 +1,10 @@
 #!/usr/bin/env bash
 # Runs the commands of docs/CASES.md, word for word, on a folder of cases that it makes of samples/, and compares each table
 # with the rows that must come: with GNU parallel, with xargs, and with Slurm, whose sbatch this test plays.
-# usage: tests/cases PROGRAM          (the built program; GNU parallel is Debian's package parallel)
+# usage: tests/cases.sh PROGRAM          (the built program; GNU parallel is Debian's package parallel)
 # Each table that isn't as it must be is named, and the last line counts. What can't be run is named as skipped.
 set -uo pipefail
-program=$(realpath -e "${1:?usage: tests/cases PROGRAM}") || exit 2
+program=$(realpath -e "${1:?usage: tests/cases.sh PROGRAM}") || exit 2
 top=$(realpath "$(dirname "$0")/..")
 room=$(mktemp -d) || exit 2
 trap 'rm -rf "$room"' EXIT

@@ -1,7 +1,7 @@
 #!/usr/bin/env python3
 """Compares what `records` prints of logs with what their bytes say, and each message with what `frame` prints of that frame.
 
-usage: tests/records_and_frames PROGRAM LOGS [COUNT]
+usage: tests/records_and_frames.py PROGRAM LOGS [COUNT]
 
 PROGRAM is the built program. LOGS is a file of logs, JSON objects one a line, each with the bytes of a log in base64 under
 `log`; it may be packed by xz. Every log is read here by docs/FORMATS.md, apart from the program. Each log whose lines aren't

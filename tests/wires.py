@@ -4,7 +4,7 @@ both files are cut at one moment of it, and where one is cut as a note says; tha
 logs of --out have just the frames of both files, and that `check` says yes of them; and bad input: what is packed or encrypted,
 begins in the middle, is no file or no frame, and a folder that is there before or can't be written.
 
-usage: tests/wires PROGRAM [ROWS [COUNT]]     (the built program)
+usage: tests/wires.py PROGRAM [ROWS [COUNT]]     (the built program)
 
 ROWS is a JSON file with `rows`, a list of objects with `a` and `b`, the bytes of both files in base64, and `verdict`; COUNT is
 how many of them are taken. Without it the connections are those of samples/. What isn't as it must be is printed, and the last

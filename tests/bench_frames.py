@@ -1,7 +1,7 @@
 #!/usr/bin/env python3
 """Writes a file of frames to standard output, for crates/reader_bench.
 
-usage: tests/bench_frames COUNT [piped|direct]
+usage: tests/bench_frames.py COUNT [piped|direct]
 
 Each frame is a Call of 112 bytes, a header of 8 and 13 words, by the stream framing and rpc.capnp. piped: its target is a
 promisedAnswer, a field of a result (a transform of one getPointerField), and its pointers behind the target are left out.
@@ -60,7 +60,7 @@ def direct(question):
 def main():
     forms = {"piped": piped, "direct": direct}
     if len(sys.argv) not in (2, 3) or (sys.argv + ["piped"])[2] not in forms:
-        sys.exit("usage: tests/bench_frames COUNT [piped|direct]")
+        sys.exit("usage: tests/bench_frames.py COUNT [piped|direct]")
     form = forms[(sys.argv + ["piped"])[2]]
     for question in range(1, int(sys.argv[1]) + 1):
         words = b"".join(form(question))

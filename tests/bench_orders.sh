@@ -1,7 +1,7 @@
 #!/usr/bin/env bash
 # What more vats cost `vataudit order`: 1,024 vats of 1,000 records in a ring over 64 vats of 16,000. In each a frame goes
 # round: every vat but the first receives it from the one before and sends it to the next.
-# usage: tests/bench_orders PROGRAM [RUNS]     PROGRAM is vataudit; 5 runs of each if not said, in turn
+# usage: tests/bench_orders.sh PROGRAM [RUNS]     PROGRAM is vataudit; 5 runs of each if not said, in turn
 # Prints the medians of the processor time in seconds, and their ratio. It is to be at most 3; else the status is 1.
 set -euo pipefail
 [ $# -ge 1 ] || { sed -n '2,5s/^# //p' "$0" >&2; exit 2; }

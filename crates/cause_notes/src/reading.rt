@@ -1,10 +1,11 @@
 //! The records of a log, with their frames read.
 
+use exception_reasons::read_reason;
 use report_lines::{Answer, Fault, NumberedRecord};
 use rpc_view::{Limits, RpcMessage, ViewError, read_bytes};
 use std::alloc::{AllocError, Global};
 use std::fmt::Write;
-use vat_log::VatLog;
+use vat_log::{Body, VatLog};
 use vat_rules::edition_of;
 use vat_view::DecodedRecord;
 
@@ -43,7 +44,19 @@ pub(crate) fn decoded(
     }
 }
 
-/// Appends the note of the record of this number: the name of its log, and the record as `records` prints it.
+/// Appends the reason that a record's frame gives, where it gives one.
+fn put_reason(alloc: Global, text: &mut String, body: &Body) -> Result<(), AllocError> {
+    let Some(frame) = body.frame() else {
+        return Ok(());
+    };
+    match read_reason(alloc, frame.clone()?, Limits::default())? {
+        Some(reason) => write!(text, " reason \"{reason}\""),
+        None => Ok(()),
+    }
+}
+
+/// Appends the note of the record of this number: the name of its log, the record as `records` prints it, and the reason of
+/// its exception.
 pub(crate) fn put_record(
     alloc: Global,
     text: &mut String,
@@ -65,5 +78,7 @@ pub(crate) fn put_record(
         message,
     };
     let name = name.escape_debug();
-    write!(text, "note: {name}: record {shown}\n")
+    write!(text, "note: {name}: record {shown}")?;
+    put_reason(alloc, text, stored.body())?;
+    text.push_str("\n")
 }

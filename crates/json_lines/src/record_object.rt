@@ -4,7 +4,9 @@ use crate::answer_object::answer_object;
 use crate::lists::{interface_text, number_list, put_member};
 use crate::message_object::path_list;
 use cap_frame::Path;
+use exception_reasons::{Reason, read_reason};
 use report_lines::NumberedRecord;
+use rpc_view::Limits;
 use serde_json::{Value, json};
 use std::alloc::{AllocError, Global};
 use vat_log::{Body, References};
@@ -128,6 +130,16 @@ fn body_object(alloc: Global, body: &Body) -> Result<Value, AllocError> {
     }
 }
 
+/// The reason that a record's frame gives.
+pub(crate) fn reason_of(alloc: Global, body: &Body) -> Result<Option<Reason>, AllocError> {
+    match body {
+        Body::Send { frame, .. } | Body::Receive { frame, .. } => {
+            read_reason(alloc, frame.clone()?, Limits::default())
+        }
+        _ => Ok(None),
+    }
+}
+
 /// The object of a record. It has a message where the record has a frame: the object that `frame` has for it.
 pub(crate) fn record_object(
     alloc: Global,
@@ -141,6 +153,14 @@ pub(crate) fn record_object(
             &mut object,
             "message",
             answer_object(alloc, message)?,
+        )?;
+    }
+    if let Some(reason) = reason_of(alloc, shown.body)? {
+        put_member(
+            alloc,
+            &mut object,
+            "reason",
+            Value::String(format!(in alloc; "{reason}")?),
         )?;
     }
     Ok(object)

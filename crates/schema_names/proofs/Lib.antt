@@ -1,0 +1,4 @@
+pub mod Running
+pub mod Parts
+pub mod Loops
+pub mod Letters

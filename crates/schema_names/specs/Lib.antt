@@ -1,0 +1,4 @@
+pub mod Reading
+pub mod Layouts
+pub mod Names
+pub mod Glue

@@ -1,0 +1,51 @@
+-- Reading a schema: readings of the trees of a frame one after another, with faults of a schema besides theirs.
+use Rattle.std.specs.Prelude.{◌≡◌, ℕ, List, Option, Some, None, Result, Ok, Err}
+use Rattle.cap_reader.specs.declared.read_error.ReadError.{ReadError}
+use Rattle.cap_reader.specs.declared.read_error.ReadError.TheVariants as reads
+use Rattle.cap_reader.specs.Tree.{Tree, nothing}
+use Rattle.cap_reader.specs.Reading.{Reading, done, fault, visit, ◌>>=◌, pay_for, Sections, Elements, root_in, elements_in, text_in}
+use Rattle.schema_names.specs.declared.schema_error.SchemaError.{SchemaError}
+use Rattle.schema_names.specs.declared.schema_error.SchemaError.TheVariants as errors
+
+-- a reading of a tree, as a part of the reading of a schema
+unfoldable pub part : {A : Type 0} → Reading ReadError A → Reading SchemaError A
+part (done value) = done value
+part (fault e) = fault (errors.Read e)
+part (visit cost rest) = visit cost (part rest)
+
+-- the struct at a pointer; where the pointer is null, the empty struct
+abbrev pub struct_in : Tree → Reading SchemaError Sections
+struct_in tree = part (root_in tree)
+
+abbrev pub or_empty : Option Elements → Elements
+or_empty None = record { count = 0; element = λ i. nothing }
+or_empty (Some elements) = elements
+
+-- the list of structs at a pointer; where the pointer is null, the empty list
+abbrev pub list_in : Tree → Reading SchemaError Elements
+list_in tree = part (elements_in tree >>= λ found. done (or_empty found))
+
+-- the text at a pointer, None where the pointer is null
+abbrev pub optional_text_in : Tree → Reading SchemaError (Option (List ℕ))
+optional_text_in tree = part (text_in tree)
+
+-- what a reading answers, given so many words, and how many it leaves
+abbrev pub run : {A : Type 0} → Reading SchemaError A → ℕ → Result A SchemaError × ℕ
+run reading words = pay_for (errors.Read reads.TooMuch) reading words
+
+-- ---- what a function of the code answers
+
+-- out of memory may come in the place of any other answer; each other fault is the definition's
+abbrev pub Fails : {Y : Type 0} → SchemaError → Result Y SchemaError → Type 0
+Fails errors.OutOfMemory defined = Unit {0}
+Fails e defined = defined ≡ Err e
+
+-- what was answered is what is defined
+abbrev pub GivesInMemory : {X : Type 0} → Result X SchemaError → Result X SchemaError → Type 0
+GivesInMemory (Ok x) defined = defined ≡ Ok x
+GivesInMemory (Err e) defined = Fails e defined
+
+-- the fault of a schema for a fault of a pointer; out of memory isn't one of a pointer
+abbrev pub fault_of : ReadError → SchemaError
+fault_of reads.OutOfMemory = errors.OutOfMemory
+fault_of e = errors.Read e

@@ -4,4 +4,8 @@ pub mod Lateness
 pub mod Wrapping
 pub mod Listing
 pub mod Writing
+pub mod Coming
+pub mod Underway
+pub mod Seating
 pub mod Flowing
+pub mod Untagged

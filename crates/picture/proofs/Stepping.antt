@@ -18,7 +18,7 @@ folded f g xs i start none some = rw (add-one i) (folded_suc f g xs i start none
 plus_none : (a : ℕ) → a + 0 ≡ a
 plus_none a = omega arith
 
-counted : {X : Type 0} (p : X → Bool) (xs : List X) (i : ℕ) → count_by p (take (i + 1) xs) ≡ count_by p (take i xs) + cond (passes_in p (slice_get xs i)) 1 0
+pub counted : {X : Type 0} (p : X → Bool) (xs : List X) (i : ℕ) → count_by p (take (i + 1) xs) ≡ count_by p (take i xs) + cond (passes_in p (slice_get xs i)) 1 0
 counted p xs i = folded (λ a x. a + cond (p x) 1 0) (λ a o. a + cond (passes_in p o) 1 0) xs i 0 (λ a. plus_none a) (λ a x. refl)
 
 -- a count, where the next item counts

@@ -1,4 +1,5 @@
--- For the code's contracts, and no part of the meaning.
+-- For the code's contracts, and no part of the meaning: what a record does to a question, and the vats whose records come.
+pub mod Seats
 use Rattle.std.specs.Prelude.{ℕ, Bool, Option, Some, None}
 use Rattle.rpc_view.specs.declared.edition.Edition.{Edition}
 use Rattle.vat_log.specs.declared.body.Body.{Body}

@@ -1,4 +1,4 @@
--- The words of a row: the number of its record, and what that says in short.
+-- The words of a row: the number of its record, what that says in short, and the reason of its exception.
 use Rattle.std.specs.Prelude.{ℕ, ◌-◌, List, [], ◌∷◌, ◌++◌, length, take, Option, Some, None, if◌then◌else◌, nat_lt, codes}
 use Rattle.std.specs.Fmt.{decimal}
 use Rattle.std.specs.List.{join_by}
@@ -12,6 +12,7 @@ use Rattle.rpc_view.specs.declared.message.RpcMessage.{RpcMessage}
 use Rattle.rpc_view.specs.declared.message.RpcMessage.TheVariants.{Bootstrap, Call, Return, Finish, Resolve, Release, Disembargo, Abort}
 use Rattle.report_lines.specs.MessageText.{descriptor_text, loopback_text, resolution_text, target_text}
 use Rattle.report_lines.specs.RecordText.{body_text}
+use Rattle.picture.specs.ReasonText.{short_reason}
 
 -- entries of a capability table
 abbrev pub entries_text : List Descriptor → List ℕ
@@ -62,5 +63,5 @@ said_text (Answer call results) None = answered_text call results
 said_text event None = body_text event
 
 -- the words of a row
-abbrev pub label_text : ℕ → Body → Option RpcMessage → List ℕ
-label_text number event said = decimal number ++ (codes " " ++ said_text event said)
+abbrev pub label_text : ℕ → Body → Option RpcMessage → Option (List ℕ) → List ℕ
+label_text number event said reason = decimal number ++ (codes " " ++ (said_text event said ++ short_reason reason))

@@ -9,6 +9,7 @@ use Rattle.audit_core.specs.declared.report.Report.{Report}
 use Rattle.report_lines.specs.Lines.{report_text}
 use Rattle.report_lines.specs.MessageText.{message_text}
 use Rattle.report_lines.specs.RecordText.{body_text}
+use Rattle.picture.specs.ReasonText.{whole_reason}
 use Rattle.picture.specs.Rows.{Drawn}
 use Rattle.picture.specs.Picture.{linked_text, picture_text, place_text, svg_text, tone_word}
 use Rattle.picture.specs.declared.drawing.Picture.{Picture}
@@ -22,6 +23,10 @@ listed_words (Send connection call references frame) None = body_text (Send conn
 listed_words (Receive connection call references frame) None = body_text (Receive connection call references frame) ++ codes " unread"
 listed_words event None = body_text event
 
+-- and behind it the reason of its exception
+abbrev pub listed_said : Body → Option RpcMessage → Option (List ℕ) → List ℕ
+listed_said event said reason = listed_words event said ++ whole_reason reason
+
 -- a row of the table, which leads to its row of the picture
 abbrev pub listed_begin : Place → Tone → List ℕ
 listed_begin place tone = codes "<tr id='record-" ++ (place_text place ++ (codes "' class='" ++ (tone_word tone ++ codes "'>")))
@@ -33,7 +38,7 @@ abbrev pub listed_cells : ℕ → List ℕ → List ℕ
 listed_cells number words = codes "<td>" ++ (decimal number ++ (codes "</td><td>" ++ (words ++ codes "</td></tr>\n")))
 
 abbrev pub listed_text : Drawn → List ℕ
-listed_text row = listed_begin row.place row.tone ++ (listed_link row.place ++ listed_cells row.place.number (listed_words row.body row.message))
+listed_text row = listed_begin row.place row.tone ++ (listed_link row.place ++ listed_cells row.place.number (listed_said row.body row.message row.reason))
 
 -- how the page is laid out: the picture and the table are moved each by itself
 abbrev pub layout : List ℕ

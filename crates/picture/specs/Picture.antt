@@ -125,7 +125,7 @@ words_at row = record { x = x_of row.column + 14; y = words_y (passage_of row.bo
 
 abbrev pub row_text : Drawn → List ℕ
 row_text row = circle_text (tone_word row.tone) (mark_word row.message) (point_at row.column row.line)
-    ++ words_text (words_at row) (label_text row.place.number row.body row.message)
+    ++ words_text (words_at row) (label_text row.place.number row.body row.message row.reason)
 
 -- the name of a record, in the names of its rows
 abbrev pub place_text : Place → List ℕ
@@ -229,9 +229,10 @@ picture_text picture = svg_text false picture
 
 -- ---- the picture of a case
 
--- how far to the right the words of a row go, and what is left free beside them: a letter is 8 wide at most, and 400 count
+-- how far to the right the words of a row go, and what is left free beside them: a letter is 8 wide at most, and 400 count,
+-- an escaped one as the letters of its name
 abbrev pub row_end : Drawn → ℕ
-row_end row = x_of row.column + 8 * least_of (length (label_text row.place.number row.body row.message)) 400 + 30
+row_end row = x_of row.column + 8 * least_of (length (label_text row.place.number row.body row.message row.reason)) 400 + 30
 
 -- the same of a sentence, which has lines
 abbrev pub sentence_end : Option (List ℕ) → ℕ
@@ -249,7 +250,7 @@ width_of vats sentence rows = farthest (greater_of (x_of vats) (sentence_end sen
 -- as soon as may be, as far as it goes; and behind it what it leaves
 abbrev pub arranged : Contents → Option (List ℕ) → List ℕ
 arranged held (Some given) = completed held.logs given
-arranged held None = completed held.logs (flow_of held.links held.logs)
+arranged held None = completed held.logs (flow_of held)
 
 -- what a picture shows: the columns of all vats, the rows of the window, and the arrows of their messages
 pub record IsPictureOf (held : Contents) (order : List ℕ) (told : Report) (steps : List Step) (asked : Asked) (picture : Picture) : Type 0 where

@@ -6,6 +6,7 @@ use Rattle.rpc_view.specs.declared.message.RpcMessage.{RpcMessage}
 use Rattle.rpc_view.specs.declared.message.RpcMessage.TheVariants as messages
 use Rattle.rpc_view.specs.declared.message.Outcome.{Outcome}
 use Rattle.rpc_view.specs.declared.message.Outcome.TheVariants as outcomes
+use Rattle.exception_reasons.specs.Reasons.{reason_of_record}
 use Rattle.vat_log.specs.Log.{Log}
 use Rattle.vat_log.specs.declared.body.Body.{Body}
 use Rattle.vat_rules.specs.Audit.{edition_of}
@@ -221,13 +222,15 @@ tone_of scene place =
     else (if is_place scene.focus.mate place then Named
     else (if are_kin scene.maker (maker_at scene.steps place) then Kin else Plain))
 
--- a row: its record, its column and line, what it says, its message, whether that is a late Return, and how it is marked
+-- a row: its record, its column and line, what it says, its message and the reason of its exception, whether it is a late
+-- Return, and how it is marked
 pub record Drawn : Type 0 where
   pub place : Place
   pub column : ℕ
   pub line : ℕ
   pub body : Body
   pub message : Option RpcMessage
+  pub reason : Option (List ℕ)
   pub late : Bool
   pub tone : Tone
 
@@ -243,6 +246,7 @@ drawn scene row place log event = record {
   line = line_of scene.gap row;
   body = event;
   message = message_of (edition_of log) event;
+  reason = reason_of_record event;
   late = late_in log place.number event;
   tone = tone_of scene place;
 }

@@ -4,6 +4,8 @@ ghost use Rattle.std.specs.Prelude.{◌≡◌, Some, false};
 ghost use Rattle.std.specs.Fmt.{WritesOnOk};
 ghost use Rattle.picture.specs.Labels.{answered_text, caps_text, label_text, said_text, short_outcome, short_text};
 
+use crate::reason_text::ShortReason;
+use exception_reasons::Reason;
 use report_lines::{Shown, loopback_text};
 use rpc_view::{Descriptor, Outcome, Payload, RpcMessage, Target};
 use std::fmt;
@@ -145,7 +147,7 @@ impl Display for Said<'_> {
     }
 }
 
-/// The words of a row: the number of its record, and what that says in short.
+/// The words of a row: the number of its record, what that says in short, and the reason of its exception.
 #[derive(Clone, Copy)]
 pub struct Label<'a> {
     /// The record's number in its log, counted from 0.
@@ -154,10 +156,12 @@ pub struct Label<'a> {
     pub body: &'a Body,
     /// The message of its frame, where it is read.
     pub message: &'a Option<RpcMessage>,
+    /// The reason that the frame gives, if it gives one.
+    pub reason: &'a Option<Reason>,
 }
 
 impl Display for Label<'_> {
-    ghost output = { λ label. Some (label_text label.number label.body.now label.message.now) };
+    ghost output = { λ label. Some (label_text label.number label.body.now label.message.now label.reason.now) };
 
     fn fmt<W: fmt::Write>(&self, f: &mut Formatter<W>) -> fmt::Result {
         let number = self.number;
@@ -165,6 +169,7 @@ impl Display for Label<'_> {
             body: self.body,
             message: self.message,
         };
-        write!(f, "{number} {said}")
+        let reason = ShortReason(self.reason);
+        write!(f, "{number} {said}{reason}")
     }
 }

@@ -1,6 +1,6 @@
-//! A law of pictures, which holds of every log and not of one call.
+//! Laws of pictures, which hold of every log and every reason, and not of one call.
 
-ghost use Rattle.std.specs.Prelude.{◌≡◌, ℕ, Ok};
+ghost use Rattle.std.specs.Prelude.{◌≡◌, ℕ, List, Ok, true};
 ghost use Rattle.cap_reader.specs.Defaults.{default_limits};
 ghost use Rattle.vat_log.specs.Log.{Log};
 ghost use Rattle.vat_log.specs.declared.body.Body.{Body};
@@ -9,6 +9,7 @@ ghost use Rattle.vat_view.specs.Questions.{is_late};
 ghost use Rattle.vat_rules.specs.Events.{event_of, past_at};
 ghost use Rattle.vat_rules.specs.Audit.{reads_by, edition_of};
 ghost use Rattle.picture.specs.Rows.{late_in};
+ghost use Rattle.picture.specs.ReasonText.{has_no_tag, quoted};
 
 /// A picture and the audit call the same Returns late. Take the first `number` records of a log, and any record behind them
 /// that is read as an event: a picture has this record as a late Return just where vat_view's `is_late`, by which the rules
@@ -18,4 +19,9 @@ pub fn late_returns_are_the_audits()
         → event_of (reads_by (edition_of log) default_limits) body ≡ Ok e
         → late_in log number body
         ≡ is_late (past_at (reads_by (edition_of log) default_limits) log.records number) e }
+{}
+
+/// Whatever bytes a reason has, its words make no tag of the document that they stand in.
+pub fn reasons_make_no_tags()
+    ensures { (reason : List ℕ) → has_no_tag (quoted reason) ≡ true }
 {}

@@ -2,10 +2,11 @@
 
 ghost use Rattle.std.specs.Prelude.{◌≡◌, IfOk, Some, string_bytes};
 ghost use Rattle.std.specs.List.{flat_map};
-ghost use Rattle.picture.specs.Page.{dark_layout, drawn_text, layout, listed_begin, listed_cells, listed_link, listed_text, listed_words, page_begin, page_style, page_text};
+ghost use Rattle.picture.specs.Page.{dark_layout, drawn_text, layout, listed_begin, listed_cells, listed_link, listed_said, listed_text, listed_words, page_begin, page_style, page_text};
 
 use crate::drawing::Picture;
 use crate::place::Place;
+use crate::reason_text::WholeReason;
 use crate::row::{Row, Tone};
 use crate::svg::shapes::{RowName, tone_word};
 use crate::svg::whole::Svg;
@@ -35,6 +36,22 @@ impl Display for ListedWords<'_> {
             (None, Body::Receive { .. }) => write!(f, "{} unread", Shown(body)),
             (None, _) => write!(f, "{}", Shown(body)),
         }
+    }
+}
+
+/// The same, and behind it the reason of its exception.
+#[derive(Clone, Copy)]
+struct ListedSaid<'a> {
+    words: ListedWords<'a>,
+    reason: WholeReason<'a>,
+}
+
+impl Display for ListedSaid<'_> {
+    ghost output = { λ said. Some (listed_said said.words.body.now said.words.message.now said.reason.0.now) };
+
+    fn fmt<W: fmt::Write>(&self, f: &mut Formatter<W>) -> fmt::Result {
+        let ListedSaid { words, reason } = *self;
+        write!(f, "{words}{reason}")
     }
 }
 
@@ -71,30 +88,34 @@ impl Display for ListedLink {
 #[derive(Clone, Copy)]
 struct ListedCells<'a> {
     number: usize,
-    words: ListedWords<'a>,
+    said: ListedSaid<'a>,
 }
 
 impl Display for ListedCells<'_> {
-    ghost output = { λ cells. Some (listed_cells cells.number (listed_words cells.words.body.now cells.words.message.now)) };
+    ghost output = { λ cells. Some (listed_cells cells.number (listed_said cells.said.words.body.now cells.said.words.message.now cells.said.reason.0.now)) };
 
     fn fmt<W: fmt::Write>(&self, f: &mut Formatter<W>) -> fmt::Result {
-        let ListedCells { number, words } = *self;
-        write!(f, "<td>{number}</td><td>{words}</td></tr>\n")
+        let ListedCells { number, said } = *self;
+        write!(f, "<td>{number}</td><td>{said}</td></tr>\n")
     }
 }
 
 /// The same of a row.
 fn cells_of<'a>(row: &'a Row<'_>) -> ListedCells<'a>
-    ensures { listed_cells result.number (listed_words result.words.body.now result.words.message.now)
-        ≡ listed_cells row.now.place.number (listed_words row.now.body row.now.message) }
+    ensures { listed_cells result.number (listed_said result.said.words.body.now result.said.words.message.now result.said.reason.0.now)
+        ≡ listed_cells row.now.place.number (listed_said row.now.body row.now.message row.now.reason) }
 {
     let words = ListedWords {
         body: row.body,
         message: &row.message,
     };
+    let said = ListedSaid {
+        words,
+        reason: WholeReason(&row.reason),
+    };
     ListedCells {
         number: row.place.number,
-        words,
+        said,
     }
 }
 

@@ -14,6 +14,7 @@ use crate::passing::messages::message_of;
 use crate::place::Place;
 use crate::scene::Scene;
 use crate::window::line_of;
+use exception_reasons::{Reason, record_reason};
 use rpc_view::RpcMessage;
 use std::alloc::{AllocError, Global};
 use std::marker::Model;
@@ -46,6 +47,8 @@ pub struct Row<'a> {
     pub(crate) body: &'a Body,
     /// Its message.
     pub(crate) message: Option<RpcMessage>,
+    /// The reason of its exception, where it gives one.
+    pub(crate) reason: Option<Reason>,
     /// Whether that is a Return that is late.
     pub(crate) late: bool,
     /// How it is marked.
@@ -63,6 +66,7 @@ impl<'a> Model for Row<'a> {
       line = row.line;
       body = row.body.now;
       message = row.message;
+      reason = row.reason;
       late = row.late;
       tone = row.tone;
     } };
@@ -70,13 +74,14 @@ impl<'a> Model for Row<'a> {
 
 /// The words of a row.
 pub fn label_of<'a>(row: &'a Row<'_>) -> Label<'a>
-    ensures { label_text result.number result.body.now result.message.now
-        ≡ label_text row.now.place.number row.now.body row.now.message }
+    ensures { label_text result.number result.body.now result.message.now result.reason.now
+        ≡ label_text row.now.place.number row.now.body row.now.message row.now.reason }
 {
     Label {
         number: row.place.number,
         body: row.body,
         message: &row.message,
+        reason: &row.reason,
     }
 }
 
@@ -124,6 +129,7 @@ fn drawn<'a>(
         line: line_of(scene.gap, row),
         body,
         message,
+        reason: record_reason(alloc, body)?,
         late,
         tone: tone_of(scene, place),
     })

@@ -57,7 +57,7 @@ pub fn arrange(alloc: Global, case: &Case, given: Option<&Order>) -> Result<Vec<
     match given {
         Some(order) => completed(alloc, order.as_slice(), case.logs()),
         None => {
-            let begun = flow_of(alloc, case.links(), case.logs())?;
+            let begun = flow_of(alloc, case)?;
             completed(alloc, &begun, case.logs())
         }
     }

@@ -4,10 +4,11 @@ ghost use Rattle.std.specs.Prelude.{◌≡◌, ◌≤◌, find, length, map, IfO
 ghost use Rattle.std.specs.Arc.{arc_value};
 ghost use Rattle.std.specs.Option.{option_copied, option_map};
 ghost use Rattle.case_book.specs.Case.{vat_limit};
-ghost use Rattle.picture.specs.Flow.{after, flow_of, goes_on, goes_to_receive, next_seat, receives, records_in, seats_of, turn_of};
+ghost use Rattle.picture.specs.Flow.{flow_of, records_in};
+ghost use Rattle.picture.specs.Glue.Seats.{after, next_seat, seat_goes_on, seat_goes_to_receive, seat_receives, seats_of, turn_of};
 
 use crate::order::seat::Seat;
-use case_book::Link;
+use case_book::{Case, Link};
 use std::alloc::{AllocError, Global};
 use std::sync::Arc;
 use vat_log::VatLog;
@@ -49,7 +50,7 @@ fn records_in(logs: &[Arc<VatLog>]) -> usize
 
 /// The first vat whose next record receives a frame that is under way.
 fn first_receiving(seats: &[Seat]) -> Option<&Seat>
-    ensures { option_copied result ≡ find receives seats.now }
+    ensures { option_copied result ≡ find seat_receives seats.now }
 {
     for seat in seats {
         if seat.receives() {
@@ -61,7 +62,7 @@ fn first_receiving(seats: &[Seat]) -> Option<&Seat>
 
 /// The first vat that may go on and to which a frame is under way.
 fn first_to_receive(seats: &[Seat]) -> Option<&Seat>
-    ensures { option_copied result ≡ find goes_to_receive seats.now }
+    ensures { option_copied result ≡ find seat_goes_to_receive seats.now }
 {
     for seat in seats {
         if seat.goes_to_receive() {
@@ -73,7 +74,7 @@ fn first_to_receive(seats: &[Seat]) -> Option<&Seat>
 
 /// The first vat that may go on.
 fn first_going_on(seats: &[Seat]) -> Option<&Seat>
-    ensures { option_copied result ≡ find goes_on seats.now }
+    ensures { option_copied result ≡ find seat_goes_on seats.now }
 {
     for seat in seats {
         if seat.goes_on() {
@@ -132,15 +133,14 @@ fn followed(seats: Vec<Seat>, turn: VatTurn) -> Result<Vec<Seat>, AllocError>
 /// # Errors
 ///
 /// Out of memory.
-pub fn flow_of(alloc: Global, links: &[Link], logs: &[Arc<VatLog>]) -> Result<Vec<u32>, AllocError>
-    requires { length logs.now ≤ vat_limit }
-    ensures { IfOk result (λ order. order.items ≡ flow_of links.now (map arc_value logs.now)) }
+pub fn flow_of(alloc: Global, case: &Case) -> Result<Vec<u32>, AllocError>
+    ensures { IfOk result (λ order. order.items ≡ flow_of case.now) }
 {
-    let turns = records_in(logs);
-    let mut seats = seats_of(alloc, logs)?;
+    let turns = records_in(case.logs());
+    let mut seats = seats_of(alloc, case.logs())?;
     let mut order = Vec::new(alloc);
     for _ in 0..turns {
-        let Some(turn) = next_turn(&seats, links) else {
+        let Some(turn) = next_turn(&seats, case.links()) else {
             return Ok(order);
         };
         order.push(turn.vat)?;

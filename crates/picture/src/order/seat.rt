@@ -2,7 +2,8 @@
 
 ghost use Rattle.std.specs.Prelude.{◌≡◌, ◌<◌, IfSome, OnOk, length, nat_lt, option_and_then};
 ghost use Rattle.vat_log.specs.Passages.{passage_of};
-ghost use Rattle.picture.specs.Flow.{first_on, further, goes_on, heard, may_pass, next_in, received_in, sent_in, taken, takes_frame};
+ghost use Rattle.picture.specs.Flow.{may_pass, takes_frame};
+ghost use Rattle.picture.specs.Glue.Seats.{first_on, further, heard, is_coming, next_of, received_in, seat_goes_on, sent_in, taken};
 
 use crate::logs::body_in;
 use crate::order::flow::VatTurn;
@@ -24,7 +25,7 @@ pub struct Seat {
 
 impl Model for Seat {
     ghost use Rattle.std.specs.Arc.{arc_value};
-    ghost use Rattle.picture.specs.Flow.{Seat};
+    ghost use Rattle.picture.specs.Glue.Seats.{Seat};
 
     ghost Value = { Seat };
 
@@ -46,7 +47,7 @@ fn first_on(coming: &[u32], connection: u32) -> Option<usize>
 
 /// Whether what passes so is a frame that is received, and is under way.
 fn takes_frame(coming: &[u32], passage: Option<(bool, u32)>) -> bool
-    ensures { result ≡ takes_frame coming.now passage }
+    ensures { result ≡ takes_frame (is_coming coming.now) passage }
 {
     match passage {
         Some((false, connection)) => first_on(coming, connection).is_some(),
@@ -56,7 +57,7 @@ fn takes_frame(coming: &[u32], passage: Option<(bool, u32)>) -> bool
 
 /// Whether a record that passes nothing, or passes so, may come.
 fn may_pass(coming: &[u32], passage: Option<(bool, u32)>) -> bool
-    ensures { result ≡ may_pass coming.now passage }
+    ensures { result ≡ may_pass (is_coming coming.now) passage }
 {
     match passage {
         Some((false, connection)) => first_on(coming, connection).is_some(),
@@ -131,7 +132,7 @@ fn hear_frame(coming: &mut Vec<u32>, vat: u32, sent: Option<(u32, u32)>) -> Resu
 impl Seat {
     ghost use Rattle.std.specs.Prelude.{IfOk};
     ghost use Rattle.std.specs.Arc.{arc_value};
-    ghost use Rattle.picture.specs.Flow.{followed, goes_to_receive, receives, seat_of, turn_of};
+    ghost use Rattle.picture.specs.Glue.Seats.{followed, gone_on, hearing, seat_goes_to_receive, seat_of, seat_receives, turn_of};
 
     /// Before the first record.
     pub fn new(alloc: Global, log: &Arc<VatLog>) -> Result<Seat, AllocError>
@@ -146,7 +147,7 @@ impl Seat {
 
     /// Whether the next record sends or receives a frame, and on which connection.
     fn passage(&self) -> Option<(bool, u32)>
-        ensures { result ≡ option_and_then passage_of (next_in self.now) }
+        ensures { result ≡ option_and_then passage_of (next_of self.now) }
     {
         match body_in(&self.log, self.came) {
             Some(body) => body.passage(),
@@ -156,14 +157,14 @@ impl Seat {
 
     /// Whether the next record receives a frame that is under way.
     pub fn receives(&self) -> bool
-        ensures { result ≡ receives self.now }
+        ensures { result ≡ seat_receives self.now }
     {
         takes_frame(&self.coming, self.passage())
     }
 
     /// Whether there is a next record, and it may come.
     pub fn goes_on(&self) -> bool
-        ensures { result ≡ goes_on self.now }
+        ensures { result ≡ seat_goes_on self.now }
     {
         match body_in(&self.log, self.came) {
             Some(body) => may_pass(&self.coming, body.passage()),
@@ -173,7 +174,7 @@ impl Seat {
 
     /// Whether it may, and a frame is under way to the vat.
     pub fn goes_to_receive(&self) -> bool
-        ensures { result ≡ goes_to_receive self.now }
+        ensures { result ≡ seat_goes_to_receive self.now }
     {
         self.goes_on() && is_awaited(&self.coming)
     }
@@ -191,17 +192,29 @@ impl Seat {
         }
     }
 
+    /// After its own turn, but for what it hears.
+    fn go_on(&mut self, turn: VatTurn)
+        ensures { self.new ≡ gone_on turn self.old }
+    {
+        self.came = further(self.came, self.log.len());
+        take_frame(&mut self.coming, turn.received);
+    }
+
+    /// It hears what is sent in a turn.
+    fn hear(&mut self, turn: VatTurn) -> Result<(), AllocError>
+        ensures { OnOk result (self.new ≡ hearing turn self.old) }
+    {
+        let vat = self.log.vat();
+        hear_frame(&mut self.coming, vat, turn.sent)
+    }
+
     /// After a turn, of its own or of another vat's.
     pub fn follow(&mut self, turn: VatTurn) -> Result<(), AllocError>
         ensures { OnOk result (self.new ≡ followed turn self.old) }
     {
-        let vat = self.log.vat();
-        if vat == turn.vat {
-            self.came = further(self.came, self.log.len());
-            take_frame(&mut self.coming, turn.received);
-            Ok(())
-        } else {
-            hear_frame(&mut self.coming, vat, turn.sent)
+        if turn.vat == self.log.vat() {
+            self.go_on(turn);
         }
+        self.hear(turn)
     }
 }

@@ -182,7 +182,7 @@ struct Words<'a> {
 }
 
 impl Display for Words<'_> {
-    ghost output = { λ it. Some (words_text it.at (label_text it.label.number it.label.body.now it.label.message.now)) };
+    ghost output = { λ it. Some (words_text it.at (label_text it.label.number it.label.body.now it.label.message.now it.label.reason.now)) };
 
     fn fmt<W: fmt::Write>(&self, f: &mut Formatter<W>) -> fmt::Result {
         let Words { at, label } = *self;

@@ -1,20 +1,34 @@
-use Rattle.std.proofs.Common.{◌∙◌, ◌<◌, List, ap, arith}
+use Rattle.std.proofs.Common.{◌∙◌, List, map, ap, arith}
+use Rattle.std.specs.Arc.{arc_value}
 use Rattle.std.specs.Option.{option_map}
-use Rattle.picture.specs.Flow.{Seat, next_seat, turn_of}
-use Rattle.picture.proofs.Flowing.{flows_all, flows_on, flows_out}
+use Rattle.case_book.specs.declared.link.Link.{Link}
+use Rattle.picture.specs.Flow.{flow, records_in}
+use Rattle.picture.specs.Glue.Seats.{Seat, next_seat, turn_of}
+use Rattle.picture.proofs.Flowing.{flow_begins, flows_all, flows_on, flows_out}
 use Rattle.picture.proofs.order.flow.flow_of.Goals as goal
+
+pub loop-init : goal.loop-init
+loop-init c =
+    rw c.new-order.ensures.items (flow_begins c.args.case.now (map arc_value c.logs-2.result.now) c.in_ok-seats.seats.items c.logs-2.ensures.lent c.logs-2.ensures.rising c.in_ok-seats.ensures)
 
 pub loop-preserved : goal.loop-preserved
 loop-preserved c =
-    let lt : c.loop.counter < c.records_in-turns.result = omega arith in
-    flows_on c.args.links.now c.records_in-turns.result c.loop.counter c.loop.seats.items c.in_ok-seats-2.seats.items c.in-Some.turn c.loop.order.items c.push.new.self.items _ lt
-    (c.in-Some.ensures ∙ ap (λ (s : List Seat). option_map (turn_of c.args.links.now) (next_seat s)) c.deref.ensures.value)
+    let held = c.args.case.now in
+    flows_on held c.loop.counter c.loop.seats.items c.in_ok-seats-2.seats.items c.in-Some.turn c.loop.order.items c.push.new.self.items
+    (c.in-Some.ensures ∙ ap (λ (s : List Seat). option_map (turn_of c.links.result.now) (next_seat s)) c.deref.ensures.value
+    ∙ ap (λ (l : List Link). option_map (turn_of l) (next_seat c.loop.seats.items)) c.links.ensures.lent)
     c.in_ok-push.ensures.items c.in_ok-seats-2.ensures c.loop.invariant
 
 pub returns-in_default : goal.returns-in_default
 returns-in_default c =
-    flows_out c.args.links.now _ c.loop.seats.items c.loop.order.items _
-    (c.in_default.ensures ∙ ap (λ (s : List Seat). option_map (turn_of c.args.links.now) (next_seat s)) c.deref.ensures.value) c.loop.invariant
+    let held = c.args.case.now in
+    flows_out held c.records_in-turns.result c.loop.counter c.loop.seats.items c.loop.order.items (omega (arith, c.loop-test.true))
+    (c.in_default.ensures ∙ ap (λ (s : List Seat). option_map (turn_of c.links.result.now) (next_seat s)) c.deref.ensures.value
+    ∙ ap (λ (l : List Link). option_map (turn_of l) (next_seat c.loop.seats.items)) c.links.ensures.lent) c.loop.invariant
+    ∙ ap (flow held) (c.records_in-turns.ensures ∙ ap records_in c.logs.ensures.lent)
 
 pub returns : goal.returns
-returns c = flows_all c.args.links.now c.records_in-turns.result c.loop.counter c.loop.seats.items c.loop.order.items _ (omega arith) c.loop.invariant
+returns c =
+    let held = c.args.case.now in
+    flows_all held c.records_in-turns.result c.loop.counter c.loop.seats.items c.loop.order.items (omega arith) c.loop.invariant
+    ∙ ap (flow held) (c.records_in-turns.ensures ∙ ap records_in c.logs.ensures.lent)

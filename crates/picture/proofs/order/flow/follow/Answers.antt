@@ -1,5 +1,5 @@
 use Rattle.std.proofs.Common.{◌<◌, length, arith}
-use Rattle.picture.specs.Flow.{followed}
+use Rattle.picture.specs.Glue.Seats.{followed}
 use Rattle.picture.proofs.Flowing.{set_further}
 use Rattle.picture.proofs.order.flow.follow.Goals as goal
 

@@ -1,5 +1,5 @@
 use Rattle.std.proofs.Common.{◌≡◌, ◌++◌, map, take, drop}
-use Rattle.picture.specs.Flow.{followed}
+use Rattle.picture.specs.Glue.Seats.{followed}
 use Rattle.picture.proofs.order.flow.follow.Given as goal
 
 abbrev pub invariant-loop-seat : goal.invariant-loop-seat

@@ -1,6 +1,6 @@
 use Rattle.std.proofs.Common.{refl}
 use Rattle.std.specs.Arc.{arc_value}
-use Rattle.picture.specs.Flow.{seat_of}
+use Rattle.picture.specs.Glue.Seats.{seat_of}
 use Rattle.picture.proofs.Listing.{one_more}
 use Rattle.picture.proofs.order.flow.seats_of.Goals as goal
 

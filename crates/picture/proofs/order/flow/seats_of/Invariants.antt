@@ -1,6 +1,6 @@
 use Rattle.std.proofs.Common.{◌≡◌, ◌++◌, map, drop}
 use Rattle.std.specs.Arc.{arc_value}
-use Rattle.picture.specs.Flow.{seat_of, seats_of}
+use Rattle.picture.specs.Glue.Seats.{seat_of, seats_of}
 use Rattle.picture.proofs.order.flow.seats_of.Given as goal
 
 abbrev pub invariant-loop-log : goal.invariant-loop-log

@@ -1,6 +1,6 @@
 use Rattle.std.proofs.Common.{◌≡◌, ◌==◌, drop}
 use Rattle.std.specs.List.{position_from}
-use Rattle.picture.specs.Flow.{first_on}
+use Rattle.picture.specs.Glue.Seats.{first_on}
 use Rattle.picture.proofs.order.seat.first_on.Given as goal
 
 abbrev pub invariant-loop-at : goal.invariant-loop-at

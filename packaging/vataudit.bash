@@ -33,7 +33,8 @@ _vataudit() {
     for ((at = 1; at < COMP_CWORD; at++)); do
         case ${COMP_WORDS[at]} in
             --help | --version) return ;;
-            --quiet | --json) [ -z "$command" ] || return ;;
+            --quiet | --json | --reasons) [ -z "$command" ] || return ;;
+            --schema) [ -n "$command" ] || ((at++)) ;;
             *) [ -n "$command" ] || command=${COMP_WORDS[at]} ;;
         esac
     done
@@ -41,24 +42,30 @@ _vataudit() {
     [ "$word" != = ] || word=
     [ "$before" != = ] || before=${COMP_WORDS[COMP_CWORD - 2]}
     if [ -z "$command" ]; then
-        local options="--quiet --json --help --version"
+        local options="--quiet --json --reasons --schema --help --version"
         case $before in
-            --quiet) options="--json" ;;
-            --json) options="--quiet" ;;
+            --schema)
+                _vataudit_files "$word" ""
+                return
+                ;;
+            --quiet | --json | --reasons)
+                options="--quiet --json --reasons --schema"
+                options=${options/$before /}
+                ;;
         esac
         mapfile -t COMPREPLY < <(compgen -W "$commands $options" -- "$word")
         return
     fi
     case $before in
         --workers | --from | --count) return ;;
-        --out)
+        --out | --schema)
             _vataudit_files "$word" ""
             return
             ;;
     esac
     case $word in
         -*)
-            mapfile -t COMPREPLY < <(compgen -W "$(_vataudit_options "$command") --quiet --json --help" -- "$word")
+            mapfile -t COMPREPLY < <(compgen -W "$(_vataudit_options "$command") --quiet --json --reasons --schema --help" -- "$word")
             [[ ${COMPREPLY[*]} != *= ]] || compopt -o nospace 2>/dev/null
             return
             ;;

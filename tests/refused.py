@@ -1,10 +1,10 @@
 #!/usr/bin/env python3
-"""Refuses each allocation in turn, one a run: of refusal_trials, whose answers all have to come as they must, and of vataudit
+"""Refuses each allocation in turn, one a run: of refusal_trials, whose answers all have to come as they must, of schema_trials, and of vataudit
 by each of its commands over samples/, which has to end as ever, or to say that memory ran out and end with status 3. With
 --json, notes and what is open may be left out, and a file or folder that was made stands where memory ran out over the
 object of its line.
 
-usage: tests/refused.py [VATAUDIT [TRIALS]]
+usage: tests/refused.py [VATAUDIT [TRIALS [SCHEMAS]]]
 
 They are built programs. `rt run` builds those that aren't named, for which everything is proved first: half an hour, the first
 time. tests/refuse.c refuses the allocations. Each run that differs is printed, and the last line counts. It takes some
@@ -34,6 +34,8 @@ COMMANDS = [
     "vat embargoed_calls.vat1.log",
     "vat wrong_object.vat2.log",
     "records embargoed_calls.vat1.log --from 1 --count 9",
+    "--schema ../crates/schema_trials/data/store.schema records embargoed_calls.vat1.log",
+    "--reasons records embargoed_calls.vat1.log",
     "frame " + ABORT,
     "frames pipelined_call.vat1.frames",
     "migrate pipelined_call.vat1.log --out made",
@@ -87,14 +89,14 @@ def made_by(path):
     return open(path, "rb").read() if os.path.exists(path) else None
 
 
-def run(words, number):
+def run(words, number, place="samples"):
     """Whether the allocation of this number came in a run and was refused; and what the run answered: its status, its
     output, and what it made."""
     with tempfile.TemporaryDirectory() as folder:
         made, told = f"{folder}/made", f"{folder}/told"
         words = [made if word == "made" else word for word in words]
         extra = {"LD_PRELOAD": f"{ROOM}/refuse.so", "REFUSE": str(number), "REFUSE_TOLD": told}
-        ran = subprocess.run(words, cwd=f"{ROOT}/samples", env={**os.environ, **extra}, stdin=subprocess.DEVNULL,
+        ran = subprocess.run(words, cwd=f"{ROOT}/{place}", env={**os.environ, **extra}, stdin=subprocess.DEVNULL,
                              stdout=subprocess.PIPE, stderr=subprocess.DEVNULL, timeout=120)
         bytes_made = made_by(made)
         text = without_notes(ran.stdout) if "--json" in words else ran.stdout
@@ -108,18 +110,18 @@ def is_out_of_memory(words, answer, sound):
     as_json = "--json" in words
     last = OUT_OF_MEMORY[as_json]
     before = text.removesuffix(last)
-    is_sound = sound[1].startswith(before) if as_json or words[1] in ("frames", "records") else not before
+    is_sound = sound[1].startswith(before) if as_json or {"frames", "records"} & set(words) else not before
     return status == 3 and text.endswith(last) and is_sound and bytes_made in (None, sound[2] if as_json else None)
 
 
-def refuse_each(words, may_run_out):
+def refuse_each(words, may_run_out, place="samples"):
     """What is answered with memory, how many allocations were refused, and how many runs then answered otherwise."""
-    _, sound = run(words, 0)
+    _, sound = run(words, 0, place)
     refused = differences = 0
     with concurrent.futures.ThreadPoolExecutor(os.cpu_count()) as pool:
         at_once = 16 * os.cpu_count()
         while True:
-            ended = list(pool.map(lambda number: run(words, number), range(refused + 1, refused + at_once + 1)))
+            ended = list(pool.map(lambda number: run(words, number, place), range(refused + 1, refused + at_once + 1)))
             for came, answer in ended:
                 if not came:
                     return sound, refused, differences
@@ -137,6 +139,11 @@ with tempfile.TemporaryDirectory() as ROOM:
     differences += status
     answers = text.decode().strip()
     print(f"refusal_trials: {refused} allocations refused", flush=True)
+    schemas = os.path.abspath(sys.argv[3]) if len(sys.argv) > 3 else built("schema_trials", [])
+    (status, _, _), more, others = refuse_each([schemas], False, "crates/schema_trials/data")
+    print(f"schema_trials: {more} allocations refused", flush=True)
+    refused += more
+    differences += others + status
     for command in COMMANDS:
         _, more, others = refuse_each([VATAUDIT, *command.split()], True)
         print(f"vataudit {command[:50]}: {more} allocations refused", flush=True)

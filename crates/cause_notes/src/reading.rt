@@ -1,5 +1,6 @@
 //! The records of a log, with their frames read.
 
+use exception_reasons::record_reason;
 use report_lines::{Answer, Fault, NumberedRecord};
 use rpc_view::{Limits, RpcMessage, ViewError, read_bytes};
 use std::alloc::{AllocError, Global};
@@ -43,7 +44,25 @@ pub(crate) fn decoded(
     }
 }
 
-/// Appends the note of the record of this number: the name of its log, and the record as `records` prints it.
+/// Appends the reason that the record of this number gives, behind these words; nothing where it gives none.
+pub(crate) fn put_reason(
+    alloc: Global,
+    text: &mut String,
+    log: &VatLog,
+    at: usize,
+    words: &str,
+) -> Result<(), AllocError> {
+    let Some(stored) = log.get(at) else {
+        return Ok(());
+    };
+    match record_reason(alloc, stored.body())? {
+        Some(reason) => write!(text, "{words}\"{reason}\""),
+        None => Ok(()),
+    }
+}
+
+/// Appends the note of the record of this number: the name of its log, the record as `records` prints it, and the reason of
+/// its exception.
 pub(crate) fn put_record(
     alloc: Global,
     text: &mut String,
@@ -65,5 +84,7 @@ pub(crate) fn put_record(
         message,
     };
     let name = name.escape_debug();
-    write!(text, "note: {name}: record {shown}\n")
+    write!(text, "note: {name}: record {shown}")?;
+    put_reason(alloc, text, log, at, " reason ")?;
+    text.push_str("\n")
 }

@@ -15,6 +15,12 @@ vataudit --quiet COMMAND .. leaves them out, as --quiet does as the last word.
 
 vataudit --json COMMAND .. prints each line as a JSON object, and the notes in
 the last one; --json may be the last word, too.
+
+vataudit --schema FILE COMMAND .. gives interfaces and methods their names beside
+their numbers. capnp compile -o- x.capnp > FILE writes FILE; several may be given.
+vataudit --reasons records FILE prints behind a record the reason of its exception.
+Both may be the last words, too.
+
 vataudit --version prints the version, and the kit by which it was proved, if
 that is known.
 

@@ -2,6 +2,7 @@
 
 use crate::output::Output;
 use json_lines::{JsonFault, JsonLines, Line};
+use schema_names::Names;
 use std::alloc::Global;
 use std::fmt::Display;
 use std::io::Write;
@@ -17,6 +18,13 @@ impl<'a, W: Write> JsonOutput<'a, W> {
     pub fn new(alloc: Global, out: &'a mut W) -> JsonOutput<'a, W> {
         JsonOutput {
             lines: JsonLines::new(alloc, out),
+        }
+    }
+
+    /// With names for interfaces and methods.
+    pub fn with_names(self, names: &'a Names) -> JsonOutput<'a, W> {
+        JsonOutput {
+            lines: self.lines.with_names(names),
         }
     }
 }

@@ -20,6 +20,7 @@ mod json_output;
 mod json_run;
 mod output;
 mod run;
+mod told_lines;
 mod watch;
 
 pub use cause_notes::SearchingSource;
@@ -27,4 +28,5 @@ pub use json_output::JsonOutput;
 pub use json_run::{run_as_json, run_as_json_with_notes};
 pub use output::{Failed, Output};
 pub use run::{FAILED, NotedSource, answer_command, run_on, run_with_notes};
+pub use told_lines::{LineFault, Telling, ToldLines, run_telling};
 pub use watch::{Unwatched, Watch};

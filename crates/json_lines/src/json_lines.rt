@@ -2,6 +2,9 @@
 
 use crate::line::Line;
 use crate::lists::put_member;
+use crate::names::put_names;
+use named_text::NamedText;
+use schema_names::Names;
 use serde_json::{Map, Value};
 use std::alloc::{AllocError, Global};
 use std::io;
@@ -35,10 +38,11 @@ pub struct JsonLines<'a, W: Write> {
     alloc: Global,
     out: &'a mut W,
     held: Option<Value>,
+    names: Option<&'a Names>,
 }
 
 /// The list of what notes say, which stand in a text, each a line behind the word `note`.
-fn note_list(alloc: Global, notes: &str) -> Result<Value, AllocError> {
+pub(crate) fn note_list(alloc: Global, notes: &str) -> Result<Value, AllocError> {
     let mut list = Vec::new(alloc);
     for line in notes.lines() {
         let said = line.strip_prefix("note: ").unwrap_or(line);
@@ -54,6 +58,17 @@ impl<'a, W: Write> JsonLines<'a, W> {
             alloc,
             out,
             held: None,
+            names: None,
+        }
+    }
+
+    /// With names for interfaces and methods, in objects and in notes.
+    pub fn with_names(self, names: &'a Names) -> JsonLines<'a, W> {
+        JsonLines {
+            alloc: self.alloc,
+            out: self.out,
+            held: self.held,
+            names: Some(names),
         }
     }
 
@@ -74,7 +89,10 @@ impl<'a, W: Write> JsonLines<'a, W> {
     ///
     /// Out of memory, or that of the write.
     pub fn add<L: Line>(&mut self, line: &L) -> Result<(), JsonFault> {
-        if let Some(object) = line.object(self.alloc)? {
+        if let Some(mut object) = line.object(self.alloc)? {
+            if let Some(names) = self.names {
+                put_names(self.alloc, names, &mut object)?;
+            }
             self.write_held()?;
             self.held = Some(object);
         }
@@ -104,7 +122,13 @@ impl<'a, W: Write> JsonLines<'a, W> {
 
     /// Adds notes.
     fn add_notes(&mut self, notes: &str) -> Result<(), AllocError> {
-        let list = note_list(self.alloc, notes)?;
+        let list = match self.names {
+            Some(names) => {
+                let named = NamedText { names, text: notes }.to_string(self.alloc)?;
+                note_list(self.alloc, named.as_str())?
+            }
+            None => note_list(self.alloc, notes)?,
+        };
         self.add_member("notes", list)
     }
 

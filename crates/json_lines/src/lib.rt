@@ -14,9 +14,12 @@ mod json_lines;
 mod line;
 mod lists;
 mod message_object;
+mod names;
 mod record_object;
+mod schema_object;
 mod step_object;
 mod wire_object;
 
 pub use json_lines::{JsonFault, JsonLines, OUT_OF_MEMORY};
 pub use line::Line;
+pub use schema_object::bad_schema_object;

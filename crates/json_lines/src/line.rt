@@ -4,6 +4,7 @@ use crate::answer_object::answer_object;
 use crate::edge_object::edge_object;
 use crate::record_object::record_object;
 use crate::step_object::step_object;
+use exception_reasons::{Reason, record_reason};
 use report_lines::{Answer, DotBound, DotEdge, NumberedRecord, NumberedStep, ShownEdge};
 use serde_json::Value;
 use std::alloc::{AllocError, Global};
@@ -16,6 +17,15 @@ pub trait Line {
     ///
     /// Out of memory.
     fn object(&self, alloc: Global) -> Result<Option<Value>, AllocError>;
+
+    /// The reason of the exception that the line tells of. None where it tells of none.
+    ///
+    /// # Errors
+    ///
+    /// Out of memory.
+    fn reason(&self, _alloc: Global) -> Result<Option<Reason>, AllocError> {
+        Ok(None)
+    }
 }
 
 impl Line for Answer {
@@ -27,6 +37,10 @@ impl Line for Answer {
 impl Line for NumberedRecord<'_> {
     fn object(&self, alloc: Global) -> Result<Option<Value>, AllocError> {
         Ok(Some(record_object(alloc, self)?))
+    }
+
+    fn reason(&self, alloc: Global) -> Result<Option<Reason>, AllocError> {
+        record_reason(alloc, self.body)
     }
 }
 

@@ -4,6 +4,7 @@ use crate::answer_object::answer_object;
 use crate::lists::{interface_text, number_list, put_member};
 use crate::message_object::path_list;
 use cap_frame::Path;
+use exception_reasons::record_reason;
 use report_lines::NumberedRecord;
 use serde_json::{Value, json};
 use std::alloc::{AllocError, Global};
@@ -141,6 +142,14 @@ pub(crate) fn record_object(
             &mut object,
             "message",
             answer_object(alloc, message)?,
+        )?;
+    }
+    if let Some(reason) = record_reason(alloc, shown.body)? {
+        put_member(
+            alloc,
+            &mut object,
+            "reason",
+            Value::String(format!(in alloc; "{reason}")?),
         )?;
     }
     Ok(object)

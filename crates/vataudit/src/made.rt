@@ -1,9 +1,11 @@
 //! What a command writes beside its lines.
 
+use crate::named_file::NamedFile;
 use crate::new_file::NewFile;
 use crate::new_folder::NewFolder;
 use case_files::{CASE_FILE, file_names};
 use command_line::Command;
+use schema_names::Names;
 use std::alloc::{AllocError, Global};
 use std::io;
 use std::io::Write;
@@ -13,6 +15,7 @@ use std::rt::Files;
 #[derive(Drop)]
 pub enum Made<'a, R: Files> {
     File(NewFile<'a, R>),
+    Drawn(NamedFile<'a, R>),
     Folder(NewFolder<'a, R>),
 }
 
@@ -36,12 +39,20 @@ fn wire_names(alloc: Global) -> Result<Vec<String>, AllocError> {
 }
 
 impl<'a, R: Files + AllocGlobal> Made<'a, R> {
-    /// What a command writes, which isn't made yet.
+    /// What a command writes, which isn't made yet. What it draws has these names, if there are any.
     ///
     /// # Errors
     ///
     /// Out of memory, for the paths of a folder's files.
-    pub fn of(rt: &'a R, command: &Command<'a>) -> Result<Made<'a, R>, AllocError> {
+    pub fn of(
+        rt: &'a R,
+        command: &Command<'a>,
+        names: Option<&'a Names>,
+    ) -> Result<Made<'a, R>, AllocError> {
+        if let (Command::Draw { out: name, .. }, Some(names)) = (command, names) {
+            let file = NewFile::new(rt, Some(*name));
+            return Ok(Made::Drawn(NamedFile::new(names, file)));
+        }
         match command {
             Command::Wire {
                 out: Some(name),
@@ -63,6 +74,7 @@ impl<R: Files + AllocGlobal> Write for Made<'_, R> {
     fn write(&mut self, buf: &[u8]) -> io::Result<usize> {
         match self {
             Made::File(file) => file.write(buf),
+            Made::Drawn(file) => file.write(buf),
             Made::Folder(folder) => folder.write(buf),
         }
     }
@@ -70,6 +82,7 @@ impl<R: Files + AllocGlobal> Write for Made<'_, R> {
     fn flush(&mut self) -> io::Result<()> {
         match self {
             Made::File(file) => file.flush(),
+            Made::Drawn(file) => file.flush(),
             Made::Folder(folder) => folder.flush(),
         }
     }

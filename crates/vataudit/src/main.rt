@@ -12,7 +12,7 @@
 //!
 //! It stands on `command_line`, which reads the words, and on `command_run`, which runs the command that they spell
 //! and says in its specs/Runs.antt what a run prints. Here are the files: those that are read are a `Source` of
-//! `case_files`, which remembers what it read where notes are wanted (file.rt), and what is made is written to a new one (new_file.rt), or to a new folder (new_folder.rt).
+//! `case_files`, which remembers what it read where notes are wanted (file.rt), and what is made is written to a new one (new_file.rt; with names, named_file.rt), or to a new folder (new_folder.rt).
 #![tactic(auto)]
 
 ghost use Rattle.std.specs.Prelude.{◌≡◌, ◌≢◌, ◌⊎◌};
@@ -23,25 +23,30 @@ ghost use Rattle.report_lines.specs.Faults.{fault_status};
 mod file;
 mod made;
 mod manner;
+mod named_file;
 mod new_file;
 mod new_folder;
 mod progress;
 mod proved_by;
+mod schemas;
 mod watched;
 
 use clap::error::ErrorKind;
 use command_line::{Command, command_of};
 use command_run::{
-    FAILED, JsonOutput, NotedSource, Unwatched, run_as_json, run_as_json_with_notes, run_on,
-    run_with_notes,
+    FAILED, JsonOutput, NotedSource, SearchingSource, Telling, ToldLines, Unwatched, Watch,
+    run_as_json, run_as_json_with_notes, run_on, run_telling, run_with_notes,
 };
 use file::{Folder, RememberingFolder};
 use json_lines::OUT_OF_MEMORY;
 use made::Made;
-use manner::take_manner;
+use manner::{Manner, take_manner};
 use progress::RunProgress;
 use proved_by::ProgramVersion;
 use report_lines::Fault;
+use schema_names::Names;
+use schemas::{SchemaFault, names_of, say_bad_schema};
+use std::alloc::{AllocError, Global};
 use std::io::{IsTerminal, Write};
 use std::process::ExitCode;
 use std::rt::Files;
@@ -135,9 +140,39 @@ fn run_quietly<R: Threads + Wait + Sync + Files + Input + AllocGlobal, W: Write>
     run_on(rt, rt.alloc(), command, &mut folder, out, made)
 }
 
-/// Runs a command with lines as text and with notes.
+/// Whether something is told besides in lines, so that they aren't what they are without it.
+fn tells_more(telling: Telling<'_>) -> bool {
+    telling.names.is_some() || telling.has_reasons
+}
+
+/// Runs a command with lines and notes as text, with names and reasons where these are told.
+fn run_noted<
+    R: Threads + Wait + Sync + Files + Input + AllocGlobal,
+    G: Watch + Sync,
+    S: SearchingSource,
+    W: Write,
+    N: Write,
+>(
+    rt: &R,
+    telling: Telling<'_>,
+    command: &Command<'_>,
+    noted: &mut NotedSource<'_, S, N, G>,
+    out: &mut W,
+    made: &mut Made<'_, R>,
+) -> u8
+    requires { HasWorkers command.now }
+{
+    if !tells_more(telling) {
+        return run_with_notes(rt, rt.alloc(), command, noted, out, made);
+    }
+    let mut lines = ToldLines::new(rt.alloc(), telling, out);
+    run_telling(rt, rt.alloc(), command, noted, &mut lines, made)
+}
+
+/// Runs a command with lines and notes as text, and tells nothing of its progress.
 fn run_plainly<R: Threads + Wait + Sync + Files + Input + AllocGlobal, W: Write, N: Write + Drop>(
     rt: &R,
+    telling: Telling<'_>,
     command: &Command<'_>,
     out: &mut W,
     made: &mut Made<'_, R>,
@@ -150,16 +185,23 @@ fn run_plainly<R: Threads + Wait + Sync + Files + Input + AllocGlobal, W: Write,
         notes,
         watch: &Unwatched,
     };
-    run_with_notes(rt, rt.alloc(), command, &mut noted, out, made)
+    run_noted(rt, telling, command, &mut noted, out, made)
 }
 
-/// Runs a command with lines as text and with notes, and tells of its progress meanwhile. Where no thread can be started it
-/// tells nothing.
+/// Runs a command with lines and notes as text, and tells of its progress meanwhile. Where no thread can be started it tells
+/// nothing.
 fn run_with_progress<
     R: Threads + Wait + Clock + Sync + Files + Input + Eprint + AllocGlobal,
     W: Write,
     N: Write + Drop,
->(rt: &R, command: &Command<'_>, out: &mut W, made: &mut Made<'_, R>, notes: N) -> u8
+>(
+    rt: &R,
+    telling: Telling<'_>,
+    command: &Command<'_>,
+    out: &mut W,
+    made: &mut Made<'_, R>,
+    notes: N,
+) -> u8
     requires { HasWorkers command.now }
 {
     let progress = RunProgress::new();
@@ -188,18 +230,30 @@ fn run_with_progress<
             requires { HasWorkers command.now }
         {
             let _ = scope.spawn(move || shared.tell(rt));
-            let alloc = rt.alloc();
-            let status = run_with_notes(rt, alloc, command, &mut noted, &mut lines, made);
+            let status = run_noted(rt, telling, command, &mut noted, &mut lines, made);
             shared.wipe(rt);
             status
         },
     )
 }
 
+/// An output of lines as JSON objects, with names where these are told.
+fn json_output<'a, W: Write>(
+    alloc: Global,
+    telling: Telling<'a>,
+    out: &'a mut W,
+) -> JsonOutput<'a, W> {
+    let lines = JsonOutput::new(alloc, out);
+    match telling.names {
+        Some(names) => lines.with_names(names),
+        None => lines,
+    }
+}
+
 /// Runs a command with lines as JSON objects, the last of which has the notes where none asks for quiet.
 fn run_in_json<R: Threads + Wait + Sync + Files + Input + AllocGlobal, W: Write>(
     rt: &R,
-    is_quiet: bool,
+    telling: Telling<'_>,
     command: &Command<'_>,
     out: &mut W,
     made: &mut Made<'_, R>,
@@ -207,13 +261,109 @@ fn run_in_json<R: Threads + Wait + Sync + Files + Input + AllocGlobal, W: Write>
     requires { HasWorkers command.now }
 {
     let alloc = rt.alloc();
-    let mut lines = JsonOutput::new(alloc, out);
-    if is_quiet {
+    let mut lines = json_output(alloc, telling, out);
+    if telling.is_quiet {
         let mut folder = Folder::new(rt);
         return run_as_json(rt, alloc, command, &mut folder, &mut lines, made);
     }
     let mut folder = RememberingFolder::new(rt);
     run_as_json_with_notes(rt, alloc, command, &mut folder, &mut lines, made)
+}
+
+/// Runs a command with lines as text, and gives the exit status.
+fn run_in_text<
+    R: Threads + Wait + Clock + Sync + Files + Input + Print + Eprint + AllocGlobal,
+    W: Write,
+    N: Write + IsTerminal + Drop,
+>(
+    rt: &R,
+    telling: Telling<'_>,
+    command: &Command<'_>,
+    out: &mut W,
+    made: &mut Made<'_, R>,
+    notes: N,
+) -> u8
+    requires { HasWorkers command.now }
+{
+    if telling.is_quiet && !tells_more(telling) {
+        run_quietly(rt, command, out, made)
+    } else if !telling.is_quiet && notes.is_terminal() && may_take_long(command) {
+        run_with_progress(rt, telling, command, out, made, notes)
+    } else {
+        run_plainly(rt, telling, command, out, made, notes)
+    }
+}
+
+/// Prints why a schema isn't read, and gives the exit status.
+fn refuse_schema<R: Print + Eprint + AllocGlobal>(
+    rt: &R,
+    manner: &Manner,
+    file: &str,
+    fault: SchemaFault,
+) -> u8 {
+    let said = match fault {
+        SchemaFault::Bad(why) => say_bad_schema(rt, file, why, manner),
+        SchemaFault::OutOfMemory => Err(AllocError),
+    };
+    match said {
+        Ok(()) => FAILED,
+        Err(AllocError) => out_of_memory(rt, manner.is_json),
+    }
+}
+
+/// Runs a command in a manner, with these names where any are asked for, and gives the exit status.
+fn run_named<
+    R: Threads + Wait + Clock + Sync + Files + Input + Print + Eprint + AllocGlobal,
+    W: Write,
+    N: Write + IsTerminal + Drop,
+>(
+    rt: &R,
+    manner: &Manner,
+    names: Option<&Names>,
+    command: &Command<'_>,
+    out: &mut W,
+    notes: N,
+) -> u8
+    requires { HasWorkers command.now }
+{
+    let Ok(mut made) = Made::of(rt, command, names) else {
+        return out_of_memory(rt, manner.is_json);
+    };
+    let telling = Telling {
+        names,
+        has_reasons: manner.has_reasons,
+        is_quiet: manner.is_quiet,
+    };
+    if manner.is_json {
+        run_in_json(rt, telling, command, out, &mut made)
+    } else {
+        run_in_text(rt, telling, command, out, &mut made, notes)
+    }
+}
+
+/// The names, where a schema is asked for.
+fn asked_names<'a>(manner: &Manner, names: &'a Names) -> Option<&'a Names> {
+    if manner.schemas.is_empty() {
+        return None;
+    }
+    Some(names)
+}
+
+/// Runs a command in a manner, with the names of the schemas that are asked for, and gives the exit status.
+fn run_in<
+    R: Threads + Wait + Clock + Sync + Files + Input + Print + Eprint + AllocGlobal,
+    W: Write,
+    N: Write + IsTerminal + Drop,
+>(rt: &R, manner: &Manner, command: &Command<'_>, out: &mut W, notes: N) -> u8
+    requires { HasWorkers command.now }
+{
+    match names_of(rt, &manner.schemas) {
+        Ok(names) => {
+            let names = asked_names(manner, &names);
+            run_named(rt, manner, names, command, out, notes)
+        }
+        Err((file, fault)) => refuse_schema(rt, manner, file, fault),
+    }
 }
 
 /// Does what the words ask, writes its lines to `out` and, where none asks for quiet, notes to `notes`, or both as JSON
@@ -226,22 +376,12 @@ fn start<
     if asks_version(words) {
         return say_version(out);
     }
-    let manner = take_manner(words);
-    let command = match command_of(rt.alloc(), words) {
-        Ok(command) => command,
-        Err(error) => return help_or_refuse(rt, &error, manner.is_json),
+    let Ok(manner) = take_manner(rt.alloc(), words) else {
+        return out_of_memory(rt, false);
     };
-    let Ok(mut made) = Made::of(rt, &command) else {
-        return out_of_memory(rt, manner.is_json);
-    };
-    if manner.is_json {
-        run_in_json(rt, manner.is_quiet, &command, out, &mut made)
-    } else if manner.is_quiet {
-        run_quietly(rt, &command, out, &mut made)
-    } else if notes.is_terminal() && may_take_long(&command) {
-        run_with_progress(rt, &command, out, &mut made, notes)
-    } else {
-        run_plainly(rt, &command, out, &mut made, notes)
+    match command_of(rt.alloc(), words) {
+        Ok(command) => run_in(rt, &manner, &command, out, notes),
+        Err(error) => help_or_refuse(rt, &error, manner.is_json),
     }
 }
 

@@ -146,13 +146,34 @@ fn put_counts(text: &mut String, log: &OpenLog<'_>) -> Result<(), AllocError> {
     write!(text, "note: open at the end of vat {vat}: {counts}\n")
 }
 
-/// Appends the notes of what is open at the end of a log.
+/// Appends the notes of the aborts of a log.
+fn put_aborts(
+    alloc: Global,
+    text: &mut String,
+    case: &OpenCase<'_>,
+    log: &OpenLog<'_>,
+) -> Result<(), AllocError> {
+    let vat = log.log.vat();
+    let mut count = 0_usize;
+    for abort in log.aborts.iter() {
+        if abort.is_told(case, vat) {
+            if count < MOST {
+                abort.put(alloc, text, log)?;
+            }
+            count = count.saturating_add(1);
+        }
+    }
+    put_more(text, log, count, "aborts")
+}
+
+/// Appends the notes of what is open at the end of a log, and of its aborts, which may be why.
 fn put_log(
     alloc: Global,
     text: &mut String,
     case: &OpenCase<'_>,
     log: &OpenLog<'_>,
 ) -> Result<(), AllocError> {
+    put_aborts(alloc, text, case, log)?;
     put_questions(alloc, text, case, log)?;
     put_loopbacks(text, case, log)?;
     put_promises(text, log)?;

@@ -1,5 +1,6 @@
 //! What is open at the end, where nothing is wrong.
 
+mod aborts;
 pub(crate) mod at_end;
 mod call_ways;
 mod fates;

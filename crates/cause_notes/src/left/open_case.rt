@@ -1,5 +1,6 @@
 //! What is open at the end of each log of a case.
 
+use crate::left::aborts::{Aborted, aborts_in};
 use crate::left::fates::{Fate, fates_in};
 use crate::left::passed::{Passed, passed_in};
 use crate::logs::vat_of;
@@ -20,7 +21,7 @@ pub(super) struct Received {
 }
 
 /// A log and what is open at its end; the questions without a Return that a peer asked of it, their calls by rising number, and
-/// what became of these; and what passed on each of its connections.
+/// what became of these; what passed on each of its connections; and its aborts.
 #[derive(Drop)]
 pub(crate) struct OpenLog<'a> {
     pub(super) log: &'a VatLog,
@@ -29,6 +30,7 @@ pub(crate) struct OpenLog<'a> {
     calls: Vec<u64>,
     fates: BTreeMap<u64, Fate>,
     passed: BTreeMap<u32, Passed>,
+    pub(super) aborts: Vec<Aborted>,
 }
 
 /// The questions without a Return that a peer asked.
@@ -79,6 +81,7 @@ impl<'a> OpenLog<'a> {
         let calls = calls_asked(alloc, list.as_slice())?;
         let fates = fates_in(alloc, events, calls.as_slice())?;
         let passed = passed_in(alloc, events)?;
+        let aborts = aborts_in(alloc, events)?;
         Ok(Some(OpenLog {
             log,
             list,
@@ -86,6 +89,7 @@ impl<'a> OpenLog<'a> {
             calls,
             fates,
             passed,
+            aborts,
         }))
     }
 

@@ -1,6 +1,7 @@
 //! What is sent behind an abort.
 
 use crate::past::records_before::Past;
+use crate::reading::put_reason;
 use rpc_view::RpcMessage;
 use std::alloc::AllocError;
 use std::fmt::Write;
@@ -30,6 +31,21 @@ fn abort_on(past: &Past<'_>, connection: u32, sent: bool) -> Option<usize> {
     found
 }
 
+/// Notes an abort, which was sent or received so, if there is one, and its reason.
+fn put_abort(
+    past: &Past<'_>,
+    text: &mut String,
+    abort: Option<usize>,
+    passed: &str,
+) -> Result<(), AllocError> {
+    let Some(at) = abort else {
+        return Ok(());
+    };
+    write!(text, "note: record {at} {passed} an abort there")?;
+    put_reason(past.alloc, text, past.log, at, ": ")?;
+    text.push('\n')
+}
+
 /// Notes the abort behind which the record is sent.
 pub(crate) fn put_closed(past: &Past<'_>, text: &mut String) -> Result<(), AllocError> {
     let DecodedRecord::Wire {
@@ -42,12 +58,8 @@ pub(crate) fn put_closed(past: &Past<'_>, text: &mut String) -> Result<(), Alloc
     };
     let sent = abort_on(past, *connection, true);
     let received = abort_on(past, *connection, false);
-    if let Some(at) = sent {
-        write!(text, "note: record {at} sent an abort there\n")?;
-    }
-    if let Some(at) = received {
-        write!(text, "note: record {at} received an abort there\n")?;
-    }
+    put_abort(past, text, sent, "sent")?;
+    put_abort(past, text, received, "received")?;
     let answers = matches!(message, RpcMessage::Abort) && received.is_some() && sent.is_none();
     if answers {
         write!(

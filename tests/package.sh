@@ -164,7 +164,7 @@ def of_page(text):
     forms = {}
     for head in re.findall(r"^\.TP\n(.*)", parts["COMMANDS"], re.M):
         command, *rest = re.findall(r"\[[^]]*\]|--[a-z-]+(?: [A-Z]+)?|\S+", head)
-        forms[command] = set(rest)
+        forms[command] = set(rest) - {".."}
     return forms, set(re.findall(r"--[a-z-]+", " ".join(re.findall(r"^\.TP\n(.*)", parts["OPTIONS"], re.M)))), text
 
 

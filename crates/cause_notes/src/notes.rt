@@ -4,7 +4,7 @@ use crate::cases::call_order::put_order_cause;
 use crate::cases::link_notes::{put_counterpart, put_received};
 use crate::cases::other_findings::{put_links, put_others};
 use crate::heard::{Heard, HeardAnswer};
-use crate::inputs::bad_input::{message_sentence, put_fault};
+use crate::inputs::bad_input::{message_sentence, put_fault, put_left_out};
 use crate::inputs::unread::SearchingSource;
 use crate::joins::put_join;
 use crate::left::at_end::events_of;
@@ -16,8 +16,9 @@ use crate::reading::message_at;
 use crate::row_limit::put_limit;
 use crate::rules::rule_notes::put_rule_cause;
 use crate::wires::wire_notes::put_wire;
-use audit_core::Breach;
+use audit_core::{Breach, find_alone};
 use bytes::Bytes;
+use case_book::{Case, Findings};
 use report_lines::Fault;
 use serde_json::Value;
 use std::alloc::{AllocError, Global};
@@ -117,9 +118,42 @@ fn put_told(
         | HeardAnswer::Fault(_)
         | HeardAnswer::Wire
         | HeardAnswer::Join
+        | HeardAnswer::Cut { .. }
         | HeardAnswer::Yes
         | HeardAnswer::GoodLog => Ok(()),
     }
+}
+
+/// Whether notes of this tell of what was found of logs and links.
+fn tells_of_findings(told: HeardAnswer) -> bool {
+    matches!(
+        told,
+        HeardAnswer::Broken { .. } | HeardAnswer::Outside { .. } | HeardAnswer::Link { .. }
+    )
+}
+
+/// What is found of each log and each link of a case whose line says no.
+fn findings_of(alloc: Global, case: &Case) -> Result<Option<Findings>, AllocError> {
+    if case.tie_fault().is_some() {
+        return Ok(None);
+    }
+    Ok(Some(find_alone(alloc, case.copy(alloc)?)?))
+}
+
+/// Appends the notes of a no or of an outside of a case of which the line alone was found: the rest is found once more.
+fn put_of_case<S: SearchingSource>(
+    alloc: Global,
+    text: &mut String,
+    source: &S,
+    case: &Case,
+    told: HeardAnswer,
+) -> Result<(), AllocError> {
+    let found = findings_of(alloc, case)?;
+    let logs = Logs {
+        files: source.kept(),
+        findings: found.as_ref(),
+    };
+    put_told(alloc, text, &logs, told)
 }
 
 /// Appends the notes beside an answer that isn't good and no fault, a line each.
@@ -134,6 +168,12 @@ fn put_bad<S: SearchingSource>(
     }
     if let (HeardAnswer::Join, Some(note)) = (heard.told, heard.join) {
         return put_join(text, source.kept(), note);
+    }
+    if let HeardAnswer::Cut { fault, end } = heard.told {
+        return put_left_out(text, source, fault, end);
+    }
+    if let (Some(case), true) = (&heard.case, tells_of_findings(heard.told)) {
+        return put_of_case(alloc, text, source, case, heard.told);
     }
     let logs = Logs {
         files: source.kept(),
@@ -233,6 +273,10 @@ pub fn notes_of<S: SearchingSource>(
     put_limit(&mut text, heard.limit)?;
     if let (HeardAnswer::Yes, Some(findings)) = (heard.told, &heard.findings) {
         let found = OpenCase::of_findings(alloc, findings, source.kept())?;
+        return Notes::of_found(alloc, text, found, form);
+    }
+    if let (HeardAnswer::Yes, Some(case)) = (heard.told, &heard.case) {
+        let found = OpenCase::of_case(alloc, case, source.kept())?;
         return Notes::of_found(alloc, text, found, form);
     }
     if let (HeardAnswer::GoodLog, Some(log)) = (heard.told, &heard.log) {

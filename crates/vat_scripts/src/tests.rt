@@ -4,6 +4,7 @@
 mod audits;
 mod books;
 mod cases;
+mod deliveries;
 mod edges;
 mod ends;
 mod faults;
@@ -20,6 +21,7 @@ mod open_ends;
 mod orders;
 mod pointers;
 mod prefixes;
+mod readers;
 mod rules;
 mod runs;
 mod states;

@@ -147,6 +147,26 @@ fn put_bad<S: RememberingSource>(
     }
 }
 
+/// Appends the notes of what is left out of the log that was read last, behind its whole records, which have so many bytes; and
+/// why.
+pub(crate) fn put_left_out<S: RememberingSource>(
+    text: &mut String,
+    source: &S,
+    fault: LogError,
+    end: usize,
+) -> Result<(), AllocError> {
+    let Some((name, bytes)) = last_file(source) else {
+        return Ok(());
+    };
+    let name = name.escape_debug();
+    let left = bytes.len().saturating_sub(end);
+    write!(
+        text,
+        "note: the last {left} bytes of {name} are left out, from byte {end} on\n"
+    )?;
+    put_log_fault(text, fault, bytes.len())
+}
+
 /// Appends the note of a word that isn't hexadecimal.
 fn put_hex(alloc: Global, text: &mut String, hex: Option<&str>) -> Result<(), AllocError> {
     let Some(hex) = hex else {

@@ -1,11 +1,12 @@
 //! What is open at the end of each log of a case.
 
 use crate::left::aborts::{Aborted, aborts_in};
+use crate::left::at_end::events_of;
 use crate::left::fates::{Fate, fates_in};
 use crate::left::passed::{Passed, passed_in};
 use crate::logs::vat_of;
 use bytes::Bytes;
-use case_book::{Findings, Link};
+use case_book::{Case, Findings, Link};
 use left_open::{Open, open_at_end};
 use std::alloc::{AllocError, Global};
 use std::collections::BTreeMap;
@@ -160,6 +161,26 @@ impl<'a> OpenCase<'a> {
             logs.push(open)?;
         }
         let links = findings.case().links();
+        Ok(Some(OpenCase { logs, links, files }))
+    }
+
+    /// What is open in a case, whose frames are read once more, log by log. None where a log isn't good.
+    pub(crate) fn of_case(
+        alloc: Global,
+        case: &'a Case,
+        files: &'a [(String, Bytes)],
+    ) -> Result<Option<OpenCase<'a>>, AllocError> {
+        let mut logs = Vec::new(alloc);
+        for log in case.logs() {
+            let Some(events) = events_of(alloc, log)? else {
+                return Ok(None);
+            };
+            let Some(open) = OpenLog::of(alloc, log, events.as_slice())? else {
+                return Ok(None);
+            };
+            logs.push(open)?;
+        }
+        let links = case.links();
         Ok(Some(OpenCase { logs, links, files }))
     }
 

@@ -207,22 +207,23 @@ def several(lost):
     return talk
 
 
+def one_missing(lost, message):
+    """The call of this name, the message of this number, never comes to the store, and others come behind it."""
+    talk = several(lost)
+    return talk, f"no link 1 end 3 message {message}", [
+        record_of(talk, f"{lost} sent"),
+        f"note: message {message} of vat 2 is missing at vat 3; the rest comes one earlier",
+    ], ["are those that vat"]
+
+
 def dropped_first():
     """The first of three calls never comes to the store."""
-    talk = several("first")
-    return talk, "no link 1 end 3 message 3", [
-        record_of(talk, "first sent"),
-        "note: message 3 of vat 2 is missing at vat 3; the rest comes one earlier",
-    ], ["are those that vat"]
+    return one_missing("first", 3)
 
 
 def dropped_middle():
     """The second of three calls never comes to the store."""
-    talk = several("second")
-    return talk, "no link 1 end 3 message 4", [
-        record_of(talk, "second sent"),
-        "note: message 4 of vat 2 is missing at vat 3; the rest comes one earlier",
-    ], ["are those that vat"]
+    return one_missing("second", 4)
 
 
 def dropped_last():

@@ -11,9 +11,14 @@ use vat_view::TableKey;
 
 /// Where what goes under each number began that isn't over: in which record, and at which place there, both counted from
 /// 0.
-#[derive(Drop)]
 pub(crate) struct Begun {
     entries: BTreeMap<TableKey, (usize, usize)>,
+}
+
+impl Drop for Begun {
+    fn drop(self) {
+        let Self { entries: _ } = self;
+    }
 }
 
 impl Begun {

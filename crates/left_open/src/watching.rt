@@ -16,7 +16,6 @@ use std::alloc::{AllocError, Global};
 use vat_view::{DecodedRecord, Number, TableKey, VatState};
 
 /// Where what may be open began.
-#[derive(Drop)]
 pub(crate) struct Watched {
     /// The questions without a Return.
     pub(crate) questions: Begun,
@@ -26,6 +25,17 @@ pub(crate) struct Watched {
     pub(crate) loopbacks: Begun,
     /// The last life of each export and import.
     pub(crate) lives: Begun,
+}
+
+impl Drop for Watched {
+    fn drop(self) {
+        let Self {
+            questions: _,
+            unfinished: _,
+            loopbacks: _,
+            lives: _,
+        } = self;
+    }
 }
 
 /// How often an export or import is held.

@@ -10,7 +10,7 @@ use crate::results::Results;
 use std::alloc::AllocError;
 
 /// What a message says of calls and capabilities, without the numbers of its connection (rpc.capnp, `Message`).
-#[derive(Debug, Drop)]
+#[derive(Debug)]
 pub enum Message {
     /// A Bootstrap. It is a call of the vat that sends it, which is never at a vat.
     Boot(Name),
@@ -53,6 +53,33 @@ pub enum Message {
     Broken(Cap),
     /// Any other message of level 1.
     Plain(Plain),
+}
+
+impl Drop for Message {
+    fn drop(self) {
+        match self {
+            Self::Boot(_) => {}
+            Self::Call {
+                call: _,
+                target: _,
+                interface: _,
+                method: _,
+                caps: _,
+            } => {}
+            Self::Return {
+                call: _,
+                results: _,
+                caps: _,
+            } => {}
+            Self::Late(_) => {}
+            Self::Failed(_) => {}
+            Self::Taken(_, _) => {}
+            Self::Elsewhere(_) => {}
+            Self::Resolve(_, _) => {}
+            Self::Broken(_) => {}
+            Self::Plain(_) => {}
+        }
+    }
 }
 
 impl Message {

@@ -6,9 +6,15 @@ use crate::step::Step;
 use std::marker::Model;
 
 /// A run: the steps of all vats, in one order. Contracts see it as the list of these.
-#[derive(Debug, Drop)]
+#[derive(Debug)]
 pub struct Run {
     steps: Vec<Step>,
+}
+
+impl Drop for Run {
+    fn drop(self) {
+        let Self { steps: _ } = self;
+    }
 }
 
 impl Model for Run {

@@ -10,7 +10,7 @@ use crate::name::Name;
 use crate::results::Results;
 
 /// What one vat does, which is one record of its log. Every step names its vat by the vat number.
-#[derive(Debug, Drop)]
+#[derive(Debug)]
 pub enum Step {
     /// The vat hosts an object of its own.
     Host {
@@ -118,6 +118,57 @@ pub enum Step {
         /// The capabilities that the vat has by it from then on, in the order of their places.
         bound: Caps,
     },
+}
+
+impl Drop for Step {
+    fn drop(self) {
+        match self {
+            Self::Host { vat: _, object: _ } => {}
+            Self::Vow { vat: _, promise: _ } => {}
+            Self::Fulfil {
+                vat: _,
+                promise: _,
+                to: _,
+            } => {}
+            Self::Break { vat: _, promise: _ } => {}
+            Self::Make {
+                vat: _,
+                number: _,
+                cap: _,
+                reference: _,
+                interface: _,
+                method: _,
+            } => {}
+            Self::Name { vat: _, cap: _ } => {}
+            Self::Deliver {
+                vat: _,
+                call: _,
+                object: _,
+            } => {}
+            Self::Answer {
+                vat: _,
+                call: _,
+                results: _,
+            } => {}
+            Self::AnswerBy {
+                vat: _,
+                call: _,
+                by: _,
+            } => {}
+            Self::Fault { vat: _, call: _ } => {}
+            Self::Send {
+                vat: _,
+                connection: _,
+                message: _,
+            } => {}
+            Self::Receive {
+                vat: _,
+                connection: _,
+                message: _,
+                bound: _,
+            } => {}
+        }
+    }
 }
 
 /// Whose step it is, by the vat number.

@@ -11,11 +11,21 @@ use std::sync::Arc;
 use vat_log::VatLog;
 
 /// What the audit of a log finds within limits. The outcome of every finding is what the rules say of its log.
-#[derive(Debug, Drop)]
+#[derive(Debug)]
 pub struct VatFinding {
     log: Arc<VatLog>,
     limits: Limits,
     outcome: Outcome,
+}
+
+impl Drop for VatFinding {
+    fn drop(self) {
+        let Self {
+            log: _,
+            limits: _,
+            outcome: _,
+        } = self;
+    }
 }
 
 impl Model for VatFinding {

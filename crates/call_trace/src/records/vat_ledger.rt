@@ -14,7 +14,6 @@ use vat_rules::{Outcome, VatFinding};
 use vat_view::View;
 
 /// What is kept of a vat, by its records that took a step.
-#[derive(Drop)]
 pub(crate) struct VatLedger {
     /// The vat.
     pub(crate) vat: u32,
@@ -22,6 +21,16 @@ pub(crate) struct VatLedger {
     pub(crate) numbers: Vec<usize>,
     /// The names of its calls.
     pub(crate) calls: CallNames,
+}
+
+impl Drop for VatLedger {
+    fn drop(self) {
+        let Self {
+            vat: _,
+            numbers: _,
+            calls: _,
+        } = self;
+    }
 }
 
 /// The message that a step sends or receives.

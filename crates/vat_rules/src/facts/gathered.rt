@@ -8,10 +8,19 @@ use std::marker::Model;
 use vat_view::DecodedRecord;
 
 /// The records of a log so far, each with what its numbers stand for. Contracts see the list of these, in their order.
-#[derive(Debug, Drop)]
+#[derive(Debug)]
 pub(crate) struct Gathered {
     events: Vec<DecodedRecord>,
     facts: Vec<RecordFacts>,
+}
+
+impl Drop for Gathered {
+    fn drop(self) {
+        let Self {
+            events: _,
+            facts: _,
+        } = self;
+    }
 }
 
 impl Model for Gathered {

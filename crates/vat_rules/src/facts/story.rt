@@ -8,10 +8,19 @@ use std::marker::Model;
 use vat_view::DecodedRecord;
 
 /// What a good log tells: each record with what its numbers stand for, and how many calls were delivered.
-#[derive(Debug, Drop)]
+#[derive(Debug)]
 pub struct Story {
     gathered: Gathered,
     delivered: u64,
+}
+
+impl Drop for Story {
+    fn drop(self) {
+        let Self {
+            gathered: _,
+            delivered: _,
+        } = self;
+    }
 }
 
 impl Model for Story {

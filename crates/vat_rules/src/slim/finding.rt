@@ -36,11 +36,21 @@ pub enum SlimOutcome {
 
 /// What the audit of a log finds within limits, without the log's records. The outcome of every finding is what the rules
 /// say of its log.
-#[derive(Debug, Drop)]
+#[derive(Debug)]
 pub struct SlimFinding {
     log: Arc<VatLog>,
     limits: Limits,
     outcome: SlimOutcome,
+}
+
+impl Drop for SlimFinding {
+    fn drop(self) {
+        let Self {
+            log: _,
+            limits: _,
+            outcome: _,
+        } = self;
+    }
 }
 
 impl Model for SlimFinding {

@@ -10,11 +10,20 @@ use vat_view::DecodedRecord;
 
 /// What a good log tells, of which only how many records it has and how many calls were delivered are kept. Contracts
 /// see all that the log tells, as of a [`Story`](crate::Story).
-#[derive(Drop)]
 pub struct SlimStory {
     past: Erased<DecodedRecord>,
     records: u64,
     delivered: u64,
+}
+
+impl Drop for SlimStory {
+    fn drop(self) {
+        let Self {
+            past: _,
+            records: _,
+            delivered: _,
+        } = self;
+    }
 }
 
 impl Model for SlimStory {

@@ -5,7 +5,7 @@ use rpc_view::RpcMessage;
 use vat_log::{References, ResultReferences};
 
 /// A record that is judged, with its message read (docs/FORMATS.md). References and calls are the vat's own numbers.
-#[derive(Debug, Drop)]
+#[derive(Debug)]
 pub enum DecodedRecord {
     /// HOST: the vat hosts an object of its own under a reference.
     Host {
@@ -91,4 +91,46 @@ pub enum DecodedRecord {
         /// What the frame says.
         message: RpcMessage,
     },
+}
+
+impl Drop for DecodedRecord {
+    fn drop(self) {
+        match self {
+            Self::Host {
+                reference: _,
+                object: _,
+            } => {}
+            Self::Vow { reference: _ } => {}
+            Self::Fulfil {
+                reference: _,
+                to: _,
+            } => {}
+            Self::Break { reference: _ } => {}
+            Self::Make {
+                call: _,
+                reference: _,
+                interface: _,
+                method: _,
+            } => {}
+            Self::Field {
+                reference: _,
+                call: _,
+                path: _,
+            } => {}
+            Self::Deliver { call: _, object: _ } => {}
+            Self::Answer {
+                call: _,
+                results: _,
+            } => {}
+            Self::AnswerBy { call: _, by: _ } => {}
+            Self::Fault { call: _ } => {}
+            Self::Wire {
+                sent: _,
+                connection: _,
+                call: _,
+                references: _,
+                message: _,
+            } => {}
+        }
+    }
 }

@@ -26,7 +26,6 @@ use crate::tables::waits::waiting_calls::call_taken_by;
 use std::alloc::{AllocError, Global};
 
 /// What is kept of the records that were applied.
-#[derive(Drop)]
 pub(crate) struct AllTables {
     pub(crate) questions: Questions,
     pub(crate) lives: ExportsImports,
@@ -37,6 +36,22 @@ pub(crate) struct AllTables {
     pub(crate) connections: Connections,
     pub(crate) waits: Embargoes,
     pub(crate) arrivals: Arrivals,
+}
+
+impl Drop for AllTables {
+    fn drop(self) {
+        let Self {
+            questions: _,
+            lives: _,
+            bound: _,
+            calls: _,
+            resolves: _,
+            turns: _,
+            connections: _,
+            waits: _,
+            arrivals: _,
+        } = self;
+    }
 }
 
 impl AllTables {

@@ -2,8 +2,9 @@
 # What the gate costs: runs `rt ci` from nothing in a clean clone of what is committed, and prints one line at the end.
 # usage: tests/gate_cost.sh [FOLDER]         (the gate's own lines go to FOLDER/gate.txt, else to a temporary folder)
 # The figure is the last number: the gate's processor minutes over those that cap_reader's proof takes with one job on this
-# machine just before, with nothing kept. Machines differ by more than a factor of two, so minutes of two of them are never
-# compared; docs/TIMES.md has the figures. It takes about an hour and all processors: run nothing beside it.
+# machine just before. It wants a machine on which nothing was proved before, since rt keeps what it proved. Machines differ
+# by more than a factor of two, so minutes of two of them are never compared; docs/TIMES.md has the figures. It takes about
+# two hours and all processors: run nothing beside it.
 set -euo pipefail
 cd "$(dirname "$0")/.."
 room=$(mktemp -d)
@@ -29,13 +30,11 @@ END
     return $status
 }
 
-anew=()
-rt help 2>&1 | grep -q -- --anew && anew=(--anew)
-(cd crates/cap_frame && rt lib "${anew[@]}" >/dev/null 2>&1)
-(cd crates/cap_reader && seconds_of "$room/reader" rt check "${anew[@]}" --jobs 1)
+(cd crates/cap_frame && rt lib >/dev/null 2>&1)
+(cd crates/cap_reader && seconds_of "$room/reader" rt check --jobs 1)
 rm -rf crates/*/out
 failed=0
-seconds_of "$told/gate.txt" rt ci "${anew[@]}" || failed=1
+seconds_of "$told/gate.txt" rt ci --anew || failed=1
 python3 - "$told/gate.txt" "$room/reader" <<'END'
 import re, sys
 last = re.findall(r"^\d+ passed, \d+ failed$", open(sys.argv[1]).read(), re.M)

@@ -22,16 +22,10 @@ use vat_log::VatLog;
 
 /// The logs of some vats, at most [`MAX_VATS`], and the links between them, at most [`MAX_LINKS`]. Each vat has one log, each
 /// connection one link; that they tie up is asked of [`Case::tie_fault`].
-#[derive(Debug)]
+#[derive(Debug, Drop)]
 pub struct Case {
     logs: Vec<Arc<VatLog>>,
     links: Vec<Link>,
-}
-
-impl Drop for Case {
-    fn drop(self) {
-        let Self { logs: _, links: _ } = self;
-    }
 }
 
 /// How many logs a case may have: one for each vat.

@@ -10,21 +10,11 @@ use vat_rules::VatFinding;
 
 /// What is found of a case without a tie fault: each log's audit within the default limits, and each link's comparison.
 /// Contracts see the case too.
-#[derive(Debug)]
+#[derive(Debug, Drop)]
 pub struct Findings {
     case: Case,
     vats: Vec<VatFinding>,
     links: Vec<LinkFinding>,
-}
-
-impl Drop for Findings {
-    fn drop(self) {
-        let Self {
-            case: _,
-            vats: _,
-            links: _,
-        } = self;
-    }
 }
 
 impl Model for Findings {

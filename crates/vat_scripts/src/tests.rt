@@ -1,28 +1,7 @@
-//! Calls that no command reaches, each with memory to be had, and its answer. What is refused memory is asked again, and no
-//! other error is.
+//! What no conversation says of the commands: cases at their limits, logs cut at each byte, sources and writers that fail; and
+//! frames within other limits than theirs, as lines show them. What is refused memory is asked again, and no other error is.
 
-mod audits;
-mod books;
-mod cases;
-mod edges;
-mod ends;
-mod faults;
-mod frames;
-mod given;
 mod limits;
-mod links;
-mod logs;
-mod loopbacks;
-mod machine;
 mod messages;
-mod naming;
-mod open_ends;
-mod orders;
-mod pointers;
 mod prefixes;
-mod rules;
 mod runs;
-mod states;
-mod tables;
-mod taps;
-mod workers;

@@ -1,24 +1,31 @@
 //! Messages within limits and by an edition: each frame, read within so many words and so deep, is shown as the program
 //! shows it.
 
-use super::given::{bytes_of_words, frame};
+use bytes::Bytes;
+use cap_frame::Frame;
 use cap_reader::Limits;
 use report_lines::{Answer, Fault};
 use rpc_view::{Edition, RpcMessage, ViewError, read_bytes, read_message};
 use std::alloc::Global;
 use std::process::Abort;
+use vat_notation::{bytes_of, words_of};
 use worked_cases::{NoAnswer, is_so};
 
 /// A Release of 2 of number 3: 3 words, 2 structs one in another.
-const RELEASE: &str = "400000000 1000100000000 6 100000000 200000003";
+const RELEASE: &str =
+    "0000000004000000 0000000001000100 0600000000000000 0000000001000000 0300000002000000";
 
 /// A Bootstrap with question 0: 4 words, 2 structs one in another.
-const BOOTSTRAP: &str = "500000000 1000100000000 8 1000100000000 0 0";
+const BOOTSTRAP: &str =
+    "0000000005000000 0000000001000100 0800000000000000 0000000001000100 0000000000000000 \
+    0000000000000000";
 
 /// A Return with a table of three descriptors of no words, each of them none: each is visited, for 1 word.
-const TABLE: &str = "900000000 1000100000000 3 1000200000000 0 0 2000000000000 0 700000001 c";
+const TABLE: &str =
+    "0000000009000000 0000000001000100 0300000000000000 0000000002000100 0000000000000000 \
+    0000000000000000 0000000000000200 0000000000000000 0100000007000000 0c00000000000000";
 
-/// Frames by their words, the limits within which they are read, and what is shown.
+/// Frames by their bytes, the limits within which they are read, and what is shown.
 const ROWS: [(&str, u64, u8, &str); 8] = [
     (RELEASE, 3, 2, "release id 3 count 2"),
     (RELEASE, 2, 2, "bad read TooMuch"),
@@ -48,14 +55,23 @@ fn shown(alloc: Global, read: Result<RpcMessage, ViewError>) -> Result<String, N
 /// A frame, and by which edition and within which limits it is read.
 #[derive(Clone, Copy)]
 struct Asked<'a> {
-    words: &'a str,
+    /// The frame's bytes in hexadecimal, word by word.
+    digits: &'a str,
     edition: Edition,
     limits: Limits,
 }
 
+impl Asked<'_> {
+    /// The frame's bytes.
+    fn bytes(&self, alloc: Global) -> Result<Bytes, NoAnswer> {
+        let words = words_of(alloc, self.digits)?;
+        Ok(Bytes::from_vec(bytes_of(alloc, &words)?)?)
+    }
+}
+
 /// What is shown of a frame that is read as a frame.
 fn shown_of_frame(alloc: Global, asked: Asked<'_>) -> Result<String, NoAnswer> {
-    let frame = frame(alloc, asked.words)?;
+    let frame = Frame::read(asked.bytes(alloc)?)?;
     shown(
         alloc,
         read_message(alloc, &frame, asked.limits, asked.edition),
@@ -64,7 +80,7 @@ fn shown_of_frame(alloc: Global, asked: Asked<'_>) -> Result<String, NoAnswer> {
 
 /// What is shown of a frame that is read as bytes.
 fn shown_of_bytes(alloc: Global, asked: Asked<'_>) -> Result<String, NoAnswer> {
-    let bytes = bytes_of_words(alloc, asked.words)?;
+    let bytes = asked.bytes(alloc)?;
     shown(alloc, read_bytes(alloc, bytes, asked.limits, asked.edition))
 }
 
@@ -82,10 +98,10 @@ fn is_shown_at_last(alloc: Global, asked: Asked<'_>, text: &str) -> bool {
 
 #[test]
 fn limits(rt: HostRuntime) {
-    for (frame, words, depth, text) in &ROWS {
+    for (digits, words, depth, text) in &ROWS {
         for edition in [Edition::First, Edition::Later] {
             let asked = Asked {
-                words: frame,
+                digits,
                 edition,
                 limits: Limits {
                     words: *words,
@@ -104,34 +120,38 @@ fn limits(rt: HostRuntime) {
 const LATER: [(&str, &str); 4] = [
     // A Return with results, canceled, and with an unlisted bit.
     (
-        "600000000 1000100000000 3 1000200000000 200000000 0 0",
+        "0000000006000000 0000000001000100 0300000000000000 0000000002000100 0000000002000000 \
+            0000000000000000 0000000000000000",
         "return answer 0 releaseParamCaps true results caps [] fields [] noFinishNeeded",
     ),
     (
-        "600000000 1000100000000 3 1000200000000 2000300000007 0 0",
+        "0000000006000000 0000000001000100 0300000000000000 0000000002000100 0700000003000200 \
+            0000000000000000 0000000000000000",
         "return answer 7 releaseParamCaps false canceled noFinishNeeded",
     ),
     (
-        "600000000 1000100000000 3 1000200000000 600000000 0 0",
+        "0000000006000000 0000000001000100 0300000000000000 0000000002000100 0000000006000000 \
+            0000000000000000 0000000000000000",
         "return answer 0 releaseParamCaps true results caps [] fields [] noFinishNeeded",
     ),
     // A Call for its pipeline alone.
     (
-        "900000000 1000100000000 2 3000300000000 0 0 4 0 0 0",
+        "0000000009000000 0000000001000100 0200000000000000 0000000003000300 0000000000000000 \
+            0000000000000000 0400000000000000 0000000000000000 0000000000000000 0000000000000000",
         "call question 0 target import 0 interface 0000000000000000 method 0 caps [] fields []",
     ),
 ];
 
 #[test]
 fn editions(rt: HostRuntime) {
-    for (words, text) in &LATER {
+    for (digits, text) in &LATER {
         for (edition, text) in [
             (Edition::First, "outside LaterField"),
             (Edition::Later, *text),
         ] {
             let limits = Limits::default();
             let asked = Asked {
-                words,
+                digits,
                 edition,
                 limits,
             };

@@ -2,14 +2,14 @@
 
 use crate::joins::JoinNote;
 use crate::row_limit::RowLimit;
-use crate::wires::wire_found::WireFound;
 use audit_core::{Breach, Report};
 use case_book::Findings;
+use input_notes::WireFound;
 use report_lines::{Answer, Fault, report_sentence, why_sentence};
 use std::mem;
 use std::sync::Arc;
 use vat_log::VatLog;
-use vat_rules::{Outcome, SlimFinding, SlimOutcome, VatFinding};
+use vat_rules::{SlimFinding, SlimOutcome};
 use wire_logs::WireAnswer;
 
 /// What was heard of the answer that was said last.
@@ -108,24 +108,6 @@ fn of_report(report: &Report) -> HeardAnswer {
         },
         Report::OrderStep(_) | Report::NoOrder => HeardAnswer::NoOrder(rule),
         Report::Yes { .. } => HeardAnswer::Yes,
-    }
-}
-
-/// What is said of the finding of a log, as a report says it. None where it is good.
-pub(crate) fn report_of(finding: &VatFinding) -> Option<Report> {
-    let vat = finding.log().vat();
-    match finding.outcome() {
-        Outcome::Good(_) => None,
-        Outcome::Broken { at, rule } => Some(Report::Vat {
-            vat,
-            at: *at,
-            rule: Breach::Rule(*rule),
-        }),
-        Outcome::Outside { at, why } => Some(Report::OutsideVat {
-            vat,
-            at: *at,
-            why: *why,
-        }),
     }
 }
 

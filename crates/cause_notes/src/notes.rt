@@ -1,24 +1,19 @@
 //! The notes beside an answer.
 
-use crate::cases::call_order::put_order_cause;
-use crate::cases::link_notes::{put_counterpart, put_received};
-use crate::cases::other_findings::{put_links, put_others};
 use crate::heard::{Heard, HeardAnswer};
-use crate::inputs::bad_input::{message_sentence, put_fault};
+use crate::inputs::bad_input::put_fault;
 use crate::inputs::unread::SearchingSource;
 use crate::joins::put_join;
-use crate::left::at_end::events_of;
-use crate::left::good_notes::put_good;
-use crate::left::open_case::OpenCase;
-use crate::left::open_object::open_object;
-use crate::logs::{Logs, put_place};
-use crate::reading::message_at;
 use crate::row_limit::put_limit;
-use crate::rules::rule_notes::put_rule_cause;
-use crate::wires::wire_notes::put_wire;
 use audit_core::Breach;
 use bytes::Bytes;
+use case_notes::{put_counterpart, put_links, put_order_cause, put_others, put_received};
+use input_notes::{message_sentence, put_wire};
+use open_notes::{OpenCase, open_object, put_good};
+use past_records::message_at;
+use record_notes::{Logs, events_of, put_place};
 use report_lines::Fault;
+use rule_notes::put_rule_cause;
 use serde_json::Value;
 use std::alloc::{AllocError, Global};
 use std::fmt::Write;

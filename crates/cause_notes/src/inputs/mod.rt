@@ -1,6 +1,4 @@
-//! The notes of inputs that are bad.
+//! Files that are bad or can't be read: which one it is.
 
-pub(crate) mod bad_case;
 pub(crate) mod bad_input;
-pub(crate) mod file_kind;
 pub(crate) mod unread;

@@ -1,7 +1,7 @@
 //! Files that can't be read, and those that are there in their place.
 
-use crate::inputs::file_kind::{FileKind, kind_of};
 use case_files::RememberingSource;
+use input_notes::{FileKind, kind_of};
 use std::alloc::{AllocError, Global};
 use std::fmt::Write;
 use std::io::ErrorKind;

@@ -1,0 +1,71 @@
+//! What became of calls at a vat.
+
+use rpc_view::RpcMessage;
+use std::alloc::{AllocError, Global};
+use std::collections::BTreeMap;
+use vat_view::DecodedRecord;
+
+/// What became last of a call at a vat.
+#[derive(Clone, Copy, Debug)]
+pub(crate) enum Fate {
+    /// Nothing: it waits.
+    Waits,
+    /// It was delivered by this record.
+    Delivered(usize),
+    /// It was answered or ended by this record.
+    Ended(usize),
+    /// It was sent on.
+    SentOn {
+        /// By this record.
+        at: usize,
+        /// Over this connection.
+        connection: u32,
+        /// As this question.
+        question: u32,
+    },
+}
+
+/// The call that the record of this number brings further, if it does, and how.
+fn step_of(at: usize, event: &DecodedRecord) -> Option<(u64, Fate)> {
+    match event {
+        DecodedRecord::Deliver { call, .. } => Some((*call, Fate::Delivered(at))),
+        DecodedRecord::Answer { call, .. }
+        | DecodedRecord::AnswerBy { call, .. }
+        | DecodedRecord::Fault { call } => Some((*call, Fate::Ended(at))),
+        DecodedRecord::Wire {
+            sent: true,
+            connection,
+            call,
+            message: RpcMessage::Call { question, .. },
+            ..
+        } => {
+            let fate = Fate::SentOn {
+                at,
+                connection: *connection,
+                question: *question,
+            };
+            Some((*call, fate))
+        }
+        _ => None,
+    }
+}
+
+/// What became last of these calls at a vat, which stand by rising number. Those that wait aren't among them.
+pub(crate) fn fates_in(
+    alloc: Global,
+    events: &[DecodedRecord],
+    calls: &[u64],
+) -> Result<BTreeMap<u64, Fate>, AllocError> {
+    let mut fates = BTreeMap::new(alloc);
+    if calls.is_empty() {
+        return Ok(fates);
+    }
+    for (at, event) in events.iter().enumerate() {
+        if let Some((call, fate)) = step_of(at, event) {
+            if calls.binary_search(&call).is_ok() {
+                fates.insert(call, fate)?;
+            }
+        }
+    }
+    Ok(fates)
+}

@@ -1,0 +1,25 @@
+//! The records of a log read once more, for notes: what those before a record made of the log's numbers. No contract says what
+//! they tell, and no answer depends on them.
+//!
+//! It stands on `vat_view`, whose state of a log says what its numbers stand for, on `vat_rules`, which says by which edition a
+//! log is read, and on `exception_reasons`. A [`Past`] is a record with the log before it, and costs one walk over that:
+//! [`Life`] is what was seen of an export or import meanwhile, [`Opening`] what passed of a question. Beside these stand the
+//! notes that are made of them alone: numbers that aren't held, of which too much is given back, and questions that aren't free
+//! or have no room for what uses them. It needs nothing of how records are printed.
+#![tactic(auto)]
+
+mod life_notes;
+mod number_lives;
+mod number_text;
+mod openings;
+mod question_notes;
+mod reading;
+mod records_before;
+
+pub use life_notes::{put_gone, put_life, put_miscounted};
+pub use number_lives::{Life, Lives, number_described};
+pub use number_text::NumberText;
+pub use openings::{Opening, opening_of};
+pub use question_notes::{put_misused, put_opening, put_reopened};
+pub use reading::{decoded, message_at, put_reason};
+pub use records_before::Past;

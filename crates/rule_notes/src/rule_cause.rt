@@ -1,0 +1,52 @@
+//! The cause of a record that breaks a rule of its log.
+
+use crate::call_notes::{put_absent, put_answered};
+use crate::connection_notes::put_closed;
+use crate::desc_notes::{put_misdescribed, put_unpaired};
+use crate::embargo_notes::put_embargo;
+use crate::goal_notes::put_astray;
+use crate::promise_notes::{put_misresolved, put_unvowed};
+use crate::reference_notes::put_unbound;
+use crate::result_notes::put_misreturned;
+use past_records::{Past, put_gone, put_miscounted, put_misused, put_reopened};
+use std::alloc::{AllocError, Global};
+use vat_log::VatLog;
+use vat_rules::Rule;
+
+/// Notes of the records that lead to a broken rule, where they are found. The log is walked up to the record; for a number
+/// that a Return or a Finish gives back too often, twice.
+///
+/// # Errors
+///
+/// Out of memory.
+pub fn put_rule_cause(
+    alloc: Global,
+    text: &mut String,
+    log: &VatLog,
+    at: usize,
+    rule: Rule,
+) -> Result<(), AllocError> {
+    let Some(past) = Past::of(alloc, log, at)? else {
+        return Ok(());
+    };
+    match rule {
+        Rule::Closed => put_closed(&past, text),
+        Rule::Ref => put_unbound(&past, text),
+        Rule::Vow => put_unvowed(&past, text),
+        Rule::Here => put_absent(&past, text),
+        Rule::QNew => put_reopened(&past, text),
+        Rule::QUse => put_misused(&past, text),
+        Rule::XUse => put_gone(&past, text),
+        Rule::Goal => put_astray(&past, text),
+        Rule::Answer => put_answered(&past, text),
+        Rule::Desc => put_misdescribed(&past, text),
+        Rule::Count => put_miscounted(&past, text),
+        Rule::Result => put_misreturned(&past, text),
+        Rule::Resolve => put_misresolved(&past, text),
+        Rule::RecvRef => {
+            let _ = put_unpaired(&past, text)?;
+            Ok(())
+        }
+        Rule::Emb => put_embargo(&past, text),
+    }
+}

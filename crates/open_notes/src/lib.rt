@@ -10,11 +10,11 @@ mod aborts;
 mod call_ways;
 mod fates;
 mod good_notes;
+mod object;
 mod open_case;
-mod open_object;
 mod passed;
 mod under_way;
 
 pub use good_notes::put_good;
+pub use object::open_object;
 pub use open_case::OpenCase;
-pub use open_object::open_object;

@@ -1,10 +1,10 @@
 #!/usr/bin/env bash
-# What the gate costs: runs `rt ci` from nothing in a clean clone of what is committed, and prints one line at the end.
+# What the gate costs: runs `.ci/run` from nothing in a clean clone of what is committed, and prints one line at the end.
 # usage: tests/gate_cost.sh [FOLDER]         (the gate's own lines go to FOLDER/gate.txt, else to a temporary folder)
 # The figure is the last number: the gate's processor minutes over those that cap_reader's proof takes with one job on this
-# machine just before. It wants a machine on which nothing was proved before, since rt keeps what it proved. Machines differ
-# by more than a factor of two, so minutes of two of them are never compared; docs/TIMES.md has the figures. It takes about
-# two hours and all processors: run nothing beside it.
+# machine just before; so it wants a machine on which cap_reader wasn't proved before. Machines differ by more than a factor of
+# two, so minutes of two of them are never compared; docs/TIMES.md has the figures. It takes about two hours and all
+# processors: run nothing beside it.
 set -euo pipefail
 cd "$(dirname "$0")/.."
 room=$(mktemp -d)
@@ -34,7 +34,7 @@ END
 (cd crates/cap_reader && seconds_of "$room/reader" rt check --jobs 1)
 rm -rf crates/*/out
 failed=0
-seconds_of "$told/gate.txt" rt ci --anew || failed=1
+seconds_of "$told/gate.txt" bash .ci/run --anew || failed=1
 python3 - "$told/gate.txt" "$room/reader" <<'END'
 import re, sys
 last = re.findall(r"^\d+ passed, \d+ failed$", open(sys.argv[1]).read(), re.M)

@@ -12,6 +12,8 @@
 #![tactic(auto)]
 
 mod auditing;
+mod call_order;
+mod checking;
 mod counts;
 mod error;
 mod first_bad;
@@ -23,7 +25,8 @@ mod report;
 mod with_findings;
 mod working;
 
-pub use auditing::audit;
+pub use auditing::{audit, find_alone};
+pub use checking::check_case;
 pub use error::AuditError;
 pub use found_run::run_of_findings;
 pub use gate::Gate;

@@ -1,12 +1,13 @@
 //! The notes beside an answer.
 
 use crate::heard::{Heard, HeardAnswer};
-use crate::inputs::bad_input::put_fault;
+use crate::inputs::bad_input::{put_fault, put_left_out};
 use crate::inputs::unread::SearchingSource;
 use crate::joins::put_join;
 use crate::row_limit::put_limit;
-use audit_core::Breach;
+use audit_core::{Breach, find_alone};
 use bytes::Bytes;
+use case_book::{Case, Findings};
 use case_notes::{put_counterpart, put_links, put_order_cause, put_others, put_received};
 use input_notes::{message_sentence, put_wire};
 use open_notes::{OpenCase, open_object, put_good};
@@ -112,9 +113,42 @@ fn put_told(
         | HeardAnswer::Fault(_)
         | HeardAnswer::Wire
         | HeardAnswer::Join
+        | HeardAnswer::Cut { .. }
         | HeardAnswer::Yes
         | HeardAnswer::GoodLog => Ok(()),
     }
+}
+
+/// Whether notes of this tell of what was found of logs and links.
+fn tells_of_findings(told: HeardAnswer) -> bool {
+    matches!(
+        told,
+        HeardAnswer::Broken { .. } | HeardAnswer::Outside { .. } | HeardAnswer::Link { .. }
+    )
+}
+
+/// What is found of each log and each link of a case whose line says no.
+fn findings_of(alloc: Global, case: &Case) -> Result<Option<Findings>, AllocError> {
+    if case.tie_fault().is_some() {
+        return Ok(None);
+    }
+    Ok(Some(find_alone(alloc, case.copy(alloc)?)?))
+}
+
+/// Appends the notes of a no or of an outside of a case of which the line alone was found: the rest is found once more.
+fn put_of_case<S: SearchingSource>(
+    alloc: Global,
+    text: &mut String,
+    source: &S,
+    case: &Case,
+    told: HeardAnswer,
+) -> Result<(), AllocError> {
+    let found = findings_of(alloc, case)?;
+    let logs = Logs {
+        files: source.kept(),
+        findings: found.as_ref(),
+    };
+    put_told(alloc, text, &logs, told)
 }
 
 /// Appends the notes beside an answer that isn't good and no fault, a line each.
@@ -129,6 +163,12 @@ fn put_bad<S: SearchingSource>(
     }
     if let (HeardAnswer::Join, Some(note)) = (heard.told, heard.join) {
         return put_join(text, source.kept(), note);
+    }
+    if let HeardAnswer::Cut { fault, end } = heard.told {
+        return put_left_out(text, source, fault, end);
+    }
+    if let (Some(case), true) = (&heard.case, tells_of_findings(heard.told)) {
+        return put_of_case(alloc, text, source, case, heard.told);
     }
     let logs = Logs {
         files: source.kept(),
@@ -228,6 +268,10 @@ pub fn notes_of<S: SearchingSource>(
     put_limit(&mut text, heard.limit)?;
     if let (HeardAnswer::Yes, Some(findings)) = (heard.told, &heard.findings) {
         let found = OpenCase::of_findings(alloc, findings, source.kept())?;
+        return Notes::of_found(alloc, text, found, form);
+    }
+    if let (HeardAnswer::Yes, Some(case)) = (heard.told, &heard.case) {
+        let found = OpenCase::of_case(alloc, case, source.kept())?;
         return Notes::of_found(alloc, text, found, form);
     }
     if let (HeardAnswer::GoodLog, Some(log)) = (heard.told, &heard.log) {

@@ -8,6 +8,7 @@ use Rattle.report_lines.specs.declared.fault.Fault.{Fault}
 use Rattle.report_lines.specs.declared.fault.Fault.TheVariants.{OutOfMemory}
 use Rattle.report_lines.specs.Faults.{of_case, of_log, of_source}
 use Rattle.report_lines.specs.Lines.{answer_status, answer_text, line}
+use Rattle.audit_core.specs.Lines.{IsLineOf}
 use Rattle.audit_core.specs.Report.{IsReport}
 use Rattle.audit_core.specs.declared.report.Report.{Report}
 use Rattle.case_files.specs.CaseReading.{ComesOfCase, Read, Reads}
@@ -22,7 +23,7 @@ use Rattle.vat_rules.specs.declared.slim.finding.SlimFinding.{SlimFinding}
 use Rattle.command_run.specs.declared.output.Failed.{Failed}
 use Rattle.command_run.specs.declared.output.Failed.TheVariants.{Out, File}
 use Rattle.command_run.specs.RecordAnswers.{first_ones}
-use Rattle.command_run.specs.CommandAnswers.{AnswersMigration}
+use Rattle.command_run.specs.CommandAnswers.{AnswersMigration, AnswersSalvage}
 use Rattle.command_run.specs.DrawAnswers.{IsDrawn}
 use Rattle.command_run.specs.JoinAnswers.{AreFilesOf}
 use Rattle.log_ends.specs.declared.log_end.EndPair.{EndPair}
@@ -58,6 +59,11 @@ abbrev pub ComesJudged : {S : Type 0} → Reads S → S → List ℕ → Result 
 ComesJudged gives old name (Ok report) new = (came : ReadCase) × (ComesOfCase gives old name (Ok came) new × IsReport came.case came.order report)
 ComesJudged gives old name (Err fault) new = (fault ≡ OutOfMemory) ⊎ ((found : CaseFault) × (ComesOfCase gives old name (Err found) new × (fault ≡ of_case found)))
 
+-- what came of a case of which the line alone was asked for: it, or the case's fault, or memory ran out
+abbrev pub ComesChecked : {S : Type 0} → Reads S → S → List ℕ → Result Report Fault → S → Type 0
+ComesChecked gives old name (Ok line) new = (came : ReadCase) × (ComesOfCase gives old name (Ok came) new × IsLineOf came.case came.order line)
+ComesChecked gives old name (Err fault) new = ComesJudged gives old name (Err fault) new
+
 -- what came of a case that was drawn: its report and its picture, or its fault, or memory ran out
 abbrev pub ComesDrawn : {S : Type 0} → Asked → Reads S → S → List ℕ → Result FileAnswer Fault → S → Type 0
 ComesDrawn asked gives old name (Ok made) new = (came : ReadCase) × ((report : Report) × (ComesOfCase gives old name (Ok came) new
@@ -80,6 +86,11 @@ EndsAs (Err (File fault)) ended = ended ≡ 2
 abbrev pub Migrates : Bool → Read → Result FileAnswer Fault → Type 0
 Migrates later read (Ok made) = AnswersMigration later read (line (answer_text made.answer)) (answer_status made.answer) (option_map (λ bytes. bytes) made.bytes)
 Migrates later read (Err fault) = AnswersMigration later read (line (answer_text (answer.Fault fault))) (answer_status (answer.Fault fault)) None
+
+-- what came of a log of which the whole records are wanted answers it
+abbrev pub Salvages : Read → Result FileAnswer Fault → Type 0
+Salvages read (Ok made) = AnswersSalvage read (line (answer_text made.answer)) (answer_status made.answer) (option_map (λ bytes. bytes) made.bytes)
+Salvages read (Err fault) = AnswersSalvage read (line (answer_text (answer.Fault fault))) (answer_status (answer.Fault fault)) None
 
 -- a line, a status and the bytes for the file are those of an answer that was made
 abbrev pub IsMade : FileAnswer → List ℕ → ℕ → Option (List ℕ) → Type 0

@@ -96,6 +96,11 @@ pub(crate) fn answer_object(alloc: Global, answer: &Answer) -> Result<Value, All
             let (vat, records) = (log.vat(), log.len());
             json!(in alloc; {"kind": "migrated", "vat": vat, "records": records})
         }
+        Answer::Salvaged(found) => {
+            let (vat, records) = (found.log.vat(), found.log.len());
+            let bytes = found.log.bytes().len();
+            json!(in alloc; {"kind": "salvaged", "vat": vat, "records": records, "bytes": bytes})
+        }
         Answer::Wire(line) => wire_object(alloc, line),
         Answer::Join(line) => join_object(alloc, line),
         Answer::Fault(fault) => fault_object(alloc, *fault),

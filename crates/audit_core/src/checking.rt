@@ -5,11 +5,11 @@ ghost use Rattle.audit_core.specs.Lines.{IsLineOf, LineMeansHeadline};
 ghost use Rattle.audit_core.specs.Refusals.{IsRefusal, refusal_of};
 
 use crate::auditing::refused;
-use crate::call_order::call_order_fault;
 use crate::counts::count_records;
 use crate::error::AuditError;
 use crate::gate::Gate;
 use crate::report::{Breach, Report};
+use call_order::call_order_fault;
 use case_book::{Case, Finding, Piece};
 use link_check::{LinkFinding, LinkOutcome};
 use merge_order::{Order, OrderFinding, check_order, make_order};
@@ -182,7 +182,7 @@ fn line_by_order(
     counts: Counts,
     order: &Order,
 ) -> Result<Report, AllocError> {
-    match call_order_fault(alloc, case.logs(), case.links(), order)? {
+    match call_order_fault(alloc, case.logs(), order)? {
         Some((vat, at)) => Ok(Report::Vat {
             vat,
             at: at as u64,

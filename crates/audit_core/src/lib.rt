@@ -12,7 +12,6 @@
 #![tactic(auto)]
 
 mod auditing;
-mod call_order;
 mod checking;
 mod counts;
 mod error;

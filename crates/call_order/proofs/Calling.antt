@@ -1,11 +1,11 @@
 -- The names of a vat's calls, as its records go on.
-use Rattle.std.proofs.Common.{◌≡◌, ◌⊎◌, inl, inr, refl, sym, ◌∙◌, ap, ap₂, subst, ℕ, ◌==◌, List, [], ◌∷◌, Bool, true, false, not, ◌&&◌, ◌||◌, Option, Some, None, if◌then◌else◌, is_some, eqb-true}
-use Rattle.std.specs.Prelude.{IsTrue, unwrap_or}
-use Rattle.std.specs.List.{list_any, list_all}
+use Rattle.std.proofs.Common.{◌≡◌, inl, inr, refl, sym, ◌∙◌, ap, ap₂, subst, ℕ, ◌==◌, List, [], ◌∷◌, Bool, true, false, not, ◌&&◌, ◌||◌, Option, Some, None, if◌then◌else◌, is_some, eqb-true}
+use Rattle.std.specs.Prelude.{unwrap_or}
+use Rattle.std.specs.List.{list_all}
 use Rattle.std.specs.Option.{option_or}
 use Rattle.std.proofs.lemmas.Bool.{cases_Bool, eq-eqb, and_parts, or_left, or_right, not-true, false≢true}
 use Rattle.call_trace.specs.Naming.{names_call, call_named}
-use Rattle.call_trace.specs.Types.{RpcMessage, Bootstrap, Call, Return, Finish, Resolve, Release, Disembargo, Abort, DecodedRecord, Host, Vow, Fulfil, Break, Make, Field, Deliver, Answer, AnswerBy, Fault, Wire, Name, Step}
+use Rattle.call_trace.specs.Types.{Bootstrap, Call, DecodedRecord, Make, Deliver, Wire, Name, Step}
 use Rattle.run_model.proofs.Once.{or_either}
 use Rattle.run_model.specs.Steps.{call}
 use Rattle.vat_rules.proofs.Judging.{good_sound}
@@ -20,7 +20,7 @@ use Rattle.vat_view.specs.Past.{Past, Each, last_answer}
 use Rattle.vat_view.specs.Sound.{IsSound}
 use Rattle.vat_view.specs.Views.{view_of_reference, view_of_target}
 use Rattle.vat_view.specs.declared.request.Request.{Request}
-use Rattle.call_order.specs.Kept.{name_come, name_in, IsCome, IsLeft, AreNamed}
+use Rattle.call_order.specs.Glue.Names.{name_come, name_in, IsCome, IsLeft, AreNamed}
 use Rattle.call_order.specs.declared.names.Names.{Names}
 
 -- ---- a record that doesn't bind a call neither names it nor brings it

@@ -1,14 +1,13 @@
 -- What a record does to the tables is what its step does to the run.
 use Rattle.std.proofs.Common.{◌≡◌, refl, sym, ◌∙◌, ap, ap₂, subst, ℕ, ◌==◌, List, [], ◌∷◌, Bool, true, false, not, ◌&&◌, ◌||◌, Option, Some, None, if◌then◌else◌, option_and_then, option_map}
 use Rattle.std.specs.Prelude.{IsTrue, map, unwrap_or}
-use Rattle.std.specs.List.{list_any}
 use Rattle.std.specs.Option.{option_or}
-use Rattle.std.proofs.lemmas.Bool.{eq-eqb, eqb-true, and_parts, false≢true}
+use Rattle.std.proofs.lemmas.Bool.{eq-eqb, eqb-true, and_parts}
 use Rattle.call_trace.proofs.Naming.{mapped_is, then_is}
-use Rattle.call_trace.specs.Naming.{Naming, naming, names_call, call_named, message_of_step}
+use Rattle.call_trace.specs.Naming.{naming, names_call, call_named, message_of_step}
 use Rattle.call_trace.specs.Part.{reference_named, promise_in, result_named, Says}
 use Rattle.call_trace.specs.Said.{all_there, message_of_record}
-use Rattle.call_trace.specs.Types.{RpcMessage, Bootstrap, Call, Return, Finish, Resolve, Release, Disembargo, Abort, DecodedRecord, Host, Vow, Fulfil, Break, Make, Field, Deliver, Answer, AnswerBy, Fault, Wire, Name, Cap, Message, Step}
+use Rattle.call_trace.specs.Types.{RpcMessage, Bootstrap, Call, Return, Finish, Resolve, Release, Disembargo, Abort, DecodedRecord, Host, Vow, Fulfil, Break, Make, Field, Deliver, Answer, AnswerBy, Fault, Wire, Name, Message, Step}
 use Rattle.run_model.specs.Has.{call_in_message}
 use Rattle.run_model.specs.Links.{IsLinked}
 use Rattle.run_model.specs.Steps.{EachStep, call, count_steps, vat_of}
@@ -24,7 +23,10 @@ use Rattle.vat_view.specs.Bindings.{contains, new_calls}
 use Rattle.vat_view.specs.Calls.{moves, is_at_vat, is_served, is_settled}
 use Rattle.vat_view.specs.Past.{Past, Each, last_answer}
 use Rattle.vat_view.specs.Views.{view_of_reference}
-use Rattle.call_order.specs.Kept.{name_come, name_in, one_with, told_of, IsCome, IsComeBy, IsLeft, IsSent, IsReceived, IsDone, AreLines, AreNamed}
+use Rattle.call_order.specs.Glue.Names.{name_come, name_in, IsCome, IsLeft, AreNamed}
+use Rattle.call_order.specs.Glue.Lines.{one_with, IsSent, AreLines}
+use Rattle.call_order.specs.Glue.Told.{told_of}
+use Rattle.call_order.specs.Glue.Tables.{IsComeBy, IsDone}
 use Rattle.call_order.specs.declared.deeds.Deed.TheVariants as deed
 use Rattle.call_order.specs.declared.names.Names.{Names}
 use Rattle.call_order.specs.declared.tables.Tables.{Tables}

@@ -1,5 +1,5 @@
 -- The least place at which one of the vats tells of a break is the order fault of the run.
-use Rattle.std.proofs.Common.{◌≡◌, ◌⊎◌, inl, inr, refl, sym, ◌∙◌, ap, ap₂, subst, ℕ, ◌==◌, List, [], ◌∷◌, ◌++◌, map, reverse, Bool, true, false, Option, Some, None, if◌then◌else◌, eqb-true}
+use Rattle.std.proofs.Common.{◌≡◌, ◌⊎◌, inl, inr, refl, sym, ◌∙◌, ap, subst, ℕ, ◌==◌, List, [], ◌∷◌, ◌++◌, map, reverse, Bool, true, false, Option, Some, None, if◌then◌else◌, eqb-true}
 use Rattle.std.specs.Prelude.{⊤}
 use Rattle.std.specs.List.{list_any, AllByRecursion}
 use Rattle.std.proofs.lemmas.Bool.{cases_Bool, false≢true}
@@ -9,7 +9,7 @@ use Rattle.call_trace.specs.Findings.{logs_of}
 use Rattle.call_trace.specs.Part.{PairsOff}
 use Rattle.call_trace.specs.Running.{steps_by}
 use Rattle.call_trace.specs.Taking.{finding_of, taken_by}
-use Rattle.call_trace.specs.Types.{Name, Step}
+use Rattle.call_trace.specs.Types.{Step}
 use Rattle.run_model.proofs.Order.{ordered_unless_early}
 use Rattle.run_model.specs.Early.{IsAtMost, IsOrderFault, early as early_in_run}
 use Rattle.run_model.specs.Legal.{IsLegal}
@@ -21,7 +21,7 @@ use Rattle.undelivered.specs.OfRuns.{moments_of, told_more}
 use Rattle.undelivered.specs.Order.{PastCalls, AreOnce, early, makes}
 use Rattle.undelivered.specs.declared.moment.Moment.TheVariants as moment
 use Rattle.vat_rules.specs.Audit.{Found}
-use Rattle.call_order.specs.Kept.{told_of, early_of, IsLeastIn, AreAllOnce}
+use Rattle.call_order.specs.Glue.Told.{told_of, early_of, IsLeastIn, AreAllOnce}
 use Rattle.call_order.specs.declared.told.Told.{Told}
 
 abbrev Place : Type 0

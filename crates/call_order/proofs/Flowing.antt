@@ -1,8 +1,8 @@
 -- What is under way on connections, as a run goes on.
-use Rattle.std.proofs.Common.{◌≡◌, refl, sym, ◌∙◌, ap, ap₂, subst, ℕ, suc, ◌<◌, ◌≤◌, ◌+◌, ◌==◌, List, [], ◌∷◌, ◌++◌, length, drop, reverse, Bool, true, false, not, ◌&&◌, ◌||◌, Option, Some, None, if◌then◌else◌, option_and_then, slice_get, arith, eqb-true, length-append, inl, inr}
-use Rattle.std.specs.Prelude.{unwrap_or, option_map}
+use Rattle.std.proofs.Common.{◌≡◌, refl, sym, ◌∙◌, ap, ap₂, subst, ℕ, suc, ◌≤◌, ◌+◌, ◌==◌, List, [], ◌∷◌, ◌++◌, length, drop, reverse, Bool, true, false, not, ◌&&◌, ◌||◌, Option, Some, None, if◌then◌else◌, option_and_then, slice_get, arith, eqb-true, length-append, inl, inr}
+use Rattle.std.specs.Prelude.{unwrap_or}
 use Rattle.std.specs.Bool.{beq}
-use Rattle.std.specs.List.{cons_option, filter_map, list_any, list_all}
+use Rattle.std.specs.List.{cons_option, filter_map, list_any}
 use Rattle.std.proofs.lemmas.List.{append-nil}
 use Rattle.std.proofs.lemmas.List.Elements.{filter_map-append}
 use Rattle.std.proofs.lemmas.Option.{slice_get_within}
@@ -13,7 +13,7 @@ use Rattle.run_model.specs.Has.{call_in_message}
 use Rattle.run_model.specs.Links.{IsEnd, IsLinked, CarriesNext, are_one, other_user, sent_to, receives_on}
 use Rattle.run_model.specs.Steps.{EachStep, count_steps}
 use Rattle.run_model.specs.declared.step.Step.TheVariants as step
-use Rattle.call_order.specs.Kept.{under_way, one_of, one_with, are_ends, are_alike, calls_to, IsSent, IsReceived, AreLines}
+use Rattle.call_order.specs.Glue.Lines.{under_way, one_of, one_with, are_ends, are_alike, calls_to, IsSent, IsReceived, AreLines}
 use Rattle.call_order.specs.declared.lines.Lines.{Lines}
 use Rattle.call_order.proofs.Lists.{drop_some, drop_with, kept_last, are_one_less, is_that, any_more}
 

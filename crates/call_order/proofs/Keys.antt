@@ -1,8 +1,8 @@
 -- Tables with one entry put in, or taken out.
-use Rattle.std.proofs.Common.{◌≡◌, refl, sym, ◌∙◌, ap, ℕ, ◌==◌, Bool, true, false, ◌&&◌, cond, Option, Some, None, if◌then◌else◌, arith}
+use Rattle.std.proofs.Common.{◌≡◌, refl, ◌∙◌, ap, ℕ, ◌==◌, Bool, true, false, ◌&&◌, cond, Option, if◌then◌else◌, arith}
 use Rattle.std.specs.Ordering.{is_eq, nat_cmp}
 use Rattle.std.proofs.lemmas.Bool.Decides.{nat_tests}
-use Rattle.call_order.specs.Kept.{key_cmp}
+use Rattle.call_order.specs.Glue.Names.{key_cmp}
 
 at_key : (v c w d : ℕ) → is_eq (key_cmp (v, c) (w, d)) ≡ ((v == w) && (c == d))
 at_key v c w d = grind (arith, nat_tests)

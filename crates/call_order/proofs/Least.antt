@@ -1,5 +1,5 @@
 -- The least of some places.
-use Rattle.std.proofs.Common.{◌≡◌, ◌⊎◌, inl, inr, refl, sym, ◌∙◌, ap, subst, ℕ, ◌<◌, ◌≤◌, ◌==◌, List, [], ◌∷◌, ◌++◌, Bool, true, false, ◌&&◌, ◌||◌, Option, Some, None, if◌then◌else◌, map, append_assoc, arith, eqb-true}
+use Rattle.std.proofs.Common.{◌≡◌, inl, inr, refl, sym, ◌∙◌, ap, subst, ℕ, ◌<◌, ◌≤◌, ◌==◌, List, [], ◌∷◌, ◌++◌, Bool, true, false, ◌&&◌, ◌||◌, Option, Some, None, if◌then◌else◌, map, append_assoc, arith, eqb-true}
 use Rattle.std.specs.Prelude.{nat_lt}
 use Rattle.std.specs.List.{AllByRecursion}
 use Rattle.std.proofs.lemmas.Bool.{cases_eq, eq-eqb, false≢true, ltb-true, ltb-false}
@@ -8,7 +8,7 @@ use Rattle.run_model.specs.Early.{IsAtMost}
 use Rattle.run_model.specs.Steps.{OneOf}
 use Rattle.undelivered.specs.Order.{PastCalls, IsFault, early}
 use Rattle.vat_log.specs.Log.{Log}
-use Rattle.call_order.specs.Kept.{is_less, lesser, told_of, early_of, IsLeastIn}
+use Rattle.call_order.specs.Glue.Told.{is_less, lesser, told_of, early_of, IsLeastIn}
 use Rattle.call_order.specs.declared.told.Told.{Told}
 
 abbrev Place : Type 0

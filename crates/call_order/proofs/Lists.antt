@@ -1,9 +1,9 @@
 -- Lists of what passes on a connection, and of who uses it.
-use Rattle.std.proofs.Common.{◌≡◌, refl, sym, ◌∙◌, ap, ap₂, subst, ℕ, zero, suc, ◌<◌, ◌≤◌, ◌==◌, List, [], ◌∷◌, ◌++◌, length, drop, reverse, Bool, true, false, ◌&&◌, ◌||◌, Option, Some, None, if◌then◌else◌, slice_get, arith, eqb-true, inl, inr}
+use Rattle.std.proofs.Common.{◌≡◌, refl, sym, ◌∙◌, ap, subst, ℕ, zero, suc, ◌≤◌, ◌==◌, List, [], ◌∷◌, ◌++◌, length, drop, reverse, Bool, true, false, ◌||◌, Option, Some, None, slice_get, arith, eqb-true}
 use Rattle.std.specs.List.{cons_option, filter_map, list_any, list_all}
 use Rattle.std.proofs.lemmas.List.{reverse-append}
 use Rattle.std.proofs.lemmas.List.Elements.{filter_map-append}
-use Rattle.std.proofs.lemmas.Bool.{eq-eqb, and_parts, and_from, or_right, false≢true}
+use Rattle.std.proofs.lemmas.Bool.{and_parts, or_right, false≢true}
 use Rattle.run_model.specs.Links.{are_one}
 
 -- ---- what is left of a list behind some of its elements

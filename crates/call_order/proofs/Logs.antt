@@ -1,5 +1,5 @@
 -- The table of the logs, one log more.
-use Rattle.std.proofs.Common.{◌≡◌, refl, sym, ◌∙◌, ap, ℕ, ◌==◌, List, [], ◌∷◌, ◌++◌, map, reverse, Bool, true, false, Option, Some, None, if◌then◌else◌, option_map}
+use Rattle.std.proofs.Common.{◌≡◌, sym, ◌∙◌, ap, ℕ, ◌==◌, List, [], ◌∷◌, ◌++◌, reverse, Bool, true, false, Option, Some, if◌then◌else◌, option_map}
 use Rattle.std.specs.Prelude.{find}
 use Rattle.std.specs.Arc.{arc_value}
 use Rattle.std.proofs.lemmas.List.{reverse-append}

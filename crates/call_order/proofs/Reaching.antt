@@ -1,37 +1,39 @@
 -- The turns of an order: what is kept after one more, before the first, and what is found after the last.
-use Rattle.std.proofs.Common.{◌≡◌, ◌≢◌, ◌⊎◌, inl, inr, refl, sym, ◌∙◌, ap, ap₂, subst, ℕ, suc, ◌<◌, ◌≤◌, ◌+◌, ◌==◌, List, [], ◌∷◌, ◌++◌, length, map, reverse, Bool, true, false, Option, Some, None, Result, Ok, if◌then◌else◌, option_and_then, option_map, slice_get, is_some, arith, eqb-true}
-use Rattle.std.specs.Prelude.{IsTrue, count_by, find}
-use Rattle.std.specs.List.{cons_option, list_any, AllByRecursion}
+use Rattle.std.proofs.Common.{◌≡◌, inl, inr, refl, sym, ◌∙◌, ap, subst, ℕ, suc, ◌<◌, ◌≤◌, ◌+◌, ◌==◌, List, [], ◌∷◌, ◌++◌, length, map, reverse, Bool, true, false, Option, Some, None, if◌then◌else◌, option_map, slice_get, is_some, arith, eqb-true}
+use Rattle.std.specs.Prelude.{find}
+use Rattle.std.specs.List.{cons_option, AllByRecursion}
 use Rattle.std.specs.Option.{option_or}
 use Rattle.std.proofs.lemmas.Bool.{cases_Bool, eq-eqb, false≢true}
-use Rattle.std.proofs.lemmas.List.{reverse-append, reverse-reverse}
+use Rattle.std.proofs.lemmas.List.{reverse-append}
 use Rattle.agree.proofs.Points.{heads, tails}
-use Rattle.agree.specs.Rows.{Row, log_of_vat}
+use Rattle.agree.specs.Rows.{log_of_vat}
 use Rattle.call_trace.proofs.Carrying.{IsNext, named_next, log_here, log_there, steps_here, steps_there}
 use Rattle.call_trace.proofs.Fitting.{Rises, rises}
 use Rattle.call_trace.proofs.Next.{may_run, run_before}
 use Rattle.call_trace.proofs.Running.{good_now}
 use Rattle.call_trace.proofs.Sharing.{IsStored, stored_at}
 use Rattle.call_trace.proofs.Single.{named_row}
-use Rattle.call_trace.proofs.Taking.{steps_own, steps_other, no_log}
+use Rattle.call_trace.proofs.Taking.{steps_own, steps_other}
 use Rattle.call_trace.proofs.Whole.{vats_taken}
 use Rattle.call_trace.specs.Findings.{logs_of, AreTrue, MayBeNamed}
 use Rattle.call_trace.specs.Named.{IsRunOf}
-use Rattle.call_trace.specs.Part.{PairsOff}
 use Rattle.call_trace.specs.Running.{steps_by, IsNamedRow, MayRun}
 use Rattle.call_trace.specs.Taking.{finding_of, next_record, steps_counted_by, taken_by}
 use Rattle.call_trace.specs.Types.{DecodedRecord, Step}
 use Rattle.merge_order.specs.Fits.{IsRising}
-use Rattle.run_model.specs.Links.{IsLinked}
-use Rattle.run_model.specs.Steps.{EachStep, count_steps, vat_of}
+use Rattle.run_model.specs.Steps.{count_steps, vat_of}
 use Rattle.vat_log.specs.Log.{Log}
-use Rattle.vat_log.specs.declared.body.Body.{Body}
 use Rattle.vat_rules.specs.Audit.{Found, reads_within}
-use Rattle.vat_rules.specs.Events.{event_of}
 use Rattle.vat_rules.specs.Judged.{IsGood}
 use Rattle.vat_rules.specs.declared.rule.Rule.TheVariants as rule
 use Rattle.vat_view.specs.Past.{Each}
-use Rattle.call_order.specs.Kept.{deed_of, log_kept, next_in, one_further, name_come, one_of, calls_to, told_of, under_way, IsDone, AreLines, AreNamed, IsSoFar, IsKept, IsReached}
+use Rattle.call_order.specs.Glue.Deeds.{deed_of}
+use Rattle.call_order.specs.Glue.Cursors.{log_kept, next_in, one_further}
+use Rattle.call_order.specs.Glue.Names.{name_come, AreNamed}
+use Rattle.call_order.specs.Glue.Lines.{one_of, calls_to}
+use Rattle.call_order.specs.Glue.Told.{told_of}
+use Rattle.call_order.specs.Glue.Tables.{IsDone}
+use Rattle.call_order.specs.Glue.Reached.{IsSoFar, IsKept, IsReached}
 use Rattle.call_order.specs.declared.cursors.Cursors.{Cursors}
 use Rattle.call_order.specs.declared.deeds.Deed.{Deed}
 use Rattle.call_order.specs.declared.tables.Tables.{Tables}

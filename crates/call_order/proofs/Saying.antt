@@ -1,12 +1,11 @@
 -- The call of a record, and that of the step which the record says.
-use Rattle.std.proofs.Common.{◌≡◌, refl, sym, ◌∙◌, ap, ap₂, subst, ℕ, ◌==◌, List, [], ◌∷◌, Bool, true, false, not, Option, Some, None, if◌then◌else◌, option_and_then, option_map, Result, Ok}
+use Rattle.std.proofs.Common.{◌≡◌, refl, sym, ◌∙◌, ap, subst, ℕ, ◌==◌, List, [], ◌∷◌, Bool, true, false, Option, Some, None, if◌then◌else◌, option_and_then, option_map, Result, Ok}
 use Rattle.std.specs.Bool.{beq}
-use Rattle.std.specs.Option.{option_or}
 use Rattle.std.proofs.lemmas.Bool.{false≢true}
-use Rattle.call_trace.specs.Naming.{Naming, naming, call_named}
+use Rattle.call_trace.specs.Naming.{Naming, naming}
 use Rattle.call_trace.specs.Part.{resolves_released, heard_late, Says}
 use Rattle.call_trace.specs.Said.{message_of_record, say_call, say_return, say_taken, say_resolve, caps_named, promise_named, call_answered, caps_at_paths}
-use Rattle.call_trace.specs.Types.{Results, Exception, Canceled, Elsewhere, TakeFrom, Outcome, Resolution, RpcMessage, Bootstrap, Call, Return, Finish, Resolve, Release, Disembargo, Abort, DecodedRecord, Host, Vow, Fulfil, Break, Make, Field, Deliver, Answer, AnswerBy, Fault, Wire, Name, Cap, Message, Step}
+use Rattle.call_trace.specs.Types.{Results, Exception, Canceled, Elsewhere, TakeFrom, Outcome, RpcMessage, Bootstrap, Call, Return, Finish, Resolve, Release, Disembargo, Abort, DecodedRecord, Host, Vow, Fulfil, Break, Make, Field, Deliver, Answer, AnswerBy, Fault, Wire, Name, Cap, Message, Step}
 use Rattle.call_trace.proofs.AsSent.{read, heard, says_heard}
 use Rattle.call_trace.proofs.Naming.{mapped_is, then_is}
 use Rattle.call_trace.proofs.Reading.{with_is}
@@ -20,10 +19,10 @@ use Rattle.vat_log.specs.declared.body.Body.TheVariants as body
 use Rattle.vat_rules.specs.Events.{Reader, event_of}
 use Rattle.vat_rules.specs.declared.outcome.Why.{Why}
 use Rattle.vat_view.specs.Bindings.{notes_call}
-use Rattle.vat_view.specs.Past.{Past, id}
-use Rattle.vat_view.specs.Questions.{is_late, call_of}
+use Rattle.vat_view.specs.Past.{Past}
+use Rattle.vat_view.specs.Questions.{is_late}
 use Rattle.vat_view.specs.Views.{view_of_target}
-use Rattle.call_order.specs.Kept.{passed, deed_of}
+use Rattle.call_order.specs.Glue.Deeds.{passed, deed_of}
 use Rattle.call_order.specs.declared.deeds.Deed.{Deed}
 use Rattle.call_order.specs.declared.deeds.Deed.TheVariants as deed
 

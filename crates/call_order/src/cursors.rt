@@ -1,8 +1,8 @@
 //! How many records of each log were taken.
 
-ghost use Rattle.std.specs.Prelude.{◌≡◌, ◌==◌, ℕ, None, find, if◌then◌else◌, map, option_map, reverse, IfOk};
+ghost use Rattle.std.specs.Prelude.{◌≡◌, ◌==◌, ℕ, find, if◌then◌else◌, map, option_map, reverse, IfOk};
 ghost use Rattle.std.specs.Arc.{arc_value};
-ghost use Rattle.call_order.specs.Kept.{next_in, next_of, log_kept, one_further};
+ghost use Rattle.call_order.specs.Glue.Cursors.{next_in, next_of, log_kept, one_further};
 
 use crate::deeds::{Deed, deed_of};
 use std::alloc::{AllocError, Global};

@@ -1,7 +1,7 @@
 //! What a record does to the calls of its vat.
 
 ghost use Rattle.std.specs.Prelude.{◌≡◌};
-ghost use Rattle.call_order.specs.Kept.{deed_of};
+ghost use Rattle.call_order.specs.Glue.Deeds.{deed_of};
 
 use vat_log::Body;
 

@@ -3,7 +3,8 @@
 ghost use Rattle.std.specs.Prelude.{◌≡◌, ◌∷◌, ℕ, List, IfOk, OnOk, map};
 ghost use Rattle.std.specs.Arc.{arc_value};
 ghost use Rattle.call_order.specs.Fault.{IsFaultBy};
-ghost use Rattle.call_order.specs.Kept.{lesser, early_of, AreAllOnce, IsLeastIn, IsReached};
+ghost use Rattle.call_order.specs.Glue.Told.{lesser, early_of, AreAllOnce, IsLeastIn};
+ghost use Rattle.call_order.specs.Glue.Reached.{IsReached};
 ghost use Rattle.vat_rules.specs.Audit.{Found};
 
 use crate::cursors::Cursors;

@@ -4,8 +4,8 @@
 //! logs, and on `undelivered`, which finds where the calls of one vat are delivered out of their order. What is kept is what
 //! is under way: the names of calls that came to a vat and haven't left it, those that were sent and not received, and those
 //! that were made and not delivered. No message is read, since the record that passes a call notes it.
-//! [`call_order_fault`] answers the order fault of the run (`specs/Fault.antt`). `specs/Kept.antt` describes the tables, for
-//! the code's contracts alone.
+//! [`call_order_fault`] answers the order fault of the run (`specs/Fault.antt`). `specs/Glue` describes the tables, for the
+//! code's contracts alone.
 #![tactic(auto)]
 
 mod cursors;

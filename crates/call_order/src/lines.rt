@@ -1,7 +1,7 @@
 //! The calls that are under way on connections.
 
 ghost use Rattle.std.specs.Prelude.{◌≡◌, ◌==◌, ◌++◌, ◌∷◌, ℕ, [], None, OnOk, drop, if◌then◌else◌, slice_get};
-ghost use Rattle.call_order.specs.Kept.{are_ends, are_alike, calls_to, calls_to_on, one_of, one_with, IsSent, IsReceived};
+ghost use Rattle.call_order.specs.Glue.Lines.{are_ends, calls_to, calls_to_on, one_of, one_with, IsSent, IsReceived};
 ghost use Rattle.std.specs.Prelude.{Some};
 ghost use Rattle.std.specs.Bool.{beq};
 

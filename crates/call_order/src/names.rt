@@ -1,7 +1,7 @@
 //! The names of calls that came to a vat and haven't left it.
 
 ghost use Rattle.std.specs.Prelude.{◌≡◌, ℕ, None, OnOk};
-ghost use Rattle.call_order.specs.Kept.{name_come, name_in, IsCome, IsLeft};
+ghost use Rattle.call_order.specs.Glue.Names.{name_come, name_in, IsCome, IsLeft};
 
 use run_model::Name;
 use std::alloc::{AllocError, Global};

@@ -1,7 +1,10 @@
 //! What is under way as an order takes the records of a case.
 
 ghost use Rattle.std.specs.Prelude.{◌≡◌, ℕ, [], None, OnOk};
-ghost use Rattle.call_order.specs.Kept.{name_come, one_of, calls_to, told_of, IsDone};
+ghost use Rattle.call_order.specs.Glue.Names.{name_come};
+ghost use Rattle.call_order.specs.Glue.Lines.{one_of, calls_to};
+ghost use Rattle.call_order.specs.Glue.Told.{told_of};
+ghost use Rattle.call_order.specs.Glue.Tables.{IsDone};
 
 use crate::deeds::Deed;
 use crate::lines::Lines;

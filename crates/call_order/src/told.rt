@@ -1,7 +1,7 @@
 //! What was told of the calls of each vat.
 
 ghost use Rattle.std.specs.Prelude.{◌≡◌, ℕ, [], OnOk};
-ghost use Rattle.call_order.specs.Kept.{told_of, IsTold};
+ghost use Rattle.call_order.specs.Glue.Told.{told_of, IsTold};
 ghost use Rattle.undelivered.specs.Order.{AreOnce, IsFault};
 
 use std::alloc::{AllocError, Global};

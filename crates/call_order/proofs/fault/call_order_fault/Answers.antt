@@ -1,12 +1,11 @@
-use Rattle.std.proofs.Common.{◌≡◌, ◌∙◌, ◌+◌, ◌==◌, refl, sym, ap, subst, List, ℕ, map, reverse, take, option_map, arith}
+use Rattle.std.proofs.Common.{◌∙◌, ◌==◌, sym, ap, subst, reverse, take, option_map}
 use Rattle.std.specs.Prelude.{find}
-use Rattle.std.specs.Arc.{arc_value}
-use Rattle.std.proofs.lemmas.List.{take_all, reverse-reverse}
+use Rattle.std.proofs.lemmas.List.{take_all}
 use Rattle.call_trace.proofs.Reaching.{turn_more}
 use Rattle.call_trace.proofs.Single.{named_row}
-use Rattle.call_trace.specs.Findings.{logs_of}
 use Rattle.vat_log.specs.Log.{Log}
-use Rattle.call_order.specs.Kept.{log_kept, early_of, IsLeastIn, IsReached}
+use Rattle.call_order.specs.Glue.Told.{early_of, IsLeastIn}
+use Rattle.call_order.specs.Glue.Reached.{IsReached}
 use Rattle.call_order.proofs.Finding.{all_once, fault_is}
 use Rattle.call_order.proofs.Least.{vats_of}
 use Rattle.call_order.proofs.Reaching.{reached_begin, reached_all}

@@ -4,7 +4,7 @@ use Rattle.std.specs.Arc.{arc_value}
 use Rattle.call_trace.specs.Findings.{logs_of}
 use Rattle.merge_order.specs.Fits.{IsRising}
 use Rattle.vat_rules.specs.Audit.{Found}
-use Rattle.call_order.specs.Kept.{IsReached}
+use Rattle.call_order.specs.Glue.Reached.{IsReached}
 use Rattle.call_order.proofs.fault.call_order_fault.Given as goal
 
 -- the turns so far were taken

@@ -1,10 +1,10 @@
-use Rattle.std.proofs.Common.{◌≡◌, ◌∙◌, ◌∷◌, ◌++◌, ◌+◌, [], List, refl, sym, ap, subst, take, map, Global, arith}
+use Rattle.std.proofs.Common.{◌≡◌, ◌∙◌, ◌∷◌, ◌++◌, [], sym, ap, subst, take, map, Global, arith}
 use Rattle.std.specs.Arc.{arc_value}
 use Rattle.std.proofs.lemmas.List.{take_all, take_more, map-append}
 use Rattle.vat_log.specs.Log.{Log}
 use Rattle.vat_log.specs.declared.log.VatLog.{VatLog}
 use Rattle.undelivered.specs.Order.{IsFault}
-use Rattle.call_order.specs.Kept.{early_of, told_of, IsLeastIn}
+use Rattle.call_order.specs.Glue.Told.{early_of, told_of, IsLeastIn}
 use Rattle.call_order.proofs.Least.{vats_of, least_more}
 use Rattle.call_order.proofs.fault.least_of.Goals as goal
 

@@ -1,6 +1,6 @@
 use Rattle.std.proofs.Common.{map, take}
 use Rattle.std.specs.Arc.{arc_value}
-use Rattle.call_order.specs.Kept.{early_of, AreAllOnce, IsLeastIn}
+use Rattle.call_order.specs.Glue.Told.{early_of, AreAllOnce, IsLeastIn}
 use Rattle.call_order.proofs.Least.{vats_of}
 use Rattle.call_order.proofs.fault.least_of.Given as goal
 

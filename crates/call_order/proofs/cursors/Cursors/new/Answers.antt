@@ -1,4 +1,4 @@
-use Rattle.std.proofs.Common.{◌≡◌, ◌∙◌, ◌∷◌, ◌++◌, ◌+◌, ◌==◌, [], ℕ, Some, refl, sym, ap, subst, if◌then◌else◌, take, map, option_map, reverse, Global, arith}
+use Rattle.std.proofs.Common.{◌≡◌, ◌∙◌, ◌∷◌, ◌++◌, ◌==◌, [], ℕ, Some, refl, sym, ap, subst, if◌then◌else◌, take, map, option_map, reverse, Global, arith}
 use Rattle.std.specs.Prelude.{find}
 use Rattle.std.specs.Arc.{arc_value}
 use Rattle.std.specs.BTreeMap.{get}
@@ -6,7 +6,7 @@ use Rattle.std.specs.Ordering.{nat_cmp}
 use Rattle.std.proofs.lemmas.List.{take_all, take_more, map-append}
 use Rattle.vat_log.specs.Log.{Log}
 use Rattle.vat_log.specs.declared.log.VatLog.{VatLog}
-use Rattle.call_order.specs.Kept.{log_kept}
+use Rattle.call_order.specs.Glue.Cursors.{log_kept}
 use Rattle.call_order.specs.declared.cursors.Cursor.{Cursor}
 use Rattle.call_order.proofs.Keys.{put_number}
 use Rattle.call_order.proofs.Logs.{one_log_more}

@@ -2,7 +2,7 @@ use Rattle.std.proofs.Common.{◌≡◌, ◌==◌, ℕ, map, option_map, reverse
 use Rattle.std.specs.Prelude.{find}
 use Rattle.std.specs.Arc.{arc_value}
 use Rattle.vat_log.specs.Log.{Log}
-use Rattle.call_order.specs.Kept.{log_kept}
+use Rattle.call_order.specs.Glue.Cursors.{log_kept}
 use Rattle.call_order.proofs.cursors.Cursors.new.Given as goal
 
 -- of the logs so far the last of each vat is kept

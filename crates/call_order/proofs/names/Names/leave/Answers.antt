@@ -1,6 +1,6 @@
 use Rattle.std.proofs.Common.{None}
 use Rattle.std.specs.BTreeMap.{get}
-use Rattle.call_order.specs.Kept.{key_cmp}
+use Rattle.call_order.specs.Glue.Names.{key_cmp}
 use Rattle.call_order.proofs.Keys.{put_key}
 use Rattle.call_order.proofs.names.Names.leave.Goals as goal
 

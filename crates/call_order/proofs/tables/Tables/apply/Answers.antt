@@ -1,6 +1,6 @@
 use Rattle.std.proofs.Common.{sym, subst}
 use Rattle.call_trace.proofs.Keeping.{on_ok}
-use Rattle.call_order.specs.Kept.{IsDone}
+use Rattle.call_order.specs.Glue.Tables.{IsDone}
 use Rattle.call_order.proofs.tables.Tables.apply.Goals as goal
 
 pub returns-in-Receive : goal.returns-in-Receive

@@ -3,6 +3,7 @@ pub mod Judging
 pub mod Noted
 pub mod Owning
 pub mod Firsts
+pub mod Longer
 pub mod Taken
 pub mod Unread
 pub mod SlimOutcomes

@@ -30,10 +30,11 @@ pub use facts::story::Story;
 pub use finding::VatFinding;
 pub use laws::{
     earlier_logs_have_no_light_returns, good_logs_are_good, good_openings_are_closed_once,
-    good_records_turn_once, later_edition_keeps_more,
+    good_records_turn_once, later_edition_keeps_more, refused_logs_stay_refused,
 };
 pub use outcome::{Outcome, Why};
 pub use rule::Rule;
 pub use slim::audit::audit_slim;
 pub use slim::finding::{SlimFinding, SlimOutcome};
 pub use slim::story::SlimStory;
+pub use slim::vat_audit::VatAudit;

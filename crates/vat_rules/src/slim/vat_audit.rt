@@ -1,0 +1,132 @@
+//! The audit of one log that takes one record after another.
+
+ghost use Rattle.std.specs.Prelude.{◌≡◌, ◌∷◌, [], IfOk, OnOk, OnErr, MatchOption};
+ghost use Rattle.vat_rules.specs.Audit.{reads_by};
+ghost use Rattle.vat_rules.specs.Audited.{with_record, IsTrueOfAudited};
+ghost use Rattle.vat_rules.specs.Slim.{outcome_in};
+ghost use Rattle.vat_rules.specs.Glue.Taking.{IsPutNext, IsRefused, refused_at};
+
+use crate::slim::finding::SlimOutcome;
+use crate::slim::tally::Tally;
+use crate::taking::Refusal;
+use crate::why::unread;
+use erased::Erased;
+use rpc_view::{Edition, Limits};
+use std::alloc::{AllocError, Global};
+use std::marker::Model;
+use vat_log::Body;
+use vat_view::DecodedRecord;
+
+/// The outcome of a log whose first record that isn't good is this, for this reason.
+fn refused_at(at: u64, refusal: Refusal) -> SlimOutcome
+    ensures { outcome_in result ≡ refused_at at refusal }
+{
+    match refusal {
+        Refusal::Outside(why) => SlimOutcome::Outside { at, why },
+        Refusal::Broken(rule) => SlimOutcome::Broken { at, rule },
+    }
+}
+
+/// Reads one record more and judges it by an edition; where it is good, puts it behind the others; else why it isn't.
+fn take_next(
+    alloc: Global,
+    edition: Edition,
+    limits: Limits,
+    good: &mut Tally,
+    body: &Body,
+) -> Result<Option<Refusal>, AllocError>
+    ensures ok { IfOk result (λ r. MatchOption r
+        (IsPutNext edition (reads_by edition limits) good.old body.now good.new)
+        (IsRefused edition (reads_by edition limits) good.old body.now)) }
+    ensures err { OnErr result (good.new ≡ good.old) }
+{
+    let read = DecodedRecord::read(alloc, body, limits, edition);
+    let event = match &read {
+        Ok(event) => event,
+        Err(error) => return Ok(Some(unread(*error)?)),
+    };
+    match good.take(alloc, edition, event)? {
+        Some(rule) => Ok(Some(Refusal::Broken(rule))),
+        None => Ok(None),
+    }
+}
+
+/// The audit of one log that takes one record after another. It keeps none of them, but what the tables have of the good
+/// ones and how many these are, up to the first that isn't good; then that record's number and the reason alone.
+#[derive(Drop)]
+pub struct VatAudit {
+    edition: Edition,
+    limits: Limits,
+    taken: Erased<Body>,
+    good: Tally,
+    refused: Option<(u64, Refusal)>,
+}
+
+impl Model for VatAudit {
+    ghost use Rattle.std.specs.Prelude.{reverse};
+    ghost use Rattle.vat_rules.specs.Audit.{reads_by};
+    ghost use Rattle.vat_rules.specs.Audited.{Audited};
+    ghost use Rattle.vat_rules.specs.Glue.Auditing.{Stands};
+
+    ghost Value = { Audited };
+
+    ghost view = { λ audit. record {
+      edition = audit.edition;
+      limits = audit.limits;
+      records = reverse audit.taken.items;
+    } };
+
+    ghost invariant = { λ audit. Stands audit.edition (reads_by audit.edition audit.limits)
+        (reverse audit.taken.items) audit.good audit.refused };
+}
+
+impl VatAudit {
+    /// The audit of a log that is judged by an edition, [`edition_of`](crate::edition_of), before its first record; each
+    /// frame is read within the limits. It takes no memory.
+    pub fn new(alloc: Global, edition: Edition, limits: Limits) -> VatAudit
+        ensures { result ≡ record { edition = edition; limits = limits; records = [] } }
+    {
+        VatAudit {
+            edition,
+            limits,
+            taken: Erased::new(),
+            good: Tally::new(alloc),
+            refused: None,
+        }
+    }
+
+    /// Takes the log's next record. Once a record isn't good, those behind it are not looked at: whatever they are, the
+    /// log stays refused at that record ([`refused_logs_stay_refused`](crate::refused_logs_stay_refused)).
+    ///
+    /// # Errors
+    ///
+    /// Out of memory, and then the audit is as it was.
+    pub fn take(&mut self, alloc: Global, body: &Body) -> Result<(), AllocError>
+        ensures ok { OnOk result (self.new ≡ with_record body.now self.old) }
+        ensures err { OnErr result (self.new ≡ self.old) }
+    {
+        if self.refused.is_none() {
+            let at = self.good.len();
+            let refusal = take_next(alloc, self.edition, self.limits, &mut self.good, body)?;
+            if let Some(refusal) = refusal {
+                self.refused = Some((at, refusal));
+                self.good = Tally::new(alloc);
+            }
+        }
+        self.taken = self.taken.with(body);
+        Ok(())
+    }
+
+    /// What the rules say of the log that has just the records taken.
+    pub fn finish(self) -> SlimOutcome
+        ensures { IsTrueOfAudited self (outcome_in result) }
+    {
+        let VatAudit {
+            good, refused, ..
+        } = self;
+        match refused {
+            None => SlimOutcome::Good(good.into_story()),
+            Some((at, refusal)) => refused_at(at, refusal),
+        }
+    }
+}

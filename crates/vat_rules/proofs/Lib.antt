@@ -7,6 +7,7 @@ pub mod Longer
 pub mod Taken
 pub mod Unread
 pub mod SlimOutcomes
+pub mod Auditing
 pub mod Unique
 pub mod Once
 pub mod Entries

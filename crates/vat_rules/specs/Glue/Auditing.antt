@@ -11,7 +11,7 @@ use Rattle.vat_rules.specs.declared.taking.Refusal.{Refusal}
 -- all records of a log are good, and are these, the newest first
 pub record AreGood (edition : Edition) (read : Reader) (log : List Body) (past : Past) : Type 0 where
   pub good : AllGood edition read log (length log)
-  pub read : past ≡ past_at read log (length log)
+  pub before : past ≡ past_at read log (length log)
   pub as_many : length past ≡ length log
 
 -- so it is where none is refused; else this is the first that isn't good

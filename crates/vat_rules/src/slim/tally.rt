@@ -1,6 +1,6 @@
 //! Good records, and how many of them deliver a call.
 
-ghost use Rattle.std.specs.Prelude.{◌≡◌, ◌∷◌, [], IfOk, OnErr, MatchOption, count_by, length, reverse};
+ghost use Rattle.std.specs.Prelude.{◌≡◌, ◌+◌, ◌<◌, ◌^◌, ◌∷◌, [], IfOk, OnErr, MatchOption, count_by, length, reverse, if◌then◌else◌};
 ghost use Rattle.vat_rules.specs.Rules.{rules};
 ghost use Rattle.vat_rules.specs.Judged.{IsGoodBy, BreaksFirst};
 ghost use Rattle.vat_rules.specs.Telling.{entries_back, is_delivery};
@@ -34,6 +34,18 @@ impl Model for Tally {
 
     ghost invariant = { λ tally. (tally.count ≡ length tally.state)
         × (tally.delivered ≡ count_by is_delivery tally.state) };
+}
+
+/// How many calls were delivered, with one more record.
+fn counted(delivered: u64, event: &DecodedRecord) -> u64
+    requires { delivered + 1 < 2 ^ 64 }
+    ensures { result ≡ delivered + (if is_delivery event.now then 1 else 0) }
+{
+    if is_delivery(event) {
+        delivered + 1
+    } else {
+        delivered
+    }
 }
 
 impl Tally {
@@ -74,14 +86,14 @@ impl Tally {
         let Some(count) = self.count.checked_add(1) else {
             return Err(AllocError);
         };
-        if let Some(rule) = apply_if_good(alloc, edition, &mut self.state, event)? {
-            return Ok(Some(rule));
+        match apply_if_good(alloc, edition, &mut self.state, event)? {
+            Some(rule) => Ok(Some(rule)),
+            None => {
+                self.count = count;
+                self.delivered = counted(self.delivered, event);
+                Ok(None)
+            }
         }
-        self.count = count;
-        if is_delivery(event) {
-            self.delivered += 1;
-        }
-        Ok(None)
     }
 
     /// What the records tell.

@@ -1,10 +1,12 @@
 //! The audit of one log that takes one record after another.
 
-ghost use Rattle.std.specs.Prelude.{◌≡◌, ◌∷◌, [], IfOk, OnOk, OnErr, MatchOption};
+ghost use Rattle.std.specs.Prelude.{◌≡◌, List, ◌∷◌, ◌++◌, [], IfOk, OnOk, OnErr, MatchOption};
+ghost use Rattle.vat_log.specs.declared.body.Body.{Body};
 ghost use Rattle.vat_rules.specs.Audit.{reads_by};
 ghost use Rattle.vat_rules.specs.Audited.{with_record, IsTrueOfAudited};
 ghost use Rattle.vat_rules.specs.Slim.{outcome_in};
 ghost use Rattle.vat_rules.specs.Glue.Taking.{IsPutNext, IsRefused, refused_at};
+ghost use Rattle.vat_rules.specs.Glue.Auditing.{AreGood, Stands};
 
 use crate::slim::finding::SlimOutcome;
 use crate::slim::tally::Tally;
@@ -27,8 +29,9 @@ fn refused_at(at: u64, refusal: Refusal) -> SlimOutcome
     }
 }
 
-/// Reads one record more and judges it by an edition; where it is good, puts it behind the others; else why it isn't.
-fn take_next(
+/// Reads a log's next record and judges it by an edition; where it is good, puts it behind those before it; else why it
+/// isn't.
+fn put_next(
     alloc: Global,
     edition: Edition,
     limits: Limits,
@@ -48,6 +51,48 @@ fn take_next(
     match good.take(alloc, edition, event)? {
         Some(rule) => Ok(Some(Refusal::Broken(rule))),
         None => Ok(None),
+    }
+}
+
+/// The next record of a log whose records are all good so far: its number and why, where it isn't good, and then nothing is
+/// kept of those before it.
+fn refused_next(
+    alloc: Global,
+    edition: Edition,
+    limits: Limits,
+    good: &mut Tally,
+    body: &Body,
+) -> Result<Option<(u64, Refusal)>, AllocError>
+    ensures ok { (log : List Body) → AreGood edition (reads_by edition limits) log good.old
+        → IfOk result (Stands edition (reads_by edition limits) (log ++ body.now ∷ []) good.new) }
+    ensures err { OnErr result (good.new ≡ good.old) }
+{
+    let at = good.len();
+    match put_next(alloc, edition, limits, good, body)? {
+        Some(refusal) => {
+            *good = Tally::new(alloc);
+            Ok(Some((at, refusal)))
+        }
+        None => Ok(None),
+    }
+}
+
+/// The first record that isn't good, if there is one, of a log that has one record more.
+fn refused_first(
+    alloc: Global,
+    edition: Edition,
+    limits: Limits,
+    good: &mut Tally,
+    refused: Option<(u64, Refusal)>,
+    body: &Body,
+) -> Result<Option<(u64, Refusal)>, AllocError>
+    ensures ok { (log : List Body) → Stands edition (reads_by edition limits) log good.old refused
+        → IfOk result (Stands edition (reads_by edition limits) (log ++ body.now ∷ []) good.new) }
+    ensures err { OnErr result (good.new ≡ good.old) }
+{
+    match refused {
+        Some(first) => Ok(Some(first)),
+        None => refused_next(alloc, edition, limits, good, body),
     }
 }
 
@@ -105,14 +150,15 @@ impl VatAudit {
         ensures ok { OnOk result (self.new ≡ with_record body.now self.old) }
         ensures err { OnErr result (self.new ≡ self.old) }
     {
-        if self.refused.is_none() {
-            let at = self.good.len();
-            let refusal = take_next(alloc, self.edition, self.limits, &mut self.good, body)?;
-            if let Some(refusal) = refusal {
-                self.refused = Some((at, refusal));
-                self.good = Tally::new(alloc);
-            }
-        }
+        let refused = refused_first(
+            alloc,
+            self.edition,
+            self.limits,
+            &mut self.good,
+            self.refused,
+            body,
+        )?;
+        self.refused = refused;
         self.taken = self.taken.with(body);
         Ok(())
     }
@@ -121,9 +167,7 @@ impl VatAudit {
     pub fn finish(self) -> SlimOutcome
         ensures { IsTrueOfAudited self (outcome_in result) }
     {
-        let VatAudit {
-            good, refused, ..
-        } = self;
+        let VatAudit { good, refused, .. } = self;
         match refused {
             None => SlimOutcome::Good(good.into_story()),
             Some((at, refusal)) => refused_at(at, refusal),

@@ -85,6 +85,10 @@ pub begun : (edition : Edition) (read : Reader) (taken : List Body) (past : Past
 begun edition read taken past none first = rw (none, first) record { good = λ i lt. absurd (let no : ⊥ = omega (arith, lt) in no); before = refl; as_many = refl }
 
 -- a log of which so many records were taken
+pub audited_begun : (a : Audited) (log : Log) (limits : Limits) (edition : Edition) → a ≡ audited edition limits [] → edition ≡ edition_of log →
+    a ≡ audited (edition_of log) limits (take 0 log.records)
+audited_begun a log limits edition is same = is ∙ ap (λ e. audited e limits []) same
+
 pub audited_next : (a b : Audited) (log : Log) (limits : Limits) (at : ℕ) (body : Body) → a ≡ audited (edition_of log) limits (take at log.records) →
     slice_get log.records at ≡ Some body → b ≡ with_record body a → b ≡ audited (edition_of log) limits (take (at + 1) log.records)
 audited_next a b log limits at body is here more = more ∙ ap (with_record body) is ∙ ap (audited (edition_of log) limits) (sym (take-more log.records at body here))

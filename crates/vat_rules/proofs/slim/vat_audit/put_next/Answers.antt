@@ -10,4 +10,3 @@ returns-in-Some-clause-ok c = (
   read_is c.args.edition c.args.limits c.args.body.now c.in-Ok.event (rw c.in-Ok.is at c.read-read.ensures),
   rw c.in-Some.is at c.in_ok-rule.ensures.ok,
 )
-

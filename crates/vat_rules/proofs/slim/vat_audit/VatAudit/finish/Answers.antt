@@ -1,4 +1,4 @@
-use Rattle.std.proofs.Common.{◌≡◌, sym, subst}
+use Rattle.std.proofs.Common.{sym, subst}
 use Rattle.std.specs.Prelude.{reverse}
 use Rattle.vat_rules.specs.declared.outcome.Outcome.TheVariants.{Good}
 use Rattle.vat_rules.specs.LogFacts.{Told}

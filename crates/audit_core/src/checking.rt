@@ -1,8 +1,14 @@
 //! The audit of a case that keeps neither the steps of its run nor what its logs tell.
 
-ghost use Rattle.std.specs.Prelude.{◌≡◌, None, IfOk, IfErr, OnOk};
+ghost use Rattle.std.specs.Prelude.{◌≡◌, ◌<◌, ℕ, List, Option, Some, None, IfSome, IfOk, IfErr, OnOk, MatchResult, replicate};
+ghost use Rattle.merge_order.specs.Fits.{IsFitting};
+ghost use Rattle.case_book.specs.Case.{link_limit};
+ghost use Rattle.case_book.specs.Ties.{tie_fault_of};
+ghost use Rattle.audit_core.specs.Checking.{AreLinksFound, AreLogsFound, AreSummed, IsAuditAt, IsComparisonAt, IsCounted, IsKnown, delivered_by};
+ghost use Rattle.audit_core.specs.Glue.{AreBadEnds, IsBadFinding, IsFirstNot, under_way_on};
 ghost use Rattle.audit_core.specs.Lines.{IsLineOf, LineMeansHeadline};
 ghost use Rattle.audit_core.specs.Refusals.{IsRefusal, refusal_of};
+ghost use Rattle.audit_core.specs.Report.{AreGoodEnds, IsGoodFinding, IsOrderFor};
 
 use crate::auditing::refused;
 use crate::counts::count_records;
@@ -21,7 +27,9 @@ use std::thread::{self, Threads};
 use vat_rules::{SlimFinding, SlimOutcome, audit_slim};
 
 /// What is found of the log of this place. None where memory ran out.
-fn log_found<G: Gate>(alloc: Global, case: &Case, place: usize, gate: &G) -> Option<SlimFinding> {
+fn log_found<G: Gate>(alloc: Global, case: &Case, place: usize, gate: &G) -> Option<SlimFinding>
+    ensures { IfSome result (IsAuditAt case.now.logs place) }
+{
     let log = case.logs().get(place)?;
     let found = audit_slim(alloc, log, Limits::default()).ok();
     gate.before_post(place as u32);
@@ -29,9 +37,15 @@ fn log_found<G: Gate>(alloc: Global, case: &Case, place: usize, gate: &G) -> Opt
 }
 
 /// What is found of the link of this place. None where memory ran out.
-fn link_found<G: Gate>(alloc: Global, case: &Case, place: usize, gate: &G) -> Option<LinkFinding> {
+fn link_found<G: Gate>(alloc: Global, case: &Case, place: usize, gate: &G) -> Option<LinkFinding>
+    requires tied { tie_fault_of case.now ≡ None }
+    requires few { place < link_limit }
+    ensures { IfSome result (IsComparisonAt case.now place) }
+{
     let number = (case.logs().len() + place) as u32;
-    let found = case.find(alloc, Piece { number }).ok()?;
+    let Ok(found) = case.find(alloc, Piece { number }) else {
+        return None;
+    };
     gate.before_post(number);
     match found {
         Some(Finding::Link(link)) => Some(link),
@@ -40,7 +54,9 @@ fn link_found<G: Gate>(alloc: Global, case: &Case, place: usize, gate: &G) -> Op
 }
 
 /// So many places where nothing is found yet.
-fn nothing_found<T: Drop>(alloc: Global, count: usize) -> Result<Vec<Option<T>>, AllocError> {
+fn nothing_found<T: Drop>(alloc: Global, count: usize) -> Result<Vec<Option<T>>, AllocError>
+    ensures { IfOk result (λ places. places.items ≡ replicate count None) }
+{
     let mut places = Vec::with_capacity(alloc, count)?;
     for _ in 0..count {
         places.push(None)?;
@@ -55,13 +71,18 @@ fn logs_found<R: Threads + Sync, G: Gate + Sync>(
     case: &Case,
     workers: u32,
     gate: &G,
-) -> Result<Vec<Option<SlimFinding>>, AllocError> {
+) -> Result<Vec<Option<SlimFinding>>, AllocError>
+    requires { 0 < workers }
+    ensures { IfOk result (λ found. AreLogsFound case.now.logs found.items) }
+{
     let mut found = nothing_found(alloc, case.logs().len())?;
     thread::for_each_mut(
         rt,
         found.as_mut_slice(),
         workers as usize,
-        &|place: usize, found: &mut Option<SlimFinding>| {
+        &|place: usize, found: &mut Option<SlimFinding>|
+            ensures { IfSome found.exit.now (IsAuditAt case.entry.now.logs place) }
+        {
             *found = log_found(alloc, case, place, gate);
         },
     );
@@ -75,13 +96,20 @@ fn links_found<R: Threads + Sync, G: Gate + Sync>(
     case: &Case,
     workers: u32,
     gate: &G,
-) -> Result<Vec<Option<LinkFinding>>, AllocError> {
+) -> Result<Vec<Option<LinkFinding>>, AllocError>
+    requires some { 0 < workers }
+    requires tied { tie_fault_of case.now ≡ None }
+    ensures { IfOk result (λ found. AreLinksFound case.now found.items) }
+{
     let mut found = nothing_found(alloc, case.links().len())?;
     thread::for_each_mut(
         rt,
         found.as_mut_slice(),
         workers as usize,
-        &|place: usize, found: &mut Option<LinkFinding>| {
+        &|place: usize, found: &mut Option<LinkFinding>|
+            requires { (tie_fault_of case.now ≡ None) × (place < link_limit) }
+            ensures { IfSome found.exit.now (IsComparisonAt case.entry.now place) }
+        {
             *found = link_found(alloc, case, place, gate);
         },
     );
@@ -89,7 +117,11 @@ fn links_found<R: Threads + Sync, G: Gate + Sync>(
 }
 
 /// How many calls a good log delivers; or its line.
-fn told_of_log(found: &SlimFinding) -> Result<u64, Report> {
+fn told_of_log(found: &SlimFinding) -> Result<u64, Report>
+    ensures { MatchResult result
+        (λ delivered. IsGoodFinding found.now × (delivered ≡ delivered_by found.now))
+        (λ line. IsBadFinding line found.now) }
+{
     let vat = found.log().vat();
     match found.outcome() {
         SlimOutcome::Good(story) => Ok(story.delivered()),
@@ -107,7 +139,11 @@ fn told_of_log(found: &SlimFinding) -> Result<u64, Report> {
 }
 
 /// How many frames are under way on a good link; or its line.
-fn told_of_link(found: &LinkFinding) -> Result<u64, Report> {
+fn told_of_link(found: &LinkFinding) -> Result<u64, Report>
+    ensures { MatchResult result
+        (λ under_way. AreGoodEnds found.now × (under_way ≡ under_way_on found.now))
+        (λ line. AreBadEnds line found.now) }
+{
     match found.outcome() {
         LinkOutcome::Good { in_flight, .. } => Ok(in_flight),
         LinkOutcome::Broken { end, message } => Err(Report::Link {
@@ -119,7 +155,11 @@ fn told_of_link(found: &LinkFinding) -> Result<u64, Report> {
 }
 
 /// How many calls good logs deliver; or the line of the first log that isn't good.
-fn told_of_logs(found: &[Option<SlimFinding>]) -> Result<Result<u64, Report>, AllocError> {
+fn told_of_logs(found: &[Option<SlimFinding>]) -> Result<Result<u64, Report>, AllocError>
+    ensures { IfOk result (λ told. MatchResult told
+        (AreSummed IsGoodFinding delivered_by found.now)
+        (λ line. IsFirstNot (IsKnown IsGoodFinding) (IsKnown (IsBadFinding line)) found.now)) }
+{
     let mut delivered = 0u64;
     for place in found {
         let Some(found) = place else {
@@ -134,7 +174,11 @@ fn told_of_logs(found: &[Option<SlimFinding>]) -> Result<Result<u64, Report>, Al
 }
 
 /// How many frames are under way on good links; or the line of the first link that isn't good.
-fn told_of_links(found: &[Option<LinkFinding>]) -> Result<Result<u64, Report>, AllocError> {
+fn told_of_links(found: &[Option<LinkFinding>]) -> Result<Result<u64, Report>, AllocError>
+    ensures { IfOk result (λ told. MatchResult told
+        (AreSummed AreGoodEnds under_way_on found.now)
+        (λ line. IsFirstNot (IsKnown AreGoodEnds) (IsKnown (AreBadEnds line)) found.now)) }
+{
     let mut under_way = 0u64;
     for place in found {
         let Some(found) = place else {
@@ -162,14 +206,24 @@ fn told<R: Threads + Sync, G: Gate + Sync>(
     case: &Case,
     workers: u32,
     gate: &G,
-) -> Result<Result<Counts, Report>, AllocError> {
+) -> Result<Result<Counts, Report>, AllocError>
+    requires some { 0 < workers }
+    requires tied { tie_fault_of case.now ≡ None }
+    ensures { IfOk result (λ told. MatchResult told
+        (λ counts. IsCounted case.now counts.delivered counts.under_way)
+        (λ line. (given : Option (List ℕ)) → IsLineOf case.now given line)) }
+{
     let logs = logs_found(rt, alloc, case, workers, gate)?;
     let delivered = match told_of_logs(&logs)? {
         Ok(delivered) => delivered,
         Err(line) => return Ok(Err(line)),
     };
     let links = links_found(rt, alloc, case, workers, gate)?;
-    Ok(told_of_links(&links)?.map(|under_way| Counts {
+    let under_way = match told_of_links(&links)? {
+        Ok(under_way) => under_way,
+        Err(line) => return Ok(Err(line)),
+    };
+    Ok(Ok(Counts {
         delivered,
         under_way,
     }))
@@ -181,7 +235,13 @@ fn line_by_order(
     case: &Case,
     counts: Counts,
     order: &Order,
-) -> Result<Report, AllocError> {
+) -> Result<Report, AllocError>
+    requires counted { IsCounted case.now counts.delivered counts.under_way }
+    requires fits { IsFitting case.now.logs order.now }
+    ensures { IfOk result
+        (λ answer. (given : Option (List ℕ)) → IsOrderFor case.now.logs given order.now
+        → IsLineOf case.now given answer) }
+{
     match call_order_fault(alloc, case.logs(), order)? {
         Some((vat, at)) => Ok(Report::Vat {
             vat,
@@ -198,23 +258,47 @@ fn line_by_order(
     }
 }
 
-/// The line of a case whose logs and links are good: by the order that is given, or by the one that takes the smallest vat
-/// number that may come at each step.
+/// The line of a case whose logs and links are good, by an order that is given.
+fn line_by_given(
+    alloc: Global,
+    case: &Case,
+    counts: Counts,
+    order: &Order,
+) -> Result<Report, AllocError>
+    requires counted { IsCounted case.now counts.delivered counts.under_way }
+    ensures { IfOk result (IsLineOf case.now (Some order.now)) }
+{
+    match check_order(alloc, case.logs(), order)? {
+        OrderFinding::Fails(step) => Ok(Report::OrderStep(step)),
+        OrderFinding::Fits => line_by_order(alloc, case, counts, order),
+    }
+}
+
+/// The line of a case whose logs and links are good, where no order is given: by the one that takes the smallest vat number
+/// that may come at each step.
+fn line_by_least(alloc: Global, case: &Case, counts: Counts) -> Result<Report, AllocError>
+    requires counted { IsCounted case.now counts.delivered counts.under_way }
+    ensures { IfOk result (IsLineOf case.now None) }
+{
+    match make_order(alloc, case.logs())? {
+        None => Ok(Report::NoOrder),
+        Some(order) => line_by_order(alloc, case, counts, &order),
+    }
+}
+
+/// The line of a case whose logs and links are good: by the order that is given, if one is.
 fn line_of_good(
     alloc: Global,
     case: &Case,
     counts: Counts,
     order: Option<Order>,
-) -> Result<Report, AllocError> {
+) -> Result<Report, AllocError>
+    requires counted { IsCounted case.now counts.delivered counts.under_way }
+    ensures { IfOk result (IsLineOf case.now order) }
+{
     match order {
-        Some(order) => match check_order(alloc, case.logs(), &order)? {
-            OrderFinding::Fails(step) => Ok(Report::OrderStep(step)),
-            OrderFinding::Fits => line_by_order(alloc, case, counts, &order),
-        },
-        None => match make_order(alloc, case.logs())? {
-            Some(order) => line_by_order(alloc, case, counts, &order),
-            None => Ok(Report::NoOrder),
-        },
+        Some(order) => line_by_given(alloc, case, counts, &order),
+        None => line_by_least(alloc, case, counts),
     }
 }
 

@@ -5,7 +5,8 @@
 //! log is read, and on `exception_reasons`. A [`Past`] is a record with the log before it, and costs one walk over that:
 //! [`Life`] is what was seen of an export or import meanwhile, [`Opening`] what passed of a question. Beside these stand the
 //! notes that are made of them alone: numbers that aren't held, of which too much is given back, and questions that aren't free
-//! or have no room for what uses them. It needs nothing of how records are printed.
+//! or have no room for what uses them. A record is named by its number in the log, counted from 0. It needs nothing of how
+//! records are printed.
 #![tactic(auto)]
 
 mod life_notes;

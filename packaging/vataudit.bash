@@ -10,7 +10,7 @@ _vataudit_options() {
         records) echo "--from= --count=" ;;
         frame) echo "--later" ;;
         migrate) echo "--out= --later" ;;
-        wire | join) echo "--out=" ;;
+        salvage | wire | join) echo "--out=" ;;
     esac
 }
 
@@ -27,7 +27,7 @@ _vataudit_files() {
 }
 
 _vataudit() {
-    local commands="check order graph run draw vat records frame frames migrate wire join"
+    local commands="check order graph run draw vat records frame frames migrate salvage wire join"
     local word=${COMP_WORDS[COMP_CWORD]} before=${COMP_WORDS[COMP_CWORD - 1]} command="" at
     COMPREPLY=()
     for ((at = 1; at < COMP_CWORD; at++)); do
@@ -72,7 +72,7 @@ _vataudit() {
     esac
     case $command in
         check | order | graph | run | draw) _vataudit_files "$word" .json ;;
-        vat | records | migrate | join) _vataudit_files "$word" .log ;;
+        vat | records | migrate | salvage | join) _vataudit_files "$word" .log ;;
         frames | wire) _vataudit_files "$word" "" ;;
     esac
 }

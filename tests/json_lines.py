@@ -179,6 +179,7 @@ OTHERS = {
     "yes": of_yes,
     "order": lambda it: f"order steps {it['steps']}",
     "migrated": lambda it: f"migrated vat {it['vat']} records {it['records']}",
+    "salvaged": lambda it: f"salvaged vat {it['vat']} records {it['records']} bytes {it['bytes']}",
     "joined": lambda it: f"joined vats {it['vats']} links {it['links']}",
     "unmatched": connection_of,
     "ambiguous": connection_of,
@@ -350,6 +351,7 @@ def of_samples(program):
                 commands += [["check", name], ["graph", name], ["graph", name, "--dot"], ["run", name]]
                 commands += [["order", name, "--out", "made"]]
             commands += [["vat", name], ["records", name], ["frames", name], ["migrate", name, "--out", "made"]]
+            commands += [["salvage", name, "--out", "made"]]
             commands += [["wire", name, "library.server.frames"], ["wire", "library.client.frames", name]]
             commands += [["join", name, "pipelined_call.vat2.log", "--out", "made"]]
         return [(" ".join(words), difference(program, words, folder)) for words in commands]
@@ -371,7 +373,7 @@ def of_many(program, row):
     with tempfile.TemporaryDirectory() as folder:
         files = {"x.log": row["log"]} if "log" in row else row["files"]
         laid(folder, {name: base64.b64decode(data) for name, data in files.items()})
-        commands = [["vat", "x.log"], ["records", "x.log"]]
+        commands = [["vat", "x.log"], ["records", "x.log"], ["salvage", "x.log", "--out", "made"]]
         if "log" not in row:
             commands = [["check", "case.json"], ["graph", "case.json"], ["run", "case.json"], ["order", "case.json", "--out", "made"]]
         return [(f"{row['name']}: {' '.join(words)}", difference(program, words, folder)) for words in commands]

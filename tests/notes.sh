@@ -206,6 +206,8 @@ case_of '{"logs": ["pipelined_call.vat1.log", "cut.log", "none.log"], "links": [
 bad "bad log Short 8" log cut.log "$field" check tried.json
 { log 7 && printf '\x7f'; } >kind.log
 bad "bad log BadKind 12" log kind.log "note: a record was expected at byte 12, and no record begins so" records kind.log
+{ log 7 && number 1 1 && number 8 1 && number 8 5 && printf '\x7f'; } >later.log
+bad $'0 host reference 1 object 5\nbad log BadKind 29' log later.log "note: a record was expected at byte 29, and no record begins so" records later.log
 { log 7 && number 1 1 && number 8 0 && number 8 5; } >zero.log
 bad "bad log ZeroNumber 13" log zero.log "note: the reference or call at byte 13 is 0" vat zero.log
 : >no_bytes
@@ -294,6 +296,23 @@ bad "bad log BadMagic" log embargoed_calls.json "note: embargoed_calls.json $cas
 must 1 "unmatched connection 0 vat 1" "note: no other log's connection fits, or is left for, connection 0 of embargoed_calls.vat1.log: each end must have received the first frames that the other sent" join embargoed_calls.vat1.log --out made
 must 2 "" "note: cannot write /dev/full: $full" order pipelined_call.json --out /dev/full
 must 2 "" "note: cannot write /dev/full: $full" migrate pipelined_call.vat1.log --out /dev/full
+# what is whole of a cut log goes to a file that isn't there yet, and never to the log itself
+head -c 100 pipelined_call.vat2.log >cut_log
+cp cut_log cut_copy && ln -s cut_log cut_name
+out=$("$program" salvage cut_log --out whole_log 2>noted)
+differs "salvage cut_log" "lines" "$out" "salvaged vat 2 records 2 bytes 96" && failed=$((failed + 1)) || passed=$((passed + 1))
+differs "salvage cut_log" "notes" "$(cat noted)" "note: the last 4 bytes of cut_log are left out, from byte 96 on
+note: it has 100 bytes, and ends within the field that begins at byte 97" && failed=$((failed + 1)) || passed=$((passed + 1))
+differs "vat whole_log" "line" "$("$program" --quiet vat whole_log)" "good vat 2 records 2 delivered 0" && failed=$((failed + 1)) || passed=$((passed + 1))
+for name in whole_log cut_log cut_name; do
+    must 2 "" "note: cannot write $name: File exists (os error 17)" salvage cut_log --out $name
+done
+differs "salvage cut_log" "the log" "$(cksum <cut_log)" "$(cksum <cut_copy)" && failed=$((failed + 1)) || passed=$((passed + 1))
+out=$("$program" salvage pipelined_call.vat2.log --out whole_copy 2>noted)
+differs "salvage pipelined_call.vat2.log" "lines and notes" "$out $(cat noted)" "salvaged vat 2 records 8 bytes 474 " && failed=$((failed + 1)) || passed=$((passed + 1))
+differs "salvage pipelined_call.vat2.log" "the log" "$(cksum <whole_copy)" "$(cksum <pipelined_call.vat2.log)" && failed=$((failed + 1)) || passed=$((passed + 1))
+must 2 "cannot read" "note: cannot read none.log: $missing" salvage none.log --out made
+bad "bad log Short 8" log cut.log "$field" salvage cut.log --out made
 { "$program" records pipelined_call.vat1.log 2>noted; } | true
 differs "records, the reader gone" "notes" "$(cat noted)" "" && failed=$((failed + 1)) || passed=$((passed + 1))
 

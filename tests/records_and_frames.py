@@ -86,14 +86,25 @@ def record(reader, message):
 
 
 def wanted(data, message):
+    """The lines of the records, up to the end or to the first one that isn't whole; and whether that is the end."""
     reader = Reader(data)
-    if reader.take(8) != b"VATLOG01":
-        raise Bad
-    reader.take(4)
     lines = []
-    while reader.at < len(data):
-        lines.append(f"{len(lines)} {record(reader, message)}\n")
-    return "".join(lines)
+    try:
+        if reader.take(8) != b"VATLOG01":
+            raise Bad
+        reader.take(4)
+        while reader.at < len(data):
+            lines.append(f"{len(lines)} {record(reader, message)}\n")
+    except Bad:
+        return "".join(lines), False
+    return "".join(lines), True
+
+
+def is_answer(came, lines, is_whole):
+    """Whether these lines came, and behind them nothing, or where the log isn't whole its fault."""
+    rest = came.stdout.removeprefix(lines)
+    is_end = rest.startswith("bad log ") and rest.count("\n") == 1
+    return came.stdout.startswith(lines) and came.returncode == (0 if is_whole else 2) and (not rest if is_whole else is_end)
 
 
 def main():
@@ -122,11 +133,7 @@ def main():
             file.truncate()
             file.write(data)
             file.flush()
-            came = run("records", file.name)
-            try:
-                is_so = came.stdout == wanted(data, message) and came.returncode == 0
-            except Bad:
-                is_so = came.stdout.startswith("bad log ") and came.stdout.count("\n") == 1 and came.returncode == 2
+            is_so = is_answer(run("records", file.name), *wanted(data, message))
             same, other = same + is_so, other + (not is_so)
             if not is_so:
                 print(f"{row.get('name', index)} differs")

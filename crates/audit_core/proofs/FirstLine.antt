@@ -24,7 +24,7 @@ use Rattle.audit_core.proofs.Whole.{as_log, has_finding, finding_at, held_at, lo
 
 -- ---- the findings of vats
 
-good_finding : (found : Found) (outcome : Outcome) (story : Told) → outcome ≡ found.outcome → IsTrueOf found.log found.limits outcome → outcome ≡ Good story → IsGoodFinding found
+pub good_finding : (found : Found) (outcome : Outcome) (story : Told) → outcome ≡ found.outcome → IsTrueOf found.log found.limits outcome → outcome ≡ Good story → IsGoodFinding found
 good_finding found outcome story same true is = record {
   says = rw (← same, is) refl;
   means = (subst (IsTrueOf found.log found.limits) is true).0;

@@ -162,12 +162,12 @@ module _ (held : Contents) (case : IsCase held) (tied : tie_fault_of held ≡ No
   good_at : (log : Log) → Contains held.logs log → IsGoodFinding (finding_for log)
   good_at log there = record { says = refl; means = good.logs_good log there }
 
-  each_good : HoldsOfEach IsGoodFinding (findings_for held.logs)
+  pub each_good : HoldsOfEach IsGoodFinding (findings_for held.logs)
   each_good k found at =
       let own = finding_is held.logs k found at in
       subst IsGoodFinding own.2 (good_at own.0 (contained held.logs k own.0 own.1))
 
-  all_true : AreTrue (findings_for held.logs)
+  pub all_true : AreTrue (findings_for held.logs)
   all_true k d lt =
       let own = finding_is held.logs k (get_or (findings_for held.logs) k d) (slice_get-get_or (findings_for held.logs) k d lt) in
       subst (λ (found : Found). IsTrueOf found.log found.limits found.outcome) own.2 (good.logs_good own.0 (contained held.logs k own.0 own.1), refl)

@@ -86,6 +86,25 @@ pub(crate) fn find_all<R: Threads + Wait + Sync, G: Gate + Sync>(
     finish(alloc, book, gate)
 }
 
+/// A gate at which nobody waits.
+struct OpenGate;
+
+impl Gate for OpenGate {
+    fn before_post(&self, _piece: u32) {}
+}
+
+/// The findings of all pieces of a case, made on the calling thread.
+///
+/// # Errors
+///
+/// Out of memory.
+pub fn find_alone(alloc: Global, case: Case) -> Result<Findings, AllocError>
+    requires { tie_fault_of case ≡ None }
+    ensures { IfOk result (λ all. all.case ≡ case) }
+{
+    finish(alloc, Book::new(alloc, case)?, &OpenGate)
+}
+
 /// Audits a case: the report of its findings, and of the order that is given, or of the one that takes the smallest vat
 /// number that may come at each step. The report is the same for every number of workers, at least 1 and at most 64: clause
 /// `report` says it without them, and there is one such report ([`a_case_has_one_report`](crate::a_case_has_one_report)). The

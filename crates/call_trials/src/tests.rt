@@ -4,6 +4,7 @@
 mod audits;
 mod books;
 mod cases;
+mod deliveries;
 mod edges;
 mod ends;
 mod faults;
@@ -17,6 +18,7 @@ mod naming;
 mod open_ends;
 mod orders;
 mod pointers;
+mod readers;
 mod rules;
 mod states;
 mod tables;

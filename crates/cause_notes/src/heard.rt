@@ -3,13 +3,12 @@
 use crate::joins::JoinNote;
 use crate::row_limit::RowLimit;
 use audit_core::{Breach, Report};
-use case_book::Findings;
+use case_book::{Case, Findings};
 use input_notes::WireFound;
 use report_lines::{Answer, Fault, report_sentence, why_sentence};
 use std::mem;
-use std::sync::Arc;
-use vat_log::VatLog;
-use vat_rules::{SlimFinding, SlimOutcome};
+use vat_log::{LogError, Salvaged};
+use vat_rules::{Outcome, SlimFinding, SlimOutcome, VatFinding};
 use wire_logs::WireAnswer;
 
 /// What was heard of the answer that was said last.
@@ -56,20 +55,27 @@ pub(crate) enum HeardAnswer {
     Wire,
     /// What was found of logs whose connections are joined.
     Join,
+    /// A log was salvaged, and a part of it is left out.
+    Cut {
+        /// The fault of its bytes.
+        fault: LogError,
+        /// How many bytes its whole records have, with the header.
+        end: usize,
+    },
     /// The log of a vat is good.
     GoodLog,
     /// The report of a case is yes.
     Yes,
 }
 
-/// What was heard of the answer that was said last, and what was found of the case that it judges, or of the connection, or the
-/// log that was audited, where notes are to be made.
+/// What was heard of the answer that was said last, and the case that it judges, or what was found of it, or of the connection,
+/// where notes are to be made.
 #[derive(Debug, Drop)]
 pub struct Heard {
     is_noted: bool,
     pub(crate) told: HeardAnswer,
     pub(crate) findings: Option<Findings>,
-    pub(crate) log: Option<Arc<VatLog>>,
+    pub(crate) case: Option<Case>,
     pub(crate) wire: Option<WireFound>,
     pub(crate) join: Option<JoinNote>,
     pub(crate) limit: Option<RowLimit>,
@@ -113,7 +119,7 @@ fn of_report(report: &Report) -> HeardAnswer {
 
 /// What is heard of the finding of a log.
 fn of_finding(finding: &SlimFinding) -> HeardAnswer {
-    let vat = finding.log().vat();
+    let vat = finding.vat();
     match finding.outcome() {
         SlimOutcome::Good(_) => HeardAnswer::GoodLog,
         SlimOutcome::Broken { at, rule } => of_report(&Report::Vat {
@@ -129,6 +135,17 @@ fn of_finding(finding: &SlimFinding) -> HeardAnswer {
     }
 }
 
+/// What is heard of what is whole of a log.
+fn of_salvaged(found: &Salvaged) -> HeardAnswer {
+    match found.fault {
+        Some(fault) => HeardAnswer::Cut {
+            fault,
+            end: found.log.bytes().len(),
+        },
+        None => HeardAnswer::Nothing,
+    }
+}
+
 impl Heard {
     /// Before any answer, of which notes are to be made or not.
     fn before(is_noted: bool) -> Heard {
@@ -136,7 +153,7 @@ impl Heard {
             is_noted,
             told: HeardAnswer::Nothing,
             findings: None,
-            log: None,
+            case: None,
             wire: None,
             join: None,
             limit: None,
@@ -159,14 +176,12 @@ impl Heard {
             Answer::Finding(finding) => of_finding(finding),
             Answer::Report(report) => of_report(report),
             Answer::NoOrder => of_report(&Report::NoOrder),
+            Answer::Salvaged(found) => of_salvaged(found),
             Answer::Wire(_) => HeardAnswer::Wire,
             Answer::Join(_) => HeardAnswer::Join,
             Answer::Fault(fault) => HeardAnswer::Fault(*fault),
             Answer::Message(_) | Answer::Order(_) | Answer::Migrated(_) => HeardAnswer::Nothing,
         };
-        if let (true, Answer::Finding(finding)) = (self.is_noted, answer) {
-            self.log = Arc::try_clone(finding.log()).ok();
-        }
     }
 
     /// Keeps what was found of a connection, with its logs where all is explained.
@@ -190,6 +205,15 @@ impl Heard {
             self.findings = Some(findings);
         } else {
             mem::forget(findings);
+        }
+    }
+
+    /// Keeps a case of which the line alone was found, where notes are to be made of it.
+    pub fn keep_case(&mut self, case: Case) {
+        if self.is_noted {
+            self.case = Some(case);
+        } else {
+            mem::forget(case);
         }
     }
 

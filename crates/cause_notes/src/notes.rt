@@ -1,12 +1,13 @@
 //! The notes beside an answer.
 
 use crate::heard::{Heard, HeardAnswer};
-use crate::inputs::bad_input::put_fault;
+use crate::inputs::bad_input::{put_fault, put_left_out};
 use crate::inputs::unread::SearchingSource;
 use crate::joins::put_join;
 use crate::row_limit::put_limit;
-use audit_core::Breach;
+use audit_core::{Breach, find_alone};
 use bytes::Bytes;
+use case_book::{Case, Findings};
 use case_notes::{put_counterpart, put_links, put_order_cause, put_others, put_received};
 use input_notes::{message_sentence, put_wire};
 use open_notes::{OpenCase, open_object, put_good};
@@ -17,7 +18,7 @@ use rule_notes::put_rule_cause;
 use serde_json::Value;
 use std::alloc::{AllocError, Global};
 use std::fmt::Write;
-use vat_log::VatLog;
+use vat_log::{LogError, VatLog, parse_log};
 
 /// Appends the notes of what led to a record that breaks a rule.
 fn put_cause(
@@ -112,9 +113,53 @@ fn put_told(
         | HeardAnswer::Fault(_)
         | HeardAnswer::Wire
         | HeardAnswer::Join
+        | HeardAnswer::Cut { .. }
         | HeardAnswer::Yes
         | HeardAnswer::GoodLog => Ok(()),
     }
+}
+
+/// Whether notes of this tell of what was found of logs and links.
+fn tells_of_findings(told: HeardAnswer) -> bool {
+    matches!(
+        told,
+        HeardAnswer::Broken { .. } | HeardAnswer::Outside { .. } | HeardAnswer::Link { .. }
+    )
+}
+
+/// What is found of each log and each link of a case whose line says no.
+fn findings_of(alloc: Global, case: &Case) -> Result<Option<Findings>, AllocError> {
+    if case.tie_fault().is_some() {
+        return Ok(None);
+    }
+    Ok(Some(find_alone(alloc, case.copy(alloc)?)?))
+}
+
+/// Appends the notes of a no or of an outside beside what was found, if anything was.
+fn put_by_findings<S: SearchingSource>(
+    alloc: Global,
+    text: &mut String,
+    source: &S,
+    findings: &Option<Findings>,
+    told: HeardAnswer,
+) -> Result<(), AllocError> {
+    let logs = Logs {
+        files: source.kept(),
+        findings: findings.as_ref(),
+    };
+    put_told(alloc, text, &logs, told)
+}
+
+/// Appends the notes of a no or of an outside of a case of which the line alone was found: the rest is found once more.
+fn put_of_case<S: SearchingSource>(
+    alloc: Global,
+    text: &mut String,
+    source: &S,
+    case: &Case,
+    told: HeardAnswer,
+) -> Result<(), AllocError> {
+    let found = findings_of(alloc, case)?;
+    put_by_findings(alloc, text, source, &found, told)
 }
 
 /// Appends the notes beside an answer that isn't good and no fault, a line each.
@@ -130,11 +175,13 @@ fn put_bad<S: SearchingSource>(
     if let (HeardAnswer::Join, Some(note)) = (heard.told, heard.join) {
         return put_join(text, source.kept(), note);
     }
-    let logs = Logs {
-        files: source.kept(),
-        findings: heard.findings.as_ref(),
-    };
-    put_told(alloc, text, &logs, heard.told)
+    if let HeardAnswer::Cut { fault, end } = heard.told {
+        return put_left_out(text, source, fault, end);
+    }
+    if let (Some(case), true) = (&heard.case, tells_of_findings(heard.told)) {
+        return put_of_case(alloc, text, source, case, heard.told);
+    }
+    put_by_findings(alloc, text, source, &heard.findings, heard.told)
 }
 
 /// What people are told beside an answer.
@@ -193,18 +240,33 @@ pub enum Form {
     Json,
 }
 
-/// What people are told of a log that is good, behind these notes. Its frames are read once more: its audit kept no record.
+/// The log that was read last, where it is kept.
+fn last_log(alloc: Global, files: &[(String, Bytes)]) -> Result<Option<VatLog>, AllocError> {
+    let Some((_, bytes)) = files.last() else {
+        return Ok(None);
+    };
+    match parse_log(alloc, bytes.clone()?) {
+        Ok(log) => Ok(Some(log)),
+        Err(LogError::OutOfMemory) => Err(AllocError),
+        Err(_) => Ok(None),
+    }
+}
+
+/// What people are told of the log that was read last and is good, behind these notes. It is read once more: its audit kept no
+/// record.
 fn notes_of_log(
     alloc: Global,
     text: String,
     files: &[(String, Bytes)],
-    log: &VatLog,
     form: Form,
 ) -> Result<Notes, AllocError> {
-    let Some(events) = events_of(alloc, log)? else {
+    let Some(log) = last_log(alloc, files)? else {
         return Ok(Notes::of_text(text));
     };
-    let found = OpenCase::of_log(alloc, log, events.as_slice(), files)?;
+    let Some(events) = events_of(alloc, &log)? else {
+        return Ok(Notes::of_text(text));
+    };
+    let found = OpenCase::of_log(alloc, &log, events.as_slice(), files)?;
     Notes::of_found(alloc, text, found, form)
 }
 
@@ -230,8 +292,12 @@ pub fn notes_of<S: SearchingSource>(
         let found = OpenCase::of_findings(alloc, findings, source.kept())?;
         return Notes::of_found(alloc, text, found, form);
     }
-    if let (HeardAnswer::GoodLog, Some(log)) = (heard.told, &heard.log) {
-        return notes_of_log(alloc, text, source.kept(), log, form);
+    if let (HeardAnswer::Yes, Some(case)) = (heard.told, &heard.case) {
+        let found = OpenCase::of_case(alloc, case, source.kept())?;
+        return Notes::of_found(alloc, text, found, form);
+    }
+    if heard.told == HeardAnswer::GoodLog {
+        return notes_of_log(alloc, text, source.kept(), form);
     }
     put_bad(alloc, &mut text, heard, source)?;
     Ok(Notes::of_text(text))

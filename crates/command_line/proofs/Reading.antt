@@ -20,7 +20,7 @@ use Rattle.clap.specs.declared.builder.value_parser.ValueParser.TheVariants as p
 use Rattle.clap.proofs.OnLiterals.{clap_on_literals}
 use Rattle.command_line.proofs.Faultless.{first_none, never, then_none}
 use Rattle.command_line.proofs.Filled.{AllBring, AreFull, Brings, default_row, first_passes, given_value, level_full, no_default, parser_by, replaced_full, row_value, values_full, values_pass}
-use Rattle.command_line.proofs.Named.{IsOneOf, Named, Reader, all_names, checking, drawing, framing, graphing, help_word, joining, listing, migrating, name_of, of_frames, of_run, of_vat, ordering, reading, which, wiring, word_of}
+use Rattle.command_line.proofs.Named.{IsOneOf, Named, Reader, all_names, checking, drawing, framing, graphing, help_word, joining, listing, migrating, name_of, of_frames, of_run, of_vat, ordering, reading, salvaging, which, wiring, word_of}
 use Rattle.command_line.proofs.One.{HasFile, at, dashes, help, holding, main, names, sub, word_plain, words_read}
 use Rattle.command_line.specs.Parser.{check, count, dot, draw, flag_rule, folder_rule, frame, graph, html, input, input_rule, join, later, logs_rule, migrate, most, number_rule, other, other_rule, path, path_rule, program, records, start, wire, workers, workers_rule, writer}
 use Rattle.command_line.specs.Spelled.{IsChecked, SpellsOne}
@@ -85,14 +85,17 @@ records_sub = unwrap_or (slice_get (built program).subs 6) records.top
 abbrev migrate_sub : Shape
 migrate_sub = unwrap_or (slice_get (built program).subs 9) migrate.top
 
+abbrev salvage_sub : Shape
+salvage_sub = unwrap_or (slice_get (built program).subs 10) (writer (codes "salvage")).top
+
 abbrev frame_sub : Shape
 frame_sub = unwrap_or (slice_get (built program).subs 7) frame.top
 
 abbrev wire_sub : Shape
-wire_sub = unwrap_or (slice_get (built program).subs 10) wire.top
+wire_sub = unwrap_or (slice_get (built program).subs 11) wire.top
 
 abbrev join_sub : Shape
-join_sub = unwrap_or (slice_get (built program).subs 11) join.top
+join_sub = unwrap_or (slice_get (built program).subs 12) join.top
 
 abbrev graph_sub : Shape
 graph_sub = unwrap_or (slice_get (built program).subs 2) graph.top
@@ -104,6 +107,7 @@ shape_by ordering = order_sub
 shape_by drawing = draw_sub
 shape_by listing = records_sub
 shape_by migrating = migrate_sub
+shape_by salvaging = salvage_sub
 shape_by graphing = graph_sub
 shape_by framing = frame_sub
 shape_by wiring = wire_sub
@@ -128,6 +132,7 @@ stop_at ordering words = stops (holding None) idle 1 false (name_of ordering) []
 stop_at drawing words = stops (holding None) idle 1 false (name_of drawing) [] words
 stop_at listing words = stops (holding None) idle 1 false (name_of listing) [] words
 stop_at migrating words = stops (holding None) idle 1 false (name_of migrating) [] words
+stop_at salvaging words = stops (holding None) idle 1 false (name_of salvaging) [] words
 stop_at framing words = stops (holding None) idle 1 false (name_of framing) [] words
 stop_at wiring words = stops (holding None) idle 1 false (name_of wiring) [] words
 stop_at joining words = stops (holding None) idle 1 false (name_of joining) [] words
@@ -143,6 +148,7 @@ entered_level ordering words = refl
 entered_level drawing words = refl
 entered_level listing words = refl
 entered_level migrating words = refl
+entered_level salvaging words = refl
 entered_level framing words = refl
 entered_level wiring words = refl
 entered_level joining words = refl
@@ -157,6 +163,7 @@ entered_rows ordering words = refl
 entered_rows drawing words = refl
 entered_rows listing words = refl
 entered_rows migrating words = refl
+entered_rows salvaging words = refl
 entered_rows framing words = refl
 entered_rows wiring words = refl
 entered_rows joining words = refl
@@ -248,6 +255,7 @@ brings drawing =
     (brings_case, tt, (brings_path, tt, (brings_number start refl, tt, (brings_number count refl, tt, (brings_flag html refl, (refl, tt), (brings_help, tt, tt))))))
 brings migrating = (brings_case, tt, (brings_flag later refl, (refl, tt), (brings_path, tt, (brings_help, tt, tt))))
 brings graphing = (brings_case, tt, (brings_flag dot refl, (refl, tt), (brings_help, tt, tt)))
+brings salvaging = (brings_case, tt, (brings_path, tt, (brings_help, tt, tt)))
 brings wiring = (brings_case, tt, (brings_other, tt, (brings_folder, tt, (brings_help, tt, tt))))
 brings joining = (brings_logs, tt, (brings_path, tt, (brings_help, tt, tt)))
 brings framing = (brings_case, tt, (brings_flag later refl, (refl, tt), (brings_help, tt, tt)))
@@ -284,6 +292,7 @@ Besides checking words rows file = (t : Text) × ((first_of workers rows ≡ Som
 Besides ordering words rows file = (out : Text) × (first_of path rows ≡ Some out)
 Besides drawing words rows file = (out : Text) × ((first_of path rows ≡ Some out) × IsChecked 0 most (first_of start rows) × IsChecked 0 most (first_of count rows))
 Besides migrating words rows file = (out : Text) × (first_of path rows ≡ Some out)
+Besides salvaging words rows file = (out : Text) × (first_of path rows ≡ Some out)
 Besides wiring words rows file = (another : Text) × (first_of other rows ≡ Some another)
 Besides joining words rows file = (out : Text) × (first_of path rows ≡ Some out)
 Besides graphing words rows file = ⊤
@@ -323,6 +332,12 @@ finds_by drawing first rest e full none =
     (file.0, (file.1, (out.0, (out.1, checked 0 most start rows refl full, checked 0 most count rows refl full))))
 finds_by migrating first rest e full none =
     let rows = rows_after migrate_sub.rules [] rest in
+    let given = both_given (is_given input rows) (is_given path rows) none in
+    let file = given_value input rows given.0 full in
+    let out = given_value path rows given.1 full in
+    (file.0, (file.1, (out.0, out.1)))
+finds_by salvaging first rest e full none =
+    let rows = rows_after salvage_sub.rules [] rest in
     let given = both_given (is_given input rows) (is_given path rows) none in
     let file = given_value input rows given.0 full in
     let out = given_value path rows given.1 full in

@@ -17,7 +17,7 @@ use Rattle.clap.specs.declared.error.ErrorKind.TheVariants.{ValueValidation}
 use Rattle.clap.specs.declared.builder.value_parser.ValueParser.{ValueParser}
 use Rattle.clap.specs.declared.builder.value_parser.ValueParser.TheVariants as parser
 use Rattle.clap.proofs.OnLiterals.{clap_on_literals}
-use Rattle.command_line.proofs.Named.{Reader, checking, drawing, framing, graphing, joining, listing, migrating, name_of, of_frames, of_run, of_vat, ordering, reader_of, wiring, word_of}
+use Rattle.command_line.proofs.Named.{Reader, checking, drawing, framing, graphing, joining, listing, migrating, name_of, of_frames, of_run, of_vat, ordering, reader_of, salvaging, wiring, word_of}
 use Rattle.command_line.proofs.One.{at, dashes, given, holding, sub}
 use Rattle.command_line.proofs.Reading.{shape_by}
 use Rattle.command_line.specs.Parser.{most, path, program, start}
@@ -311,6 +311,20 @@ pub takes_migrate_later : (first file out : Text) → is_flag file ≡ false →
     → fault_of program (first ∷ name_of migrating ∷ file ∷ codes "--later" ∷ codes "--out" ∷ out ∷ []) ≡ []
 unfolding clap_on_literals
 takes_migrate_later first file out e h = ap (λ (k : Kinds). or_else k []) (migrate_later_words file out e h)
+
+-- ---- salvage
+
+salvage_words : (file out : Text) → is_flag file ≡ false → is_flag out ≡ false → level_fault (shape_by salvaging) [] nothing_held (file ∷ codes "--out" ∷ out ∷ []) false [] ≡ []
+unfolding clap_on_literals
+salvage_words file out e h =
+    let is = plain_word_is file e in
+    let are = plain_word_is out h in
+    rw (is.0, is.1, is.2, are.0, are.1, are.2) refl
+
+-- has no fault, where neither FILE is a flag
+pub takes_salvage : (first file out : Text) → is_flag file ≡ false → is_flag out ≡ false → fault_of program (first ∷ name_of salvaging ∷ file ∷ codes "--out" ∷ out ∷ []) ≡ []
+unfolding clap_on_literals
+takes_salvage first file out e h = ap (λ (k : Kinds). or_else k []) (salvage_words file out e h)
 
 -- ---- records
 

@@ -39,7 +39,7 @@ path = codes "out"
 abbrev pub path_rule : Rule
 path_rule = record (new_rule path) { long = Some (codes "out"); value_names = 1; required = true }
 
--- a command that reads one thing and writes a file: `order CASE --out FILE`
+-- a command that reads one thing and writes a file: `order CASE --out FILE`, `salvage FILE --out FILE`
 abbrev pub writer : List ℕ → App
 writer name = with_rule (with_rule (new_app name) input_rule) path_rule
 
@@ -133,13 +133,17 @@ abbrev pub reading : App
 reading =
     with_subcommand (with_subcommand (with_subcommand (with_subcommand judging (reader (codes "vat")).top) records.top) frame.top) (reader (codes "frames")).top
 
--- and with the one that writes a log
+-- and with the one that writes a log in another version
 abbrev pub writing : App
 writing = with_subcommand reading migrate.top
 
+-- and with the one that writes what is whole of a log
+abbrev pub salvaging : App
+salvaging = with_subcommand writing (writer (codes "salvage")).top
+
 -- and with the one that reads the bytes of a connection
 abbrev pub wiring : App
-wiring = with_subcommand writing wire.top
+wiring = with_subcommand salvaging wire.top
 
 -- and with the one that joins logs
 abbrev pub program : App

@@ -3,7 +3,7 @@ use Rattle.std.specs.Prelude.{◌≡◌, ◌⊎◌, ◌==◌, ◌≤◌, ⊤, �
 use Rattle.std.specs.Str.{bytes_eq}
 use Rattle.std.specs.Str.Parse.{IsNumeral, digits_value, without_leading_plus}
 use Rattle.command_line.specs.declared.command.Command.{Command}
-use Rattle.command_line.specs.declared.command.Command.TheVariants.{Check, Order, Graph, Run, Draw, Vat, Records, Frame, Frames, Migrate, Wire, Join}
+use Rattle.command_line.specs.declared.command.Command.TheVariants.{Check, Order, Graph, Run, Draw, Vat, Records, Frame, Frames, Migrate, Salvage, Wire, Join}
 use Rattle.clap.specs.Simple.{subcommand_rows_of}
 use Rattle.clap.specs.Values.{IsUnsignedIn}
 use Rattle.clap.specs.Words.{Row, all_of, fault_of, first_of, subcommand_of}
@@ -108,6 +108,7 @@ Spells words (Records file first many) = SpellsRecords words file.now first many
 Spells words (Frame hex is_later) = SpellsFlagged (codes "frame") later words hex.now is_later
 Spells words (Frames file) = SpellsOne (codes "frames") words file.now
 Spells words (Migrate file is_later out) = SpellsMigrate words file.now is_later out.now
+Spells words (Salvage file out) = SpellsWriter (codes "salvage") words file.now out.now
 Spells words (Wire one another out) = SpellsWire words one.now another.now (option_map (λ name. name.now) out)
 Spells words (Join logs out) = SpellsJoin words (map (λ name. name.now) logs.items) out.now
 
@@ -128,6 +129,7 @@ HasWorkers (Records name first many) = ⊤
 HasWorkers (Frame hex is_later) = ⊤
 HasWorkers (Frames name) = ⊤
 HasWorkers (Migrate file is_later out) = ⊤
+HasWorkers (Salvage file out) = ⊤
 HasWorkers (Wire one another out) = ⊤
 HasWorkers (Join logs out) = ⊤
 
@@ -143,5 +145,6 @@ out_of (Records name first many) = None
 out_of (Frame hex is_later) = None
 out_of (Frames name) = None
 out_of (Migrate file is_later out) = Some out.now
+out_of (Salvage file out) = Some out.now
 out_of (Wire one another out) = option_map (λ name. name.now) out
 out_of (Join logs out) = Some out.now

@@ -74,6 +74,12 @@ pub enum Command<'a> {
         later: bool,
         out: &'a str,
     },
+    /// Write what is whole of the log that the source has under this name to a file: its records in front of the first that is
+    /// cut or bad.
+    Salvage {
+        file: &'a str,
+        out: &'a str,
+    },
     /// Judge a connection by the bytes alone that its ends sent, which the source has under these names; and write the logs
     /// that explain them to a folder, where one is named.
     Wire {
@@ -96,7 +102,8 @@ impl<'a> Command<'a> {
     {
         match self {
             Command::Order { out, .. } | Command::Draw { out, .. } => Some(out),
-            Command::Migrate { out, .. } | Command::Join { out, .. } => Some(out),
+            Command::Migrate { out, .. } | Command::Salvage { out, .. } => Some(out),
+            Command::Join { out, .. } => Some(out),
             Command::Wire { out, .. } => *out,
             Command::Check { .. } | Command::Graph { .. } | Command::Run { .. } => None,
             Command::Vat { .. } | Command::Records { .. } => None,
@@ -220,6 +227,10 @@ fn command_in<'a>(alloc: Global, matches: &ArgMatches<'a>) -> Result<Command<'a>
             later: is_set(given, LATER),
             out: value_of(given, OUT),
         }),
+        "salvage" => Ok(Command::Salvage {
+            file: input,
+            out: value_of(given, OUT),
+        }),
         "wire" => Ok(Command::Wire {
             a: input,
             b: value_of(given, OTHER),
@@ -263,8 +274,8 @@ fn read_command<'a, S: AsStr>(alloc: Global, words: &'a [S]) -> Result<Command<'
 /// before or after the last of these may stand `--`, and it may begin with a hyphen only after that or where it is `-`; or, as
 /// `clap` reads them, `check CASE` with `--workers N` if wanted, a number from 1 to 64, or `order CASE --out FILE`, or `wire A B`
 /// with `--out FOLDER` if wanted, or `join LOG .. --out FOLDER`, or `graph CASE` with `--dot` if wanted, or `draw CASE --out FILE` with `--from I`, `--count N` and `--html` if wanted, or `frame HEX` with
-/// `--later` if wanted, or `migrate FILE --out FILE` with `--later` if wanted, or `records FILE` with `--from I` and `--count N`
-/// if wanted, numbers of 64 bits.
+/// `--later` if wanted, or `migrate FILE --out FILE` with `--later` if wanted, or `salvage FILE --out FILE`, or `records FILE`
+/// with `--from I` and `--count N` if wanted, numbers of 64 bits.
 ///
 /// # Errors
 ///
@@ -323,6 +334,10 @@ pub fn command_of<'a, S: AsStr>(alloc: Global, words: &'a [S]) -> Result<Command
     ensures taken_migrate_later { (first file out : List ℕ)
         → map S.text words.entry.now
         ≡ first ∷ codes "migrate" ∷ file ∷ codes "--later" ∷ codes "--out" ∷ out ∷ []
+        → is_flag file ≡ false → is_flag out ≡ false
+        → IfErr result (λ e. kind_of e ≡ ErrorKind.OutOfMemory) }
+    ensures taken_salvage { (first file out : List ℕ)
+        → map S.text words.entry.now ≡ first ∷ codes "salvage" ∷ file ∷ codes "--out" ∷ out ∷ []
         → is_flag file ≡ false → is_flag out ≡ false
         → IfErr result (λ e. kind_of e ≡ ErrorKind.OutOfMemory) }
     ensures taken_wire { (first one another : List ℕ)

@@ -390,10 +390,14 @@ a line for each record, in order, with its number, counted from 0:
 
 MESSAGE is the line that frame prints of the record's frame, and of a log of
 VATLOG03 frame --later, also where it can't be read (vataudit frame --help has the
-lines). A call of 0 and a list of no references are left out. A file that is no
-log, or can't be read, has one line:
+lines). A call of 0 and a list of no references are left out. The log is read to its
+end or its first fault, also where fewer records are asked for. A fault is the last
+line, and where the header is bad or cut, the only one:
 
   bad log NAME [OFFSET]   as vat prints it
+
+A file that can't be read has one line:
+
   cannot read
 
 and where memory runs out, the last line is
@@ -421,7 +425,7 @@ pub const COUNT: &str = "How many records are printed at most";
 /// CASE of `check`, `order`, `graph`, `run` and `draw`.
 pub const CASE: &str = "The case, a path from the working directory; - is standard input";
 
-/// FILE of `order`, `draw` and `migrate`.
+/// FILE of `order`, `draw`, `migrate` and `salvage`.
 pub const OUT: &str = "The file that is written";
 
 /// `migrate`, in the list of commands.
@@ -454,6 +458,37 @@ Exit status:
 
 /// `--later` of `migrate`.
 pub const LATER_LOG: &str = "Writes version 3, of a runtime that speaks the later edition";
+
+/// `salvage`, in the list of commands.
+pub const SALVAGE: &str = "Writes the whole records of a log that is cut";
+
+pub const SALVAGE_LONG: &str = "\
+Reads the log of one vat, in the format VATLOG01, VATLOG02 or VATLOG03, of which a
+part may be cut off or bad, as where its recorder was killed. Writes the longest run
+of whole records, from the first on, to the file of --out, as a log in the same
+format, and prints one line:
+
+  salvaged vat V records N bytes B   the log of N records, in B bytes, is written
+  bad log NAME [OFFSET]              no log begins so: BadMagic, or Short 8; nothing
+                                     is written
+  cannot read
+  out of memory
+
+What stands behind these records is left out, and a note says why. A log that is
+whole is written as it is. The file of --out must not be there yet, so that none is
+lost, FILE least of all.";
+
+pub const SALVAGE_END: &str = "\
+Example:
+  $ head --bytes 100 samples/pipelined_call.vat2.log > cut.log
+  $ vataudit salvage cut.log --out whole.log
+  salvaged vat 2 records 2 bytes 96
+
+Exit status:
+  0  the log is written
+  2  no log begins so, the file can't be read, a write failed, or the command line
+     is wrong
+  3  memory ran out";
 
 /// `wire`, in the list of commands.
 pub const WIRE: &str = "Judges a connection by the bytes that its ends sent";

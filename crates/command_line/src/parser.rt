@@ -2,7 +2,7 @@
 
 ghost use Rattle.std.specs.Prelude.{◌≡◌, IfOk, Some, false};
 ghost use Rattle.clap.specs.Words.{app_of, new_rule, rule_of, with_subcommand};
-ghost use Rattle.command_line.specs.Parser.{check, draw, flag_rule, flagged, folder_rule, input_rule, judging, migrate, other_rule, path_rule, program, reader, reading, records, top, wire, writer, writing, wiring, join, logs_rule};
+ghost use Rattle.command_line.specs.Parser.{check, draw, flag_rule, flagged, folder_rule, input_rule, judging, migrate, other_rule, path_rule, program, reader, reading, records, top, wire, writer, writing, wiring, salvaging, join, logs_rule};
 
 use crate::help;
 use clap::builder::ValueParser;
@@ -366,7 +366,7 @@ fn with_files<'a>(alloc: Global, cases: Command<'a>) -> Result<Command<'a>, Allo
     with_reader(alloc, framed, frames)
 }
 
-/// The program with its command that writes a log: `migrate FILE --out FILE`, which has the option `--later`.
+/// The program with its command that writes a log in another version: `migrate FILE --out FILE`, which has the option `--later`.
 ///
 /// # Errors
 ///
@@ -385,13 +385,33 @@ fn with_migration<'a>(alloc: Global, readers: Command<'a>) -> Result<Command<'a>
     readers.subcommand(migrate)
 }
 
+/// The program with its command that writes what is whole of a log: `salvage FILE --out FILE`.
+///
+/// # Errors
+///
+/// Out of memory.
+fn with_salvage<'a>(alloc: Global, others: Command<'a>) -> Result<Command<'a>, AllocError>
+    requires { app_of others ≡ writing }
+    ensures { IfOk result (λ c. app_of c ≡ salvaging) }
+{
+    let salvage = Reader {
+        name: "salvage",
+        about: help::SALVAGE,
+        long_about: help::SALVAGE_LONG,
+        after_help: help::SALVAGE_END,
+        thing: "FILE",
+        help: help::FILE,
+    };
+    with_writer(alloc, others, salvage)
+}
+
 /// The program with its command that reads the bytes of a connection: `wire A B`, which has the option `--out FOLDER`.
 ///
 /// # Errors
 ///
 /// Out of memory.
 fn with_wire<'a>(alloc: Global, others: Command<'a>) -> Result<Command<'a>, AllocError>
-    requires { app_of others ≡ writing }
+    requires { app_of others ≡ salvaging }
     ensures { IfOk result (λ c. app_of c ≡ wiring) }
 {
     let wire = Command::new(alloc, "wire")
@@ -436,6 +456,6 @@ pub(crate) fn command_line<'a>(alloc: Global) -> Result<Command<'a>, AllocError>
         .subcommand_required(true)
         .arg_required_else_help(true);
     let readers = with_files(alloc, with_cases(alloc, top)?)?;
-    let wired = with_wire(alloc, with_migration(alloc, readers)?)?;
-    with_join(alloc, wired)
+    let salvaging = with_salvage(alloc, with_migration(alloc, readers)?)?;
+    with_join(alloc, with_wire(alloc, salvaging)?)
 }

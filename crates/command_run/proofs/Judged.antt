@@ -6,6 +6,7 @@ use Rattle.case_book.specs.Ties.{tie_fault_of}
 use Rattle.audit_core.specs.Refusals.{IsRefusal, refusal_of}
 use Rattle.audit_core.specs.declared.error.AuditError.{AuditError}
 use Rattle.audit_core.specs.declared.error.AuditError.TheVariants.{NoWorkers, TooManyWorkers, MissingLog, SameEnds, OutOfMemory}
+use Rattle.audit_core.specs.Report.{line_in}
 use Rattle.audit_core.specs.declared.report.Report.{Report as ReportOf}
 use Rattle.audit_core.specs.declared.report.Report.TheVariants.{Vat, OutsideVat, Link, OrderStep, NoOrder, Yes}
 use Rattle.audit_core.proofs.Refusing.{by_ties}
@@ -17,12 +18,12 @@ use Rattle.case_files.specs.declared.case_reading.ReadCase.{ReadCase}
 use Rattle.report_lines.specs.declared.answer.Answer.TheVariants.{Fault, Report}
 use Rattle.report_lines.specs.declared.fault.Fault.{Fault as FaultOf}
 use Rattle.report_lines.specs.Faults.{of_case}
-use Rattle.report_lines.specs.Lines.{SaysAnswer, answer_status, answer_text, line}
+use Rattle.report_lines.specs.Lines.{SaysAnswer, answer_status, answer_text, line, report_status, report_text}
 use Rattle.command_run.specs.CommandAnswers.{AnswersReportOf, IsOutOfMemory}
-use Rattle.command_run.specs.Glue.{ComesJudged, Prints}
-use Rattle.command_run.specs.ReportAnswers.{AnswersGraph, AnswersRun, Reporting}
+use Rattle.command_run.specs.Glue.{ComesChecked, ComesJudged, Prints}
+use Rattle.command_run.specs.ReportAnswers.{AnswersGraph, AnswersReport, AnswersRun, Reporting}
 use Rattle.command_run.specs.Runs.{Writing}
-use Rattle.command_run.proofs.Listing.{prints_by}
+use Rattle.command_run.proofs.Told.{prints_by}
 
 -- ---- a case that was read ties up
 
@@ -60,6 +61,29 @@ only_memory held workers (SameEnds connection) none is = absurd (none-some _ (sy
 pub report_is : {S : Type 0} (answers : Reporting) (gives : Reads S) (old new : S) (name : List ℕ) (report : ReportOf) (text : List ℕ) (status : ℕ)
     → ComesJudged gives old name (Ok report) new → answers report text status → AnswersReportOf answers gives old name new text status
 report_is answers gives old new name report text status came is = inl (Ok came.0, (came.1.0, (report, (came.1.1, is))))
+
+-- its line is said as the report is
+same_text : (whole : ReportOf) → report_text (line_in whole) ≡ report_text whole
+same_text (Vat vat at rule) = refl
+same_text (OutsideVat vat at why) = refl
+same_text (Link connection end message) = refl
+same_text (OrderStep step) = refl
+same_text NoOrder = refl
+same_text (Yes vats records delivered under_way run) = refl
+
+same_status : (whole : ReportOf) → report_status (line_in whole) ≡ report_status whole
+same_status (Vat vat at rule) = refl
+same_status (OutsideVat vat at why) = refl
+same_status (Link connection end message) = refl
+same_status (OrderStep step) = refl
+same_status NoOrder = refl
+same_status (Yes vats records delivered under_way run) = refl
+
+pub line_is : {S : Type 0} (gives : Reads S) (old new : S) (name : List ℕ) (found : ReportOf) → ComesChecked gives old name (Ok found) new
+    → AnswersReportOf AnswersReport gives old name new (line (answer_text (Report found))) (answer_status (Report found))
+line_is gives old new name found came =
+    let of = came.1.1 in
+    inl (Ok came.0, (came.1.0, (of.whole, (of.report, (ap (λ (r : ReportOf). line (report_text r)) of.line ∙ ap line (same_text of.whole), ap report_status of.line ∙ same_status of.whole)))))
 
 -- a fault of the case answers it, or memory ran out
 faulty : {S : Type 0} (answers : Reporting) (gives : Reads S) (old new : S) (name : List ℕ) (found : CaseFault) → ComesOfCase gives old name (Err found) new

@@ -3,7 +3,7 @@ use Rattle.std.proofs.Common.{◌≡◌, ℕ, List, Option, Some, None, Result, 
 use Rattle.std.specs.Result.{result_unwrap_or}
 use Rattle.case_files.specs.CaseReading.{Reads}
 use Rattle.command_line.specs.declared.command.Command.{Command}
-use Rattle.command_line.specs.declared.command.Command.TheVariants.{Check, Order, Graph, Run, Draw, Vat, Records, Frame, Frames, Migrate, Wire, Join}
+use Rattle.command_line.specs.declared.command.Command.TheVariants.{Check, Order, Graph, Run, Draw, Vat, Records, Frame, Frames, Migrate, Salvage, Wire, Join}
 use Rattle.command_run.specs.declared.output.Failed.{Failed}
 use Rattle.command_run.specs.declared.output.Failed.TheVariants.{Out, File}
 use Rattle.command_run.specs.Runs.{Adds, Answering, CarriesOut, Saves, Writes, WritesOrFails, Wrote}
@@ -37,5 +37,6 @@ module _ {W F E X : Type 0} (in_out : W → Option (List ℕ)) (out_done : W →
   carried gives (Order name path) old new c = mapped _ c
   carried gives (Draw name path first many is_page) old new c = mapped _ c
   carried gives (Migrate name later path) old new c = (c.0, c.1, mapped _ c.2)
+  carried gives (Salvage name path) old new c = (c.0, c.1, mapped _ c.2)
   carried gives (Wire one another out) old new c = mapped _ c
   carried gives (Join names path) old new c = mapped _ c

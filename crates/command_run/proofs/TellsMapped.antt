@@ -2,7 +2,7 @@
 use Rattle.std.proofs.Common.{ℕ, List, Option, Some, None, Result, Ok, Err, subst, sym, inl, inr}
 use Rattle.case_files.specs.CaseReading.{Reads}
 use Rattle.command_line.specs.declared.command.Command.{Command}
-use Rattle.command_line.specs.declared.command.Command.TheVariants.{Check, Order, Graph, Run, Draw, Vat, Records, Frame, Frames, Migrate, Wire, Join}
+use Rattle.command_line.specs.declared.command.Command.TheVariants.{Check, Order, Graph, Run, Draw, Vat, Records, Frame, Frames, Migrate, Salvage, Wire, Join}
 use Rattle.command_run.specs.declared.output.Failed.{Failed}
 use Rattle.command_run.specs.declared.output.Failed.TheVariants.{Out, File}
 use Rattle.command_run.specs.Glue.{EndsAs}
@@ -37,5 +37,6 @@ module _ {W F E X : Type 0} (to_out : Writing W) (in_file : F → Option (List �
   tells gives (Records name first many) old new c = (c.0, c.1, told _ c.2)
   tells gives (Order name path) old new c = told _ c
   tells gives (Migrate name later path) old new c = (c.0, c.1, told _ c.2)
+  tells gives (Salvage name path) old new c = (c.0, c.1, told _ c.2)
   tells gives (Wire one another out) old new c = told _ c
   tells gives (Join names path) old new c = told _ c

@@ -21,6 +21,12 @@ pub torn : {W E : Type 0} (P : E → Type 0) (answers : List ℕ → ℕ → Typ
 torn P answers wrote old new (Ok s) text status is failed = absurd failed
 torn P answers wrote old new (Err e) text status is failed = (text, (status, is))
 
+-- what answers by one account does by another
+pub prints_by : {W E : Type 0} (answers others : List ℕ → ℕ → Type 0) (wrote : Writing W) (old new : W) (r : Result ℕ E)
+    → ((text : List ℕ) (status : ℕ) → answers text status → others text status) → Prints answers wrote old new r → Prints others wrote old new r
+prints_by answers others wrote old new (Ok s) each p = (p.0, each p.0 s p.1, p.2)
+prints_by answers others wrote old new (Err e) each p = (p.0, (p.1.0, each p.0 p.1.0 p.1.1))
+
 -- lines alone were written
 pub lines_written : {W F E X : Type 0} (answers : List ℕ → ℕ → Type 0) (to_out : Writing W) (to_file : Writing F) (out out_new : W) (file : F) (said : Result ℕ E) (r : Result ℕ (Failed E X))
     → r ≡ of_lines said → Prints answers to_out out out_new said → Writes (NoFile answers) to_out to_file out out_new file file r

@@ -15,6 +15,7 @@ use Rattle.command_run.specs.OrderAnswers.{AnswersCase}
 use Rattle.command_run.specs.FrameFiles.{AnswersFrames, Falls, lines}
 use Rattle.command_run.specs.RecordAnswers.{AnswersRecords}
 use Rattle.command_run.specs.ReportAnswers.{AnswersJudged, Reporting}
+use Rattle.command_run.specs.SalvageAnswers.{AnswersSalvaged}
 
 -- the line and the status for out of memory
 abbrev pub IsOutOfMemory : List ℕ → ℕ → Type 0
@@ -46,7 +47,7 @@ AnswersFile (Err fault) text status = SaysAnswer (Fault (of_source fault)) text 
 
 -- lines and a status answer what a source gave as a log whose records are asked for, from this one on and as many
 abbrev pub AnswersLogRecords : Option ℕ → Option ℕ → Read → List ℕ → ℕ → Type 0
-AnswersLogRecords first many (Ok bytes) text status = AnswersRecords first many (log_of bytes) text status
+AnswersLogRecords first many (Ok bytes) text status = AnswersRecords first many bytes text status
 AnswersLogRecords first many (Err fault) text status = SaysAnswer (Fault (of_source fault)) text status
 
 -- A line, a status and the bytes for the file answer what a source gave as a log that is to be migrated, to that of the
@@ -54,6 +55,12 @@ AnswersLogRecords first many (Err fault) text status = SaysAnswer (Fault (of_sou
 abbrev pub AnswersMigration : Bool → Read → List ℕ → ℕ → Option (List ℕ) → Type 0
 AnswersMigration later (Ok came) text status bytes = AnswersMigrated later (log_of came) text status bytes ⊎ (IsOutOfMemory text status × (bytes ≡ None))
 AnswersMigration later (Err fault) text status bytes = SaysAnswer (Fault (of_source fault)) text status × (bytes ≡ None)
+
+-- A line, a status and the bytes for the file answer what a source gave as a log of which the whole records are wanted; where
+-- memory ran out there are no bytes.
+abbrev pub AnswersSalvage : Read → List ℕ → ℕ → Option (List ℕ) → Type 0
+AnswersSalvage (Ok came) text status bytes = AnswersSalvaged came text status bytes ⊎ (IsOutOfMemory text status × (bytes ≡ None))
+AnswersSalvage (Err fault) text status bytes = SaysAnswer (Fault (of_source fault)) text status × (bytes ≡ None)
 
 -- A line, a status and the bytes for the file answer the case that a source has under a name; or memory ran out, and then
 -- nothing is said of what the source was asked for.

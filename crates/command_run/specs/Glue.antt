@@ -1,28 +1,26 @@
 -- This file serves the contracts of private functions alone, and is no part of the meaning.
 use Rattle.std.specs.List.{flat_map}
-use Rattle.std.specs.Prelude.{◌≡◌, ◌⊎◌, ℕ, ◌-◌, Bool, List, ◌++◌, length, take, drop, Option, Some, None, Result, Ok, Err, option_map}
+use Rattle.std.specs.Prelude.{◌≡◌, ◌⊎◌, ◌&&◌, ℕ, ◌-◌, Bool, List, ◌++◌, Option, Some, None, Result, Ok, Err, nat_le, nat_lt, option_map}
 use Rattle.report_lines.specs.declared.answer.Answer.{Answer}
 use Rattle.report_lines.specs.declared.answer.Answer.TheVariants.{Finding}
 use Rattle.report_lines.specs.declared.answer.Answer.TheVariants as answer
 use Rattle.report_lines.specs.declared.fault.Fault.{Fault}
 use Rattle.report_lines.specs.declared.fault.Fault.TheVariants.{OutOfMemory}
-use Rattle.report_lines.specs.Faults.{of_case, of_log, of_source}
+use Rattle.report_lines.specs.Faults.{of_case}
 use Rattle.report_lines.specs.Lines.{answer_status, answer_text, line}
+use Rattle.audit_core.specs.Lines.{IsLineOf}
 use Rattle.audit_core.specs.Report.{IsReport}
 use Rattle.audit_core.specs.declared.report.Report.{Report}
 use Rattle.case_files.specs.CaseReading.{ComesOfCase, Read, Reads}
 use Rattle.case_files.specs.declared.case_fault.CaseFault.{CaseFault}
 use Rattle.case_files.specs.declared.case_reading.ReadCase.{ReadCase}
-use Rattle.vat_log.specs.declared.body.Body.{Body}
-use Rattle.vat_log.specs.declared.error.LogError.{LogError}
 use Rattle.vat_log.specs.Log.{Log}
-use Rattle.vat_log.specs.Reading.{log_of}
 use Rattle.vat_log.specs.Spelling.{log_bytes}
 use Rattle.vat_rules.specs.declared.slim.finding.SlimFinding.{SlimFinding}
 use Rattle.command_run.specs.declared.output.Failed.{Failed}
 use Rattle.command_run.specs.declared.output.Failed.TheVariants.{Out, File}
-use Rattle.command_run.specs.RecordAnswers.{first_ones}
-use Rattle.command_run.specs.CommandAnswers.{AnswersMigration}
+use Rattle.command_run.specs.RecordAnswers.{first_number}
+use Rattle.command_run.specs.CommandAnswers.{AnswersMigration, AnswersSalvage}
 use Rattle.command_run.specs.DrawAnswers.{IsDrawn}
 use Rattle.command_run.specs.JoinAnswers.{AreFilesOf}
 use Rattle.log_ends.specs.declared.log_end.EndPair.{EndPair}
@@ -37,26 +35,25 @@ abbrev pub answer_of : Result SlimFinding Fault → Answer
 answer_of (Ok found) = Finding found
 answer_of (Err fault) = answer.Fault fault
 
--- what came of a log that was read: it, or its fault, or memory ran out
-abbrev pub CameOf : Read → Result Log Fault → Type 0
-CameOf (Ok bytes) (Ok log) = log_of bytes ≡ Ok log
-CameOf (Ok bytes) (Err fault) = (fault ≡ OutOfMemory) ⊎ ((found : LogError) × (log_of bytes ≡ Err found) × (fault ≡ of_log found))
-CameOf (Err found) (Ok log) = ⊥
-CameOf (Err found) (Err fault) = fault ≡ of_source found
-
 -- An answer's lines were written whole, and its status is the run's; or there is an answer, and a write failed.
 abbrev pub Prints : {W E : Type 0} → (List ℕ → ℕ → Type 0) → Writing W → W → W → Result ℕ E → Type 0
 Prints answers wrote old new (Ok status) = (text : List ℕ) × answers text status × wrote old text new
 Prints answers wrote old new (Err fault) = (text : List ℕ) × ((status : ℕ) × answers text status)
 
--- of so many records, those from the first one on up to an end are those that are asked for
-abbrev pub Ends : ℕ → Option ℕ → ℕ → ℕ → Type 0
-Ends first many count end = (events : List Body) → length events ≡ count → take (end - first) (drop first events) ≡ first_ones many (drop first events)
+-- whether the record of this number is asked for: it isn't before the first one, and of those from there on it is one of as many
+abbrev pub is_chosen : Option ℕ → Option ℕ → ℕ → Bool
+is_chosen first None number = nat_le (first_number first) number
+is_chosen first (Some many) number = nat_le (first_number first) number && nat_lt (number - first_number first) many
 
 -- what came of a case that was judged: its report, or its fault, or memory ran out
 abbrev pub ComesJudged : {S : Type 0} → Reads S → S → List ℕ → Result Report Fault → S → Type 0
 ComesJudged gives old name (Ok report) new = (came : ReadCase) × (ComesOfCase gives old name (Ok came) new × IsReport came.case came.order report)
 ComesJudged gives old name (Err fault) new = (fault ≡ OutOfMemory) ⊎ ((found : CaseFault) × (ComesOfCase gives old name (Err found) new × (fault ≡ of_case found)))
+
+-- what came of a case of which the line alone was asked for: it, or the case's fault, or memory ran out
+abbrev pub ComesChecked : {S : Type 0} → Reads S → S → List ℕ → Result Report Fault → S → Type 0
+ComesChecked gives old name (Ok line) new = (came : ReadCase) × (ComesOfCase gives old name (Ok came) new × IsLineOf came.case came.order line)
+ComesChecked gives old name (Err fault) new = ComesJudged gives old name (Err fault) new
 
 -- what came of a case that was drawn: its report and its picture, or its fault, or memory ran out
 abbrev pub ComesDrawn : {S : Type 0} → Asked → Reads S → S → List ℕ → Result FileAnswer Fault → S → Type 0
@@ -80,6 +77,11 @@ EndsAs (Err (File fault)) ended = ended ≡ 2
 abbrev pub Migrates : Bool → Read → Result FileAnswer Fault → Type 0
 Migrates later read (Ok made) = AnswersMigration later read (line (answer_text made.answer)) (answer_status made.answer) (option_map (λ bytes. bytes) made.bytes)
 Migrates later read (Err fault) = AnswersMigration later read (line (answer_text (answer.Fault fault))) (answer_status (answer.Fault fault)) None
+
+-- what came of a log of which the whole records are wanted answers it
+abbrev pub Salvages : Read → Result FileAnswer Fault → Type 0
+Salvages read (Ok made) = AnswersSalvage read (line (answer_text made.answer)) (answer_status made.answer) (option_map (λ bytes. bytes) made.bytes)
+Salvages read (Err fault) = AnswersSalvage read (line (answer_text (answer.Fault fault))) (answer_status (answer.Fault fault)) None
 
 -- a line, a status and the bytes for the file are those of an answer that was made
 abbrev pub IsMade : FileAnswer → List ℕ → ℕ → Option (List ℕ) → Type 0

@@ -5,6 +5,7 @@ pub mod JoinAnswers
 pub mod OrderAnswers
 pub mod DrawAnswers
 pub mod MigrationAnswers
+pub mod SalvageAnswers
 pub mod FrameFiles
 pub mod RecordAnswers
 pub mod ReportAnswers

@@ -4,6 +4,8 @@ use Rattle.vat_log.specs.declared.body.Body.{Body}
 use Rattle.vat_log.specs.declared.body.Body.TheVariants.{Send, Receive}
 use Rattle.vat_log.specs.declared.error.LogError.{LogError}
 use Rattle.vat_log.specs.Log.{Log}
+use Rattle.vat_log.specs.Reading.{header_of, log_of}
+use Rattle.vat_log.specs.Runs.{BeginsWith, IsLongestRun}
 use Rattle.cap_reader.specs.Defaults.{default_limits}
 use Rattle.rpc_view.specs.declared.edition.Edition.{Edition}
 use Rattle.rpc_view.specs.Message.{message_of_bytes}
@@ -44,21 +46,30 @@ first_number first = unwrap_or first 0
 abbrev pub chosen_records : Option ℕ → Option ℕ → List Body → List Body
 chosen_records first many events = first_ones many (drop (first_number first) events)
 
--- the lines of the records that are asked for, each with its number in the log, its frame read by the log's edition; the
--- status is 0
-abbrev pub AnswersChosen : Option ℕ → Option ℕ → Log → List ℕ → ℕ → Type 0
-AnswersChosen first many log text status = (text ≡ record_lines (edition_of log) (first_number first) (chosen_records first many log.records)) × (status ≡ 0)
+-- the lines of a log's records that are asked for, each with its number in the log, its frame read by the log's edition
+abbrev pub listing : Option ℕ → Option ℕ → Log → List ℕ
+listing first many log = record_lines (edition_of log) (first_number first) (chosen_records first many log.records)
 
--- memory ran out: the lines of some of them, and then that one
-abbrev pub StopsAtRecord : Option ℕ → Option ℕ → Log → List ℕ → ℕ → Type 0
-StopsAtRecord first many log text status = (shown : ℕ) × ((last : List ℕ) × SaysAnswer (Fault OutOfMemory) last status
-    × (text ≡ record_lines (edition_of log) (first_number first) (take shown (chosen_records first many log.records)) ++ last))
+-- what stands behind the lines of all whole records, and the status: nothing, and 0; or the fault behind these records, and its status
+abbrev pub EndsListing : Result Log LogError → List ℕ → ℕ → Type 0
+EndsListing (Ok log) last status = (last ≡ []) × (status ≡ 0)
+EndsListing (Err fault) last status = SaysAnswer (Fault (of_log fault)) last status
 
--- lines and a status answer the records of a log
-abbrev pub AnswersListing : Option ℕ → Option ℕ → Log → List ℕ → ℕ → Type 0
-AnswersListing first many log text status = AnswersChosen first many log text status ⊎ StopsAtRecord first many log text status
+-- each whole record that is asked for was listed, and behind them the fault is told, if there is one
+abbrev pub ListsAll : Option ℕ → Option ℕ → List ℕ → List ℕ → ℕ → Type 0
+ListsAll first many bytes text status = (log : Log) × ((last : List ℕ) × IsLongestRun bytes log × EndsListing (log_of bytes) last status
+    × (text ≡ listing first many log ++ last))
 
--- lines and a status answer what a log reads as: its records, or its fault
-abbrev pub AnswersRecords : Option ℕ → Option ℕ → Result Log LogError → List ℕ → ℕ → Type 0
-AnswersRecords first many (Ok log) text status = AnswersListing first many log text status
-AnswersRecords first many (Err fault) text status = SaysAnswer (Fault (of_log fault)) text status ⊎ SaysAnswer (Fault OutOfMemory) text status
+-- memory ran out: behind the lines of some of them, from the first on, that is told
+abbrev pub ListsSome : Option ℕ → Option ℕ → List ℕ → List ℕ → ℕ → Type 0
+ListsSome first many bytes text status = (log : Log) × ((last : List ℕ) × BeginsWith bytes log × SaysAnswer (Fault OutOfMemory) last status
+    × (text ≡ listing first many log ++ last))
+
+-- no log begins so: the fault of the header is told alone
+abbrev pub ListsNone : List ℕ → List ℕ → ℕ → Type 0
+ListsNone bytes text status = (fault : LogError) × ((header_of bytes ≡ Err fault) × SaysAnswer (Fault (of_log fault)) text status)
+
+-- Lines and a status answer the bytes of a log whose records are asked for. The status says whether the log is whole, whichever
+-- records are asked for, unless memory ran out.
+abbrev pub AnswersRecords : Option ℕ → Option ℕ → List ℕ → List ℕ → ℕ → Type 0
+AnswersRecords first many bytes text status = ListsAll first many bytes text status ⊎ ListsSome first many bytes text status ⊎ ListsNone bytes text status

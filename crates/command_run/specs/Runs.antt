@@ -3,11 +3,11 @@ use Rattle.std.specs.Prelude.{◌≡◌, ◌⊎◌, ℕ, List, Option, Some, Non
 use Rattle.std.specs.Io.KnownBytes.{Appends}
 use Rattle.case_files.specs.CaseReading.{Read, Reads}
 use Rattle.command_line.specs.declared.command.Command.{Command}
-use Rattle.command_line.specs.declared.command.Command.TheVariants.{Check, Order, Graph, Run, Draw, Vat, Records, Frame, Frames, Migrate, Wire, Join}
+use Rattle.command_line.specs.declared.command.Command.TheVariants.{Check, Order, Graph, Run, Draw, Vat, Records, Frame, Frames, Migrate, Salvage, Wire, Join}
 use Rattle.command_run.specs.declared.output.Failed.{Failed}
 use Rattle.command_run.specs.declared.output.Failed.TheVariants.{Out, File}
 use Rattle.command_run.specs.Answers.{edition_asked}
-use Rattle.command_run.specs.CommandAnswers.{AnswersFile, AnswersFrame, AnswersLogRecords, AnswersMigration, AnswersOrder, AnswersReportOf, AnswersSource}
+use Rattle.command_run.specs.CommandAnswers.{AnswersFile, AnswersFrame, AnswersLogRecords, AnswersMigration, AnswersOrder, AnswersReportOf, AnswersSalvage, AnswersSource}
 use Rattle.command_run.specs.DrawAnswers.{AnswersDraw}
 use Rattle.command_run.specs.JoinAnswers.{AnswersJoin}
 use Rattle.command_run.specs.ReportAnswers.{AnswersGraph, AnswersReport, AnswersRun}
@@ -21,8 +21,8 @@ Answering = List ℕ → ℕ → Option (List ℕ) → Type 0
 abbrev pub NoFile : (List ℕ → ℕ → Type 0) → Answering
 NoFile answers text status bytes = answers text status × (bytes ≡ None)
 
--- What a run asks its source for, and what is an answer then: a log is read once, by its name, to be audited, listed or
--- migrated, as a file of frames is; a frame asks for nothing; a case is read with the files that it names; what the ends of a
+-- What a run asks its source for, and what is an answer then: a log is read once, by its name, to be audited, listed,
+-- migrated or salvaged, as a file of frames is; a frame asks for nothing; a case is read with the files that it names; what the ends of a
 -- connection sent is read from two files; the logs that are joined are read as they are listed.
 abbrev pub CarriesOut : {S : Type 0} → Reads S → Command → S → S → (Answering → Type 0) → Type 0
 CarriesOut gives (Vat file) old new writes = (read : Read) × gives old file.now read new × writes (NoFile (AnswersSource read))
@@ -35,6 +35,7 @@ CarriesOut gives (Run name) old new writes = writes (NoFile (AnswersReportOf Ans
 CarriesOut gives (Draw name out first many is_page) old new writes =
     writes (λ text status bytes. AnswersDraw (record { from = first; count = many; page = is_page }) gives old name.now text status bytes new)
 CarriesOut gives (Migrate file later out) old new writes = (read : Read) × gives old file.now read new × writes (AnswersMigration later read)
+CarriesOut gives (Salvage file out) old new writes = (read : Read) × gives old file.now read new × writes (AnswersSalvage read)
 CarriesOut gives (Wire one another out) old new writes =
     writes (λ text status bytes. AnswersWire gives old one.now another.now (option_map (λ name. name.now) out) text status bytes new)
 CarriesOut gives (Join logs out) old new writes =

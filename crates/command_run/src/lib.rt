@@ -5,7 +5,7 @@
 //! `report_lines` shows what it answers. It opens no file: a source gives bytes by name, and an [`Output`] takes lines and
 //! bytes. The answer of each command stands in `specs/CommandAnswers.antt`, over that of a log and of a frame
 //! (`specs/Answers.antt`), of a file of frames (`specs/FrameFiles.antt`), of the records of a log (`specs/RecordAnswers.antt`), of
-//! a log that is migrated (`specs/MigrationAnswers.antt`), of a case whose order is asked for (`specs/OrderAnswers.antt`), of one that is
+//! a log that is migrated (`specs/MigrationAnswers.antt`) or salvaged (`specs/SalvageAnswers.antt`), of a case whose order is asked for (`specs/OrderAnswers.antt`), of one that is
 //! judged (`specs/ReportAnswers.antt`), of one that is drawn (`specs/DrawAnswers.antt`), and of logs that are joined (`specs/JoinAnswers.antt`); what a
 //! run asks for and writes in `specs/Runs.antt`. [`answer_command`] does just that, or answers the error of a write;
 //! [`run_on`] does it over std's writers and ends with 2 where a write failed, and [`run_with_notes`] tells people more of

@@ -12,6 +12,7 @@ use crate::commands::graph::say_graph;
 use crate::commands::hex_frame::say_frame;
 use crate::commands::join_logs::say_join;
 use crate::commands::log_records::{RecordRange, say_records};
+use crate::commands::log_salvage::say_salvaged;
 use crate::commands::make_order::say_order;
 use crate::commands::migrate_log::say_migrated;
 use crate::commands::run_steps::say_run;
@@ -111,6 +112,9 @@ pub(crate) fn answer_heard<
             later,
             ..
         } => say_migrated(host.alloc, name, *later, source, heard, out, file),
+        Command::Salvage { file: name, .. } => {
+            say_salvaged(host.alloc, name, source, heard, out, file)
+        }
         Command::Wire { a, b, out: folder } => {
             let asked = AskedWire {
                 a,
@@ -127,7 +131,7 @@ pub(crate) fn answer_heard<
 
 /// Runs a command: writes its line, or its lines, to `out`, and answers the exit status. It is 0 where the log is good, the
 /// report of a case or what is found of a connection is yes, the message of each frame is said, the records are, or an order
-/// or a new log is made, or logs are joined; 1 where a record breaks a rule, the report or what is found is a no, no order exists, or an end of a connection has no other end; 2 where a
+/// or a new log is made, the whole records of one are saved, or logs are joined; 1 where a record breaks a rule, the report or what is found is a no, no order exists, or an end of a connection has no other end; 2 where a
 /// record or a message isn't judged, a message isn't read, or the input is bad, too long or can't be read; and 3 where memory
 /// ran out. To `file` go the bytes of an order, of a picture, of a new log or of a folder's files alone, before the line. Of
 /// the workers that audit a case one is the calling thread, and `rt` starts the others; the answer is the same for any number

@@ -23,8 +23,8 @@ fn outside_object(alloc: Global, vat: u32, at: u64, why: Why) -> Result<Value, A
 
 /// What the audit of a vat's log found.
 fn finding_object(alloc: Global, finding: &SlimFinding) -> Result<Value, AllocError> {
-    let vat = finding.log().vat();
-    let records = finding.log().len();
+    let vat = finding.vat();
+    let records = finding.len();
     match finding.outcome() {
         SlimOutcome::Good(story) => {
             let delivered = story.delivered();
@@ -95,6 +95,11 @@ pub(crate) fn answer_object(alloc: Global, answer: &Answer) -> Result<Value, All
         Answer::Migrated(log) => {
             let (vat, records) = (log.vat(), log.len());
             json!(in alloc; {"kind": "migrated", "vat": vat, "records": records})
+        }
+        Answer::Salvaged(found) => {
+            let (vat, records) = (found.log.vat(), found.log.len());
+            let bytes = found.log.bytes().len();
+            json!(in alloc; {"kind": "salvaged", "vat": vat, "records": records, "bytes": bytes})
         }
         Answer::Wire(line) => wire_object(alloc, line),
         Answer::Join(line) => join_object(alloc, line),

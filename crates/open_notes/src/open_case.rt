@@ -4,9 +4,9 @@ use crate::aborts::{Aborted, aborts_in};
 use crate::fates::{Fate, fates_in};
 use crate::passed::{Passed, passed_in};
 use bytes::Bytes;
-use case_book::{Findings, Link};
+use case_book::{Case, Findings, Link};
 use left_open::{Open, open_at_end};
-use record_notes::vat_of;
+use record_notes::{events_of, vat_of};
 use std::alloc::{AllocError, Global};
 use std::collections::BTreeMap;
 use vat_log::VatLog;
@@ -164,6 +164,30 @@ impl<'a> OpenCase<'a> {
             logs.push(open)?;
         }
         let links = findings.case().links();
+        Ok(Some(OpenCase { logs, links, files }))
+    }
+
+    /// What is open in a case, whose frames are read once more, log by log. None where a log isn't good.
+    ///
+    /// # Errors
+    ///
+    /// Out of memory.
+    pub fn of_case(
+        alloc: Global,
+        case: &'a Case,
+        files: &'a [(String, Bytes)],
+    ) -> Result<Option<OpenCase<'a>>, AllocError> {
+        let mut logs = Vec::new(alloc);
+        for log in case.logs() {
+            let Some(events) = events_of(alloc, log)? else {
+                return Ok(None);
+            };
+            let Some(open) = OpenLog::of(alloc, log, events.as_slice())? else {
+                return Ok(None);
+            };
+            logs.push(open)?;
+        }
+        let links = case.links();
         Ok(Some(OpenCase { logs, links, files }))
     }
 

@@ -2,7 +2,7 @@
 
 use crate::rows::Row;
 use crate::tally::{Tally, is_same_twice};
-use audit_core::{Gate, Report, audit};
+use audit_core::{Gate, Report, audit, check_case};
 use authority::graph;
 use case_book::{Case, Link};
 use link_check::{LinkOutcome, check_link};
@@ -125,6 +125,23 @@ impl Gate for Free {
     fn before_post(&self, _piece: u32) {}
 }
 
+/// Whether it is a yes with all that was recorded and delivered, and a run of so many steps.
+fn is_yes_of(row: &Row, report: &Report, steps: usize) -> bool {
+    let Report::Yes {
+        vats,
+        records,
+        delivered,
+        under_way,
+        run,
+    } = report
+    else {
+        return false;
+    };
+    let is_whole = *records == row.order.len() as u64 && run.steps().len() == steps;
+    let is_told = *delivered == row.delivered_calls() && *under_way == 0;
+    *vats == row.delivered.len() as u64 && is_whole && is_told
+}
+
 /// Whether so many workers answer yes, with all that was recorded and delivered.
 fn is_yes<R: Threads + Wait + Sync>(
     rt: &R,
@@ -134,19 +151,19 @@ fn is_yes<R: Threads + Wait + Sync>(
     workers: u32,
 ) -> Result<bool, NoAnswer> {
     let report = audit(rt, alloc, case.copy(alloc)?, None, workers, &Free)?;
-    let Report::Yes {
-        vats,
-        records,
-        delivered,
-        under_way,
-        run,
-    } = report
-    else {
-        return Ok(false);
-    };
-    let is_whole = records == row.order.len() as u64 && run.steps().len() == row.order.len();
-    let is_told = delivered == row.delivered_calls() && under_way == 0;
-    Ok(vats == row.delivered.len() as u64 && is_whole && is_told)
+    Ok(is_yes_of(row, &report, row.order.len()))
+}
+
+/// Whether so many workers answer the same line where the run isn't asked for.
+fn is_line<R: Threads + Sync>(
+    rt: &R,
+    alloc: Global,
+    case: &Case,
+    row: &Row,
+    workers: u32,
+) -> Result<bool, NoAnswer> {
+    let line = check_case(rt, alloc, case, None, workers, &Free)?;
+    Ok(is_yes_of(row, &line, 0))
 }
 
 /// Makes the calls on the case of a conversation.
@@ -167,6 +184,8 @@ pub fn try_case<R: Print + Threads + Wait + Sync>(
     for workers in [1, 2, 64] {
         let is_told = is_so(|| is_yes(rt, alloc, &case, row, workers));
         tally.count(rt, "audit", is_told)?;
+        let is_line = is_so(|| is_line(rt, alloc, &case, row, workers));
+        tally.count(rt, "check_case", is_line)?;
     }
     Ok(())
 }

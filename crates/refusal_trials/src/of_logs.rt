@@ -10,10 +10,10 @@ use std::alloc::Global;
 use std::io;
 use std::sync::Arc;
 use vat_log::{
-    Body, LogError, LogWriter, Record, VatLog, parse_log, raise, write_later_log,
-    write_lent_later_log, write_lent_log,
+    Body, LogError, LogWriter, Record, VatLog, migrate_bytes, parse_log, raise, raise_bytes,
+    salvage_log, write_later_log, write_lent_later_log, write_lent_log,
 };
-use vat_rules::{Outcome, SlimOutcome, audit_slim, audit_vat};
+use vat_rules::{Outcome, SlimFinding, SlimOutcome, audit_bytes, audit_slim, audit_vat};
 use worked_cases::{
     NoAnswer, ask_again, bytes_of_later_log, bytes_of_log, bytes_of_new_log, is_so, log,
 };
@@ -57,6 +57,41 @@ fn is_raised(alloc: Global, bytes: &Spelled) -> Result<bool, NoAnswer> {
     for from in [&bytes.old, &bytes.new, &bytes.later] {
         let log = parse_log(alloc, from.clone()?)?;
         if !is_log_of(&raise(alloc, &log)?, 3, &bytes.later) {
+            return Ok(false);
+        }
+    }
+    Ok(true)
+}
+
+/// Whether the bytes of each version are made the log that is migrated.
+fn is_migrated(alloc: Global, bytes: &Spelled) -> Result<bool, NoAnswer> {
+    for (from, wanted) in [
+        (&bytes.old, &bytes.new),
+        (&bytes.new, &bytes.new),
+        (&bytes.later, &bytes.later),
+    ] {
+        if migrate_bytes(alloc, from.clone()?)?.bytes().as_slice() != wanted.as_slice() {
+            return Ok(false);
+        }
+    }
+    Ok(true)
+}
+
+/// Whether the bytes of each version are made the log that is raised.
+fn is_made_later(alloc: Global, bytes: &Spelled) -> Result<bool, NoAnswer> {
+    for from in [&bytes.old, &bytes.new, &bytes.later] {
+        if raise_bytes(alloc, from.clone()?)?.bytes().as_slice() != bytes.later.as_slice() {
+            return Ok(false);
+        }
+    }
+    Ok(true)
+}
+
+/// Whether the bytes of each version are salvaged as they are.
+fn is_salvaged(alloc: Global, bytes: &Spelled) -> Result<bool, NoAnswer> {
+    for from in [&bytes.old, &bytes.new, &bytes.later] {
+        let found = salvage_log(alloc, from.clone()?)?;
+        if found.fault.is_some() || found.log.bytes().as_slice() != from.as_slice() {
             return Ok(false);
         }
     }
@@ -127,15 +162,28 @@ fn is_good(alloc: Global, log: &Arc<VatLog>, delivered: u64) -> Result<bool, NoA
     })
 }
 
+/// Whether it is found that all records of a log are good, so many, and so many calls were delivered.
+fn is_found_good(found: &SlimFinding, records: usize, delivered: u64) -> bool {
+    match found.outcome() {
+        SlimOutcome::Good(story) => {
+            found.len() == records as u64
+                && story.records() == records as u64
+                && story.delivered() == delivered
+        }
+        _ => false,
+    }
+}
+
 /// Whether the audit that keeps no record finds the same.
 fn is_good_in_short(alloc: Global, log: &Arc<VatLog>, delivered: u64) -> Result<bool, NoAnswer> {
     let found = audit_slim(alloc, log, Limits::default())?;
-    Ok(match found.outcome() {
-        SlimOutcome::Good(story) => {
-            story.records() == log.len() as u64 && story.delivered() == delivered
-        }
-        _ => false,
-    })
+    Ok(is_found_good(&found, log.len(), delivered))
+}
+
+/// Whether the audit of a log's bytes finds the same.
+fn is_good_as_read(alloc: Global, log: &Arc<VatLog>, delivered: u64) -> Result<bool, NoAnswer> {
+    let found = audit_bytes(alloc, log.bytes().clone()?, Limits::default())?;
+    Ok(is_found_good(&found, log.len(), delivered))
 }
 
 /// What is open at the end of a log, where all of its records are good.
@@ -206,12 +254,17 @@ pub fn try_log(
     };
     tally.count(rt, "parse_log", is_so(|| is_parsed(alloc, &bytes)))?;
     tally.count(rt, "raise", is_so(|| is_raised(alloc, &bytes)))?;
+    tally.count(rt, "migrate_bytes", is_so(|| is_migrated(alloc, &bytes)))?;
+    tally.count(rt, "raise_bytes", is_so(|| is_made_later(alloc, &bytes)))?;
+    tally.count(rt, "salvage_log", is_so(|| is_salvaged(alloc, &bytes)))?;
     let Ok(log) = ask_again(|| log(alloc, number, records)) else {
         return tally.count(rt, "a log", false);
     };
     tally.count(rt, "audit_vat", is_so(|| is_good(alloc, &log, delivered)))?;
     let is_slim = is_so(|| is_good_in_short(alloc, &log, delivered));
     tally.count(rt, "audit_slim", is_slim)?;
+    let is_read = is_so(|| is_good_as_read(alloc, &log, delivered));
+    tally.count(rt, "audit_bytes", is_read)?;
     let is_open = is_same_twice(|| open_text(alloc, &log));
     tally.count(rt, "open_at_end", is_open)?;
     try_frames(rt, alloc, &log, tally)

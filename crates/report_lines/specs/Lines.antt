@@ -1,6 +1,7 @@
 -- The line and the exit status of each answer.
 use Rattle.std.specs.Prelude.{◌≡◌, ℕ, List, [], ◌∷◌, ◌++◌, length, codes}
 use Rattle.std.specs.Fmt.{decimal}
+use Rattle.vat_log.specs.Spelling.{log_bytes}
 use Rattle.vat_rules.specs.declared.rule.Rule.{Rule}
 use Rattle.vat_rules.specs.declared.rule.Rule.TheVariants as rule
 use Rattle.vat_rules.specs.declared.outcome.Why.{Why}
@@ -18,7 +19,7 @@ use Rattle.wire_logs.specs.declared.wire_line.WireLine.TheVariants as wire
 use Rattle.report_lines.specs.declared.join_text.JoinLine.{JoinLine}
 use Rattle.report_lines.specs.declared.join_text.JoinLine.TheVariants as join
 use Rattle.report_lines.specs.declared.answer.Answer.{Answer}
-use Rattle.report_lines.specs.declared.answer.Answer.TheVariants.{Finding, Report, Message, Order, NoOrder, Migrated, Wire, Join, Fault}
+use Rattle.report_lines.specs.declared.answer.Answer.TheVariants.{Finding, Report, Message, Order, NoOrder, Migrated, Salvaged, Wire, Join, Fault}
 use Rattle.report_lines.specs.Faults.{fault_status, fault_text}
 use Rattle.report_lines.specs.MessageText.{message_text}
 
@@ -142,6 +143,8 @@ answer_text (Message message) = message_text message
 answer_text (Order steps) = codes "order steps " ++ decimal (length steps)
 answer_text NoOrder = no_order_text
 answer_text (Migrated log) = codes "migrated vat " ++ (decimal log.vat ++ (codes " records " ++ decimal (length log.records)))
+answer_text (Salvaged found) = codes "salvaged vat " ++ (decimal found.log.vat ++ (codes " records " ++ (decimal (length found.log.records)
+    ++ (codes " bytes " ++ decimal (length (log_bytes found.log))))))
 answer_text (Wire found) = wire_text found
 answer_text (Join found) = join_text found
 answer_text (Fault found) = fault_text found
@@ -154,6 +157,7 @@ answer_status (Message message) = 0
 answer_status (Order steps) = 0
 answer_status NoOrder = 1
 answer_status (Migrated log) = 0
+answer_status (Salvaged found) = 0
 answer_status (Wire found) = wire_status found
 answer_status (Join found) = join_status found
 answer_status (Fault found) = fault_status found

@@ -14,7 +14,7 @@ use merge_order::Order;
 use rpc_view::RpcMessage;
 use std::fmt;
 use std::fmt::{Display, Formatter};
-use vat_log::VatLog;
+use vat_log::{Salvaged, SpelledLog};
 use vat_rules::SlimFinding;
 use wire_logs::WireLine;
 
@@ -32,7 +32,9 @@ pub enum Answer {
     /// No order of the records of a case exists.
     NoOrder,
     /// A log that was migrated.
-    Migrated(VatLog),
+    Migrated(SpelledLog),
+    /// What is whole of a log.
+    Salvaged(Salvaged),
     /// What was found of the bytes of a connection.
     Wire(WireLine),
     /// What was found of logs whose connections are joined.
@@ -42,15 +44,16 @@ pub enum Answer {
 }
 
 impl Answer {
-    /// The exit status: 0 for a good log, a yes, a message, an order, a migrated log or joined ones; 1 for a rule that is broken, each other no, or where
-    /// no order exists; 2 for a record or a message that isn't judged, what is too long, or a fault; 3 where memory ran out.
+    /// The exit status: 0 for a good log, a yes, a message, an order, a migrated or salvaged log or joined ones; 1 for a rule that is broken, each other
+    /// no, or where no order exists; 2 for a record or a message that isn't judged, what is too long, or a fault; 3 where memory ran out.
     pub fn status(&self) -> u8
         ensures { result ≡ answer_status self.now }
     {
         match self {
             Answer::Finding(finding) => outcome_status(finding.outcome()),
             Answer::Report(report) => report_status(report),
-            Answer::Message(_) | Answer::Order(_) | Answer::Migrated(_) => 0,
+            Answer::Message(_) | Answer::Order(_) => 0,
+            Answer::Migrated(_) | Answer::Salvaged(_) => 0,
             Answer::NoOrder => 1,
             Answer::Wire(line) => wire_status(line),
             Answer::Join(line) => join_status(line),
@@ -65,8 +68,7 @@ impl Display for Answer {
     fn fmt<W: fmt::Write>(&self, f: &mut Formatter<W>) -> fmt::Result {
         match self {
             Answer::Finding(finding) => {
-                let log = finding.log();
-                put_outcome(f, log.vat(), log.len(), finding.outcome())
+                put_outcome(f, finding.vat(), finding.len(), finding.outcome())
             }
             Answer::Report(report) => put_report(f, report),
             Answer::Message(message) => write!(f, "{}", Shown(message)),
@@ -74,6 +76,16 @@ impl Display for Answer {
             Answer::NoOrder => put_no_order(f),
             Answer::Migrated(log) => {
                 write!(f, "migrated vat {} records {}", log.vat(), log.len())
+            }
+            Answer::Salvaged(found) => {
+                let log = &found.log;
+                let bytes = log.bytes().len();
+                write!(
+                    f,
+                    "salvaged vat {} records {} bytes {bytes}",
+                    log.vat(),
+                    log.len()
+                )
             }
             Answer::Wire(line) => put_wire(f, line),
             Answer::Join(line) => put_join(f, line),

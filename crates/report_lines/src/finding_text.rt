@@ -63,7 +63,7 @@ pub fn put_outside<W: fmt::Write>(f: &mut Formatter<W>, vat: u32, at: u64, why: 
 pub fn put_outcome<W: fmt::Write>(
     f: &mut Formatter<W>,
     vat: u32,
-    records: usize,
+    records: u64,
     outcome: &SlimOutcome,
 ) -> fmt::Result
     ensures { WritesOnOk W.write_str_gives f.old result

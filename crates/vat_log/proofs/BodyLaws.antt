@@ -66,6 +66,12 @@ same_records : (said : List Body) → flat_map (record_bytes Three) said ≡ fla
 same_records [] = refl
 same_records (x ∷ xs) = ap (λ (fields : List ℕ). kind_byte (kind_in x) ∷ fields ++ flat_map (record_bytes Three) xs) (same_fields x) ∙ ap (λ (rest : List ℕ). record_bytes written_version x ++ rest) (same_records xs)
 
+-- such versions spell a record alike
+pub record_alike : (version : LogVersion) → count_width version ≡ w32 → (said : Body) → record_bytes version said ≡ record_bytes written_version said
+record_alike One wide said = not_16 wide
+record_alike Two wide said = refl
+record_alike Three wide said = ap (λ (fields : List ℕ). kind_byte (kind_in said) ∷ fields) (same_fields said)
+
 -- such versions spell records alike
 pub records_alike : (version : LogVersion) → count_width version ≡ w32 → (said : List Body) → flat_map (record_bytes version) said ≡ flat_map (record_bytes written_version) said
 records_alike One wide said = not_16 wide

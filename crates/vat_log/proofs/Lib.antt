@@ -3,4 +3,7 @@ pub mod Spans
 pub mod FieldLaws
 pub mod BodyLaws
 pub mod LogLaws
+pub mod Runs
+pub mod ReadOn
 pub mod Ends
+pub mod Respelled

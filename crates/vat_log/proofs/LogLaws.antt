@@ -74,7 +74,7 @@ kind_takes bytes at kind lt e =
     let cell : drop at bytes ≡ get_or bytes at 0 ∷ drop (at + 1) bytes = rw (add-one) (drop-cons bytes at 0 lt) in
     record { parts = cell ∙ ap (λ b. b ∷ drop (at + 1) bytes) byte; places = refl; within = omega arith }
 
-kind_again : (bytes : List ℕ) (at : ℕ) (kind : RecordKind) (after : ℕ) → Spans bytes at (kind_byte kind ∷ []) after → (at < length bytes) × (kind_at bytes at ≡ Ok kind)
+pub kind_again : (bytes : List ℕ) (at : ℕ) (kind : RecordKind) (after : ℕ) → Spans bytes at (kind_byte kind ∷ []) after → (at < length bytes) × (kind_at bytes at ≡ Ok kind)
 unfolding kind_at
 kind_again bytes at kind after p =
     let lt : at < length bytes = omega (arith, p.places, p.within) in
@@ -85,7 +85,7 @@ kind_again bytes at kind after p =
 
 -- ---- records
 
-record_takes : (version : LogVersion) (bytes : List ℕ) → IsBytes bytes → (at : ℕ) (kind : RecordKind) (x : Body × ℕ) → at < length bytes → kind_at bytes at ≡ Ok kind → fields_at version kind bytes (at + 1) ≡ Ok x → Spans bytes at (record_bytes version x.0) x.1 × FitsWide version x.0
+pub record_takes : (version : LogVersion) (bytes : List ℕ) → IsBytes bytes → (at : ℕ) (kind : RecordKind) (x : Body × ℕ) → at < length bytes → kind_at bytes at ≡ Ok kind → fields_at version kind bytes (at + 1) ≡ Ok x → Spans bytes at (record_bytes version x.0) x.1 × FitsWide version x.0
 record_takes version bytes fits at kind x lt k e =
     let t = fields_take version kind bytes fits (at + 1) x (omega arith) e in
     let both = Spans-join bytes at (kind_byte kind ∷ []) (at + 1) (fields_bytes version x.0) x.1 (kind_takes bytes at kind lt k) t.0 in
@@ -139,10 +139,10 @@ records_again version (x ∷ xs) (suc left) bytes at le fit p =
 -- ---- versions
 
 -- the magic of this version stands before all else
-abbrev Begins : List ℕ → LogVersion → Type 0
+abbrev pub Begins : List ℕ → LogVersion → Type 0
 Begins bytes version = starts_with eqb bytes (log_magic version) ≡ true
 
-version_was : (bytes : List ℕ) (version : LogVersion) → version_at bytes ≡ Ok version → Begins bytes version
+pub version_was : (bytes : List ℕ) (version : LogVersion) → version_at bytes ≡ Ok version → Begins bytes version
 unfolding version_at
 version_was bytes version e =
     let third : Result LogVersion LogError = cond (starts_with eqb bytes (log_magic Three)) (Ok Three) (Err BadMagic) in
@@ -160,12 +160,12 @@ version_was bytes version e =
 
 -- ---- logs
 
-magic_long : (version : LogVersion) → length (log_magic version) ≡ 8
+pub magic_long : (version : LogVersion) → length (log_magic version) ≡ 8
 magic_long One = refl
 magic_long Two = refl
 magic_long Three = refl
 
-begins : (bytes : List ℕ) (version : LogVersion) → Begins bytes version → Spans bytes 0 (log_magic version) 8
+pub begins : (bytes : List ℕ) (version : LogVersion) → Begins bytes version → Spans bytes 0 (log_magic version) 8
 begins bytes version e =
     let magic = log_magic version in
     let cut : bytes ≡ magic ++ drop (length magic) bytes = (starts_is Decides-eqb bytes magic (starts_with eqb bytes magic) refl).0 e in
@@ -185,7 +185,7 @@ three_not_one bytes rest e = rw e refl
 three_not_two : (bytes rest : List ℕ) → bytes ≡ log_magic Three ++ rest → starts_with eqb bytes (log_magic Two) ≡ false
 three_not_two bytes rest e = rw e refl
 
-version_again : (bytes : List ℕ) (version : LogVersion) (after : ℕ) → Spans bytes 0 (log_magic version) after → version_at bytes ≡ Ok version
+pub version_again : (bytes : List ℕ) (version : LogVersion) (after : ℕ) → Spans bytes 0 (log_magic version) after → version_at bytes ≡ Ok version
 unfolding version_at
 version_again bytes One after p = rw (begins_again bytes One after p) refl
 version_again bytes Two after p = rw (two_not_one bytes (drop after bytes) p.parts, begins_again bytes Two after p) refl

@@ -4,6 +4,8 @@ pub mod Fits
 pub mod Spelling
 pub mod Reading
 pub mod Parsed
+pub mod Runs
 pub mod Glue
+pub mod Reader
 pub mod Ends
 pub mod Migrated

@@ -224,6 +224,13 @@ version_at bytes =
     else if starts_with nat_eq bytes (log_magic Three) then Ok Three
     else Err BadMagic
 
+-- The header of a log: its version and its vat, as a log without records.
+unfoldable pub header_of : List ℕ → Result Log LogError
+header_of bytes = do
+  version ← version_at bytes
+  vat ← number_at w32 bytes 8
+  Ok (record { version = version; vat = vat.0; records = [] })
+
 -- The log that these bytes spell, of so many records at most, or the first fault.
 unfoldable pub log_within : ℕ → List ℕ → Result Log LogError
 log_within limit bytes = do

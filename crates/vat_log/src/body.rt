@@ -20,9 +20,14 @@ enum KeptReferences {
 }
 
 /// References noted beside a frame, in the order of the descriptors that aren't none (docs/FORMATS.md).
-#[derive(Drop)]
 pub struct References {
     kept: KeptReferences,
+}
+
+impl Drop for References {
+    fn drop(self) {
+        let Self { kept: _ } = self;
+    }
 }
 
 impl Model for References {
@@ -96,9 +101,14 @@ enum KeptResults {
 }
 
 /// The results of a call: references, each with the path at which it stands (docs/FORMATS.md).
-#[derive(Drop)]
 pub struct ResultReferences {
     kept: KeptResults,
+}
+
+impl Drop for ResultReferences {
+    fn drop(self) {
+        let Self { kept: _ } = self;
+    }
 }
 
 impl Model for ResultReferences {
@@ -176,7 +186,7 @@ impl ResultReferences {
 }
 
 /// What a record says (docs/FORMATS.md). References and calls are the vat's own numbers.
-#[derive(Debug, Drop)]
+#[derive(Debug)]
 pub enum Body {
     /// The vat hosts an object of its own under a reference.
     Host {
@@ -271,6 +281,53 @@ pub enum Body {
         /// The call whose results are its results, which isn't 0.
         by: u64,
     },
+}
+
+impl Drop for Body {
+    fn drop(self) {
+        match self {
+            Self::Host {
+                reference: _,
+                object: _,
+            } => {}
+            Self::Vow { reference: _ } => {}
+            Self::Fulfil {
+                reference: _,
+                to: _,
+            } => {}
+            Self::Break { reference: _ } => {}
+            Self::Make {
+                call: _,
+                reference: _,
+                interface: _,
+                method: _,
+            } => {}
+            Self::Field {
+                reference: _,
+                call: _,
+                path: _,
+            } => {}
+            Self::Deliver { call: _, object: _ } => {}
+            Self::Answer {
+                call: _,
+                results: _,
+            } => {}
+            Self::Fault { call: _ } => {}
+            Self::Send {
+                connection: _,
+                call: _,
+                references: _,
+                frame: _,
+            } => {}
+            Self::Receive {
+                connection: _,
+                call: _,
+                references: _,
+                frame: _,
+            } => {}
+            Self::AnswerBy { call: _, by: _ } => {}
+        }
+    }
 }
 
 /// What a MAKE says.

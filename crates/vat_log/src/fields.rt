@@ -1,7 +1,7 @@
 //! Reading one field of a record. A reader takes a place in the bytes, and gives the value there and the place after
 //! it.
 
-ghost use Rattle.std.specs.Prelude.{◌≤◌, length, IfOk};
+ghost use Rattle.std.specs.Prelude.{◌≡◌, ◌≤◌, length, IfOk, IfErr};
 ghost use Rattle.std.specs.Int.{w16, w32, w64};
 ghost use Rattle.vat_log.specs.Spelling.{count_width};
 ghost use Rattle.vat_log.specs.Reading.{GivesInMemory, number_at, nonzero_at, count_at, many_at, list_at, path_at, answered_at, frame_at};
@@ -32,6 +32,7 @@ pub(crate) fn u32_at(bytes: &[u8], at: usize) -> Result<(u32, usize), LogError>
     requires { at ≤ length bytes.now }
     ensures gives { GivesInMemory (λ x. (x.0, x.1)) result (number_at w32 bytes.now at) }
     ensures within { IfOk result (λ x. x.1 ≤ length bytes.now) }
+    ensures cut { IfErr result (λ e. e ≡ LogError.Short at) }
 {
     if bytes.len() - at < 4 {
         return Err(LogError::Short(at as u64));

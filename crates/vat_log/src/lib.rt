@@ -1,25 +1,32 @@
 //! Logs of one vat: their records, and their one spelling in the bytes of each version (docs/FORMATS.md).
 //!
-//! It stands on `bytes`, from which frames are cut without copying, and on `cap_frame` for its paths. How a log is
-//! spelled is said in `specs/Spelling.antt`, how bytes are read and which fault is first in `specs/Reading.antt`, what
-//! a log can hold in `specs/Fits.antt`. [`parse_log`] and [`write_log`] answer exactly what these say, and a [`VatLog`]
-//! is what its bytes spell. All three versions are read. Version 2 is written, or version 3 where a runtime speaks the
-//! later edition of rpc.capnp ([`write_later_log`], [`LogWriter::later`]). [`migrate`] makes a version 2 log of one of
-//! version 1, and [`raise`] a version 3 log of any. A [`LogWriter`] is for a runtime of one thread, which writes its log
-//! record by record.
+//! It stands on `bytes`, from which frames are cut without copying, on `cap_frame` for its paths, and on `erased` for the
+//! records that a reader gave. How a log is spelled is said in `specs/Spelling.antt`, how bytes are read and which fault
+//! is first in `specs/Reading.antt`, what a log can hold in `specs/Fits.antt`, and with which logs bytes begin in
+//! `specs/Runs.antt`. [`parse_log`] and [`write_log`] answer exactly what these say, and a [`VatLog`] is what its bytes
+//! spell. A [`LogReader`] gives a log's records one after another and keeps none, behind its [`LogHeader`]. [`salvage_log`]
+//! gives the longest run of whole records, as a [`SpelledLog`], of which the bytes alone are kept.
+//!
+//! All three versions are read. Version 2 is written, or version 3 where a runtime speaks the later edition of rpc.capnp
+//! ([`write_later_log`], [`LogWriter::later`]). [`migrate`] makes a version 2 log of one of version 1, and [`raise`] a
+//! version 3 log of any; [`migrate_bytes`] and [`raise_bytes`] make the same of bytes, and keep no record. A [`LogWriter`] is for a runtime of one thread, which writes its log record by record.
 #![tactic(auto)]
 
 mod body;
 mod error;
 mod fields;
+mod header;
 mod kind;
 mod laws;
 mod limits;
 mod log;
+mod migrating;
 mod passage;
 mod passing;
+mod reader;
 mod reading;
 mod record;
+mod spelled_log;
 mod storing;
 mod version;
 mod writer;
@@ -27,8 +34,12 @@ mod writing;
 
 pub use body::{Body, References, ResultReferences};
 pub use error::LogError;
-pub use laws::one_spelling;
-pub use log::{VatLog, migrate, parse_log, raise};
+pub use header::LogHeader;
+pub use laws::{one_spelling, runs_of_one_log};
+pub use log::{Salvaged, VatLog, migrate, parse_log, raise, salvage_log};
+pub use migrating::{migrate_bytes, raise_bytes};
+pub use reader::LogReader;
 pub use record::Record;
+pub use spelled_log::SpelledLog;
 pub use storing::{write_later_log, write_lent_later_log, write_lent_log, write_log};
 pub use writer::LogWriter;

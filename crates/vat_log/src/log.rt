@@ -1,34 +1,47 @@
 //! Logs.
 
-ghost use Rattle.std.specs.Prelude.{◌≡◌, ◌<◌, ◌≤◌, ◌^◌, Ok, length, slice_get, All, Err, IfErr, IfOk};
+ghost use Rattle.std.specs.Prelude.{◌≡◌, ◌≤◌, Ok, length, slice_get, All, Err, IfErr, IfOk, MatchOption};
 ghost use Rattle.std.specs.Option.{option_copied};
 ghost use Rattle.std.specs.Int.{w32};
-ghost use Rattle.vat_log.specs.Reading.{GivesInMemory, records_at, version_at, log_within, log_of};
+ghost use Rattle.vat_log.specs.Reading.{Fails, GivesInMemory, version_at, header_of, log_of};
 ghost use Rattle.vat_log.specs.Fits.{record_limit, Fits, IsWide, LogFits};
 ghost use Rattle.vat_log.specs.Ends.{AreEnds};
 ghost use Rattle.vat_log.specs.Log.{Log, version_number, later_version};
 ghost use Rattle.vat_log.specs.Migrated.{migrated, raised};
+ghost use Rattle.vat_log.specs.Reader.{EndsBy};
+ghost use Rattle.vat_log.specs.Runs.{BeginsWith, IsLongestRun, with_records};
 ghost use Rattle.vat_log.specs.Spelling.{count_width, log_bytes};
 
 use crate::error::LogError;
-use crate::fields::u32_at;
-use crate::kind::read_kind;
-use crate::limits::MAX_RECORDS;
+use crate::header::LogHeader;
+use crate::reader::LogReader;
 use crate::record::Record;
+use crate::spelled_log::SpelledLog;
 use crate::storing::{lend, log_with_lent};
-use crate::version::{LogVersion, read_version};
+use crate::version::LogVersion;
 use crate::writing::written_log;
 use bytes::Bytes;
 use std::alloc::{AllocError, Global};
 use std::marker::Model;
 
 /// The log of one vat, and the bytes that spell it (docs/FORMATS.md).
-#[derive(Debug, Drop)]
+#[derive(Debug)]
 pub struct VatLog {
     bytes: Bytes,
     version: LogVersion,
     vat: u32,
     records: Vec<Record>,
+}
+
+impl Drop for VatLog {
+    fn drop(self) {
+        let Self {
+            bytes: _,
+            version: _,
+            vat: _,
+            records: _,
+        } = self;
+    }
 }
 
 impl Model for VatLog {
@@ -61,6 +74,17 @@ impl VatLog {
         self.vat
     }
 
+    /// What stands in front of its records.
+    pub fn header(&self) -> LogHeader
+        ensures version { result.version ≡ self.now.version }
+        ensures vat { result.vat ≡ self.now.vat }
+    {
+        LogHeader {
+            version: self.version,
+            vat: self.vat,
+        }
+    }
+
     /// How many records there are, 1,048,576 at most.
     pub fn len(&self) -> usize
         ensures value { result ≡ length self.now.records }
@@ -85,50 +109,27 @@ impl VatLog {
     }
 }
 
-/// The records from this place to the end, of which there may be so many.
-fn records_of(
+/// The records that are left, up to the end or to the first fault, which is given beside them. The only error is that
+/// memory ran out.
+fn records_left(
     alloc: Global,
-    version: LogVersion,
-    bytes: &Bytes,
-    begin: usize,
-    limit: usize,
-) -> Result<Vec<Record>, LogError>
-    requires octets { All (λ octet. octet < 2 ^ 8) bytes.now }
-    requires within { begin ≤ length bytes.now }
-    ensures { GivesInMemory (λ v. v.items) result (records_at version bytes.now limit begin) }
+    reader: &mut LogReader,
+) -> Result<(Vec<Record>, Option<LogError>), AllocError>
+    ensures bytes { reader.new.bytes ≡ reader.old.bytes }
+    ensures begun { BeginsWith reader.new.bytes reader.new.log }
+    ensures records { IfOk result (λ left.
+        reader.new.log ≡ with_records left.0.items reader.old.log) }
+    ensures ended { IfOk result (λ left. EndsBy left.1 reader.new) }
 {
     let mut records = Vec::new(alloc);
-    let mut at = begin;
-    while at < bytes.len() {
-        let kind = read_kind(bytes.as_slice(), at)?;
-        if records.len() >= limit {
-            return Err(LogError::TooLong);
+    loop {
+        match reader.next(alloc) {
+            Ok(Some(entry)) => records.push(entry)?,
+            Ok(None) => return Ok((records, None)),
+            Err(LogError::OutOfMemory) => return Err(AllocError),
+            Err(fault) => return Ok((records, Some(fault))),
         }
-        let (entry, after) = Record::read(alloc, version, kind, bytes, at + 1)?;
-        records.push(entry)?;
-        at = after;
     }
-    Ok(records)
-}
-
-/// The version, the vat and the records that these bytes spell.
-#[tactic(auto, unfolding(crate::specs::Reading::log_within))]
-fn parts_of(
-    alloc: Global,
-    bytes: &Bytes,
-    limit: usize,
-) -> Result<(LogVersion, u32, Vec<Record>), LogError>
-    ensures gives { GivesInMemory
-        (λ x. record { version = x.0; vat = x.1; records = x.2.items }) result
-        (log_within limit bytes.now) }
-    ensures octets { All (λ octet. octet < 2 ^ 8) bytes.now }
-    ensures early { version_at bytes.now ≡ Err LogError.BadMagic
-        → IfErr result (λ e. e ≡ LogError.BadMagic) }
-{
-    let version = read_version(bytes.as_slice())?;
-    let (vat, after) = u32_at(bytes.as_slice(), 8)?;
-    let records = records_of(alloc, version, bytes, after, limit)?;
-    Ok((version, vat, records))
 }
 
 /// The log that these bytes spell: the magic `VATLOG01`, `VATLOG02` or `VATLOG03`, then the vat's number of 4 bytes, then
@@ -139,7 +140,6 @@ fn parts_of(
 /// The first fault from the left: `BadMagic`, `Short`, `BadKind` and `ZeroNumber` with the offset of the field,
 /// `TooLong` at a record past 1,048,576, at a count above that, or at a frame above 67,108,864 bytes; or `OutOfMemory`,
 /// where a growth was refused.
-#[tactic(auto, unfolding(crate::specs::Fits::record_limit))]
 pub fn parse_log(alloc: Global, bytes: Bytes) -> Result<VatLog, LogError>
     // Which log, or which fault.
     ensures exact { GivesInMemory (λ log. log) result (log_of bytes) }
@@ -152,13 +152,67 @@ pub fn parse_log(alloc: Global, bytes: Bytes) -> Result<VatLog, LogError>
     ensures early { version_at bytes ≡ Err LogError.BadMagic
         → IfErr result (λ e. e ≡ LogError.BadMagic) }
 {
-    let (version, vat, records) = parts_of(alloc, &bytes, MAX_RECORDS)?;
+    let mut reader = LogReader::new(bytes)?;
+    let (records, fault) = records_left(alloc, &mut reader)?;
+    if let Some(fault) = fault {
+        return Err(fault);
+    }
     Ok(VatLog {
-        bytes,
-        version,
-        vat,
+        version: reader.log_version(),
+        vat: reader.vat(),
+        bytes: reader.into_bytes(),
         records,
     })
+}
+
+/// Reads the records that are left, up to the end or to the first fault, which is given. None is kept. The only error is
+/// that memory ran out.
+fn read_through(alloc: Global, reader: &mut LogReader) -> Result<Option<LogError>, AllocError>
+    ensures bytes { reader.new.bytes ≡ reader.old.bytes }
+    ensures begun { BeginsWith reader.new.bytes reader.new.log }
+    ensures ended { IfOk result (λ fault. EndsBy fault reader.new) }
+{
+    loop {
+        match reader.next(alloc) {
+            Ok(Some(_)) => {}
+            Ok(None) => return Ok(None),
+            Err(LogError::OutOfMemory) => return Err(AllocError),
+            Err(fault) => return Ok(Some(fault)),
+        }
+    }
+}
+
+/// What is whole of a log: its longest run of records from the first on, and why no more of it is.
+#[derive(Debug, Drop)]
+pub struct Salvaged {
+    /// The log of the run, in the version in which it was read.
+    pub log: SpelledLog,
+    /// The first fault of the bytes, where reading them all stops; none where the log is whole.
+    pub fault: Option<LogError>,
+}
+
+/// The log of the longest run of whole records with which these bytes begin: of a log that was cut as it was written,
+/// say. Its bytes are a part of these, and a whole log stays as it is.
+///
+/// # Errors
+///
+/// The fault of the header, by which no log begins: `BadMagic`, or `Short(8)` where the vat is cut; or `OutOfMemory`,
+/// where a growth was refused.
+pub fn salvage_log(alloc: Global, bytes: Bytes) -> Result<Salvaged, LogError>
+    // Which log.
+    ensures longest { IfOk result (λ salvaged. IsLongestRun bytes salvaged.log) }
+    // Where reading them all stops.
+    ensures fault { IfOk result (λ salvaged. MatchOption salvaged.fault
+        (log_of bytes ≡ Ok salvaged.log) (λ e. log_of bytes ≡ Err e)) }
+    // What is left of no log, unless memory runs out.
+    ensures err { IfErr result (λ e. Fails e (header_of bytes) × Fails e (log_of bytes)) }
+{
+    let mut reader = LogReader::new(bytes)?;
+    let fault = read_through(alloc, &mut reader)?;
+    let version = reader.log_version();
+    let bytes = reader.bytes_given()?;
+    let log = reader.spelled_in(version, bytes);
+    Ok(Salvaged { log, fault })
 }
 
 /// Takes each record's frame out of the log's bytes.

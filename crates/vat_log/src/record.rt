@@ -19,9 +19,15 @@ use std::alloc::{AllocError, Global};
 use std::marker::Model;
 
 /// A record of a log: a body whose numbers and counts a log can hold (docs/FORMATS.md).
-#[derive(Debug, Drop)]
+#[derive(Debug)]
 pub struct Record {
     body: Body,
+}
+
+impl Drop for Record {
+    fn drop(self) {
+        let Self { body: _ } = self;
+    }
 }
 
 impl Model for Record {

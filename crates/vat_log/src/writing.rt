@@ -225,7 +225,8 @@ fn put_fields(out: &mut Vec<u8>, body: &Body) -> Result<(), AllocError>
     }
 }
 
-fn put_body(out: &mut Vec<u8>, body: &Body) -> Result<(), AllocError>
+/// A record: the byte of its kind, then its fields.
+pub(crate) fn put_body(out: &mut Vec<u8>, body: &Body) -> Result<(), AllocError>
     requires { Fits body.now }
     ensures ok { OnOk result (out.new.items ≡ out.old.items ++ record_bytes written_version body.now) }
     ensures wide { OnOk result (IsWide body.now) }
@@ -252,6 +253,15 @@ fn put_magic(out: &mut Vec<u8>, version: LogVersion) -> Result<(), AllocError>
     }
 }
 
+/// What stands in front of a log's records.
+pub(crate) fn put_header(out: &mut Vec<u8>, version: LogVersion, vat: u32) -> Result<(), AllocError>
+    ensures { OnOk result (out.new.items
+        ≡ out.old.items ++ (log_magic version ++ number_bytes w32 vat)) }
+{
+    put_magic(out, version)?;
+    put_u32(out, vat)
+}
+
 /// The one spelling, in a version whose counts have 32 bits, of the log with this vat and these records.
 pub(crate) fn written_log(
     alloc: Global,
@@ -274,8 +284,7 @@ pub(crate) fn written_log(
 {
     let mut ends = Vec::with_capacity(alloc, records.len())?;
     let mut out = Vec::new(alloc);
-    put_magic(&mut out, version)?;
-    put_u32(&mut out, vat)?;
+    put_header(&mut out, version, vat)?;
     for entry in records {
         put_body(&mut out, entry.body())?;
         ends.push(out.len())?;

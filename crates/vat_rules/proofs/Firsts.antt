@@ -23,7 +23,7 @@ abbrev pub told : List Entry → ℕ → Told
 told entries delivered = record { entries = entries; delivered = delivered }
 
 -- the records before the next
-take-more : {A : Type 0} (xs : List A) (at : ℕ) (x : A) → slice_get xs at ≡ Some x → take (at + 1) xs ≡ take at xs ++ x ∷ []
+pub take-more : {A : Type 0} (xs : List A) (at : ℕ) (x : A) → slice_get xs at ≡ Some x → take (at + 1) xs ≡ take at xs ++ x ∷ []
 take-more xs at x here =
     let within : at < length xs = slice_get_within xs at x here in
     let one : at + 1 ≡ suc at = omega arith in

@@ -3,9 +3,11 @@ pub mod Judging
 pub mod Noted
 pub mod Owning
 pub mod Firsts
+pub mod Longer
 pub mod Taken
 pub mod Unread
 pub mod SlimOutcomes
+pub mod Auditing
 pub mod Unique
 pub mod Once
 pub mod Entries

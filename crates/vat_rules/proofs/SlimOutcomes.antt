@@ -1,5 +1,5 @@
 -- What an audit finds that keeps no record.
-use Rattle.std.proofs.Common.{◌≡◌, ℕ, suc, ◌+◌, List, [], ◌∷◌, ◌≤◌, length, refl, sym, ◌∙◌, ap, if◌then◌else◌, Bool, true, false, arith}
+use Rattle.std.proofs.Common.{◌≡◌, ℕ, suc, ◌+◌, List, [], ◌∷◌, length, refl, sym, ◌∙◌, ap, if◌then◌else◌, arith}
 use Rattle.std.specs.Prelude.{reverse, count_by}
 use Rattle.std.proofs.lemmas.List.{length-reverse}
 use Rattle.std.proofs.lemmas.List.Sorted.{sum_by-IsPermutation, IsPermutation-reverse}
@@ -41,8 +41,3 @@ good_by edition read log past delivered good whole counted = (
 -- one record more
 pub one_longer : (e : DecodedRecord) (past : Past) → length (e ∷ past) ≡ length past + 1
 one_longer e past = omega arith
-
--- no more deliveries than records
-pub counted_small : (b : Bool) (n m at : ℕ) → m ≡ n + (if b then 1 else 0) → n ≤ at → m ≤ at + 1
-counted_small true n m at is small = omega (arith, is, small)
-counted_small false n m at is small = omega (arith, is, small)

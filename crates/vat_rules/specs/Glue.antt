@@ -1,5 +1,6 @@
 -- For the code's contracts, and no part of the meaning: how the facts of a record are looked up and kept.
 pub mod Asked
+pub mod Auditing
 pub mod Compact
 pub mod Facts
 pub mod Roles

@@ -12,6 +12,8 @@ pub mod Judged
 pub mod Telling
 pub mod First
 pub mod Audit
+pub mod Audited
+pub mod Refused
 pub mod Editions
 pub mod Slim
 pub mod Glue

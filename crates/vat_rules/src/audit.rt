@@ -5,7 +5,7 @@ ghost use Rattle.std.specs.Arc.{arc_value};
 ghost use Rattle.vat_rules.specs.Telling.{is_delivery, entries_back};
 ghost use Rattle.vat_rules.specs.Events.{past_at};
 ghost use Rattle.vat_rules.specs.First.{AllGood};
-ghost use Rattle.vat_rules.specs.Audit.{IsTrueOf, reads_by, edition_of};
+ghost use Rattle.vat_rules.specs.Audit.{IsTrueOf, reads_by, edition_of, edition_of_version};
 ghost use Rattle.vat_rules.specs.Glue.Taking.{IsGathered, IsRefused, refused_at};
 
 use crate::facts::gathered::Gathered;
@@ -17,7 +17,7 @@ use crate::why::unread;
 use rpc_view::{Edition, Limits};
 use std::alloc::{AllocError, Global};
 use std::sync::Arc;
-use vat_log::{Body, VatLog};
+use vat_log::{Body, LogHeader, VatLog};
 use vat_view::{DecodedRecord, VatState};
 
 /// Whether a record delivers a call.
@@ -52,16 +52,23 @@ fn story_of(gathered: Gathered) -> Story
     Story::new(gathered, delivered)
 }
 
-/// The edition of rpc.capnp by which a log is judged: its version says it.
+/// The edition of rpc.capnp by which a log with this header is judged: its version says it.
 #[tactic(auto, using(crate::proofs::Editions::later_if, crate::proofs::Editions::first_if))]
-pub fn edition_of(log: &VatLog) -> Edition
-    ensures { result ≡ edition_of log.now }
+pub fn edition_of_header(header: LogHeader) -> Edition
+    ensures { result ≡ edition_of_version header.version }
 {
-    if log.version() == 3 {
+    if header.version() == 3 {
         Edition::Later
     } else {
         Edition::First
     }
+}
+
+/// The edition of rpc.capnp by which a log is judged.
+pub fn edition_of(log: &VatLog) -> Edition
+    ensures { result ≡ edition_of log.now }
+{
+    edition_of_header(log.header())
 }
 
 /// The outcome of a log whose first record that isn't good is this, for this reason.

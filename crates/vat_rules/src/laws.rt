@@ -1,6 +1,6 @@
-//! Laws of good logs, which hold of every log and not of one call.
+//! Laws of logs, which hold of every log and not of one call.
 
-ghost use Rattle.std.specs.Prelude.{◌≤◌, ◌++◌, List};
+ghost use Rattle.std.specs.Prelude.{ℕ, ◌≤◌, ◌++◌, List};
 ghost use Rattle.vat_view.specs.Past.{Past, Each};
 ghost use Rattle.vat_view.specs.Questions.{opens, returns, finishes};
 ghost use Rattle.vat_view.specs.declared.record.table_key.TableKey.{TableKey};
@@ -12,6 +12,10 @@ ghost use Rattle.cap_reader.specs.declared.limits.Limits.{Limits};
 ghost use Rattle.vat_log.specs.Log.{Log};
 ghost use Rattle.vat_rules.specs.LogFacts.{Told};
 ghost use Rattle.vat_rules.specs.Editions.{KeepsMore, IsGoodByLater, HasNoLightReturns};
+ghost use Rattle.vat_rules.specs.declared.rule.Rule.{Rule};
+ghost use Rattle.vat_rules.specs.declared.outcome.Why.{Why};
+ghost use Rattle.vat_rules.specs.declared.outcome.Outcome.TheVariants.{Broken, Outside};
+ghost use Rattle.vat_rules.specs.Refused.{StaysSo};
 
 /// A good record behind good ones turns only views that stay: a promise is kept or broken once, an import is resolved
 /// once, and a call is answered once, by this vat or by the one that it was sent to. So in a good log what a view once
@@ -49,4 +53,13 @@ pub fn good_logs_are_good()
 /// is over, and not before.
 pub fn earlier_logs_have_no_light_returns()
     ensures { (log : Log) (limits : Limits) → HasNoLightReturns log limits }
+{}
+
+/// A log whose first record that isn't good is this one has the same outcome whatever comes behind it: so an audit that
+/// takes one record after another is done there.
+pub fn refused_logs_stay_refused()
+    ensures broken { (log : Log) (limits : Limits) (at : ℕ) (rule : Rule)
+        → StaysSo log limits (Broken at rule) }
+    ensures outside { (log : Log) (limits : Limits) (at : ℕ) (why : Why)
+        → StaysSo log limits (Outside at why) }
 {}

@@ -5,8 +5,8 @@
 //! `specs/OfResults.antt`, `specs/OfPromises.antt` and `specs/OfConnections.antt`, and of `vat_view` where a state of
 //! numbers asks for them itself; `specs/Rules.antt` lists
 //! them in their order. The outcome of a log is said in `specs/First.antt` and `specs/Audit.antt`, and [`audit_vat`]
-//! answers just that; [`audit_slim`] answers the same and keeps no record. Laws of good logs: each record turns only views
-//! that stay ([`good_records_turn_once`]), and each opening of a question has at most one Return and one Finish
+//! answers just that; [`audit_slim`] answers the same and keeps no record, [`audit_bytes`] reads the log as it is judged, and a
+//! [`VatAudit`] takes its records one after another. Laws of good logs: each record turns only views that stay ([`good_records_turn_once`]), and each opening of a question has at most one Return and one Finish
 //! ([`good_openings_are_closed_once`]). A log is read and judged by the edition of rpc.capnp that its version says
 //! ([`edition_of`]), and one that is good by it is good by the later edition, and tells the same ([`good_logs_are_good`]).
 #![tactic(auto)]
@@ -24,16 +24,17 @@ mod slim;
 mod taking;
 mod why;
 
-pub use audit::{audit_vat, edition_of};
+pub use audit::{audit_vat, edition_of, edition_of_header};
 pub use facts::compact::RecordFacts;
 pub use facts::story::Story;
 pub use finding::VatFinding;
 pub use laws::{
     earlier_logs_have_no_light_returns, good_logs_are_good, good_openings_are_closed_once,
-    good_records_turn_once, later_edition_keeps_more,
+    good_records_turn_once, later_edition_keeps_more, refused_logs_stay_refused,
 };
 pub use outcome::{Outcome, Why};
 pub use rule::Rule;
-pub use slim::audit::audit_slim;
+pub use slim::audit::{audit_bytes, audit_slim};
 pub use slim::finding::{SlimFinding, SlimOutcome};
 pub use slim::story::SlimStory;
+pub use slim::vat_audit::VatAudit;

@@ -1,6 +1,6 @@
 //! One record more of a log: judged, and applied where it is good.
 
-ghost use Rattle.std.specs.Prelude.{◌≡◌, ◌∷◌, IfOk, OnOk, MatchOption, MatchResult};
+ghost use Rattle.std.specs.Prelude.{◌≡◌, ◌∷◌, IfOk, OnOk, OnErr, MatchOption, MatchResult};
 ghost use Rattle.vat_view.specs.Past.{Past};
 ghost use Rattle.vat_view.specs.Sound.{IsSound};
 ghost use Rattle.vat_rules.specs.Rules.{rules};
@@ -28,24 +28,27 @@ pub(crate) enum Refusal {
     Broken(Rule),
 }
 
-/// Applies a good record.
+/// Applies a good record. Where memory runs out, the state is as it was.
 pub(crate) fn apply_good(state: &mut VatState, event: &DecodedRecord) -> Result<(), AllocError>
     requires { IsSound state.old event.now }
-    ensures { OnOk result (state.new ≡ event.now ∷ state.old) }
+    ensures ok { OnOk result (state.new ≡ event.now ∷ state.old) }
+    ensures err { OnErr result (state.new ≡ state.old) }
 {
     state.apply(event)
 }
 
-/// Judges a record by an edition, and applies it if it is good; else the first rule that it breaks.
+/// Judges a record by an edition, and applies it if it is good; else the first rule that it breaks, and the state is as it
+/// was. So it is where memory runs out.
 pub(crate) fn apply_if_good(
     alloc: Global,
     edition: Edition,
     state: &mut VatState,
     event: &DecodedRecord,
 ) -> Result<Option<Rule>, AllocError>
-    ensures { IfOk result (λ r. MatchOption r
+    ensures ok { IfOk result (λ r. MatchOption r
         (IsGoodBy edition state.old event.now × (state.new ≡ event.now ∷ state.old))
-        (λ rule. BreaksFirst edition rules state.old event.now rule)) }
+        (λ rule. BreaksFirst edition rules state.old event.now rule × (state.new ≡ state.old))) }
+    ensures err { OnErr result (state.new ≡ state.old) }
 {
     let facts = facts_before(alloc, state, event)?;
     match rule_broken(alloc, edition, state, event, &facts)? {

@@ -65,17 +65,23 @@ fn put_picture(text: &mut String, made: &[u8]) -> Result<(), Fault> {
     Ok(())
 }
 
+/// What bytes are that aren't an order's.
+fn kind_of(made: &[u8]) -> &'static str {
+    if made.starts_with(b"VATLOG01") {
+        "a log of version 1"
+    } else if made.starts_with(b"VATLOG02") {
+        "a log"
+    } else if made.starts_with(b"VATLOG03") {
+        "a log of version 3"
+    } else {
+        "no order and no log"
+    }
+}
+
 /// Appends the vats of an order file, or how long a log is.
 fn put_order_or_log(text: &mut String, made: &[u8]) -> Result<(), AllocError> {
     let Some(steps) = made.strip_prefix(b"VATORD01".as_slice()) else {
-        let len = made.len();
-        let what = if made.starts_with(b"VATLOG02") {
-            "a log"
-        } else if made.starts_with(b"VATLOG03") {
-            "a log of version 3"
-        } else {
-            "no order and no log"
-        };
+        let (what, len) = (kind_of(made), made.len());
         return write!(text, "made {what} of {len} bytes\n");
     };
     text.push_str("made")?;
@@ -113,8 +119,8 @@ fn text_of(alloc: Global, told: &RunOutput) -> Result<String, Fault> {
     Ok(text)
 }
 
-/// What the run that a conversation asks for prints, with `made V V ..` behind it where it wrote an order, or `made a log of N bytes`, of version 2 or, where it says so, 3, or
-/// the lines of a picture or of a page, and its status as a last line.
+/// What the run that a conversation asks for prints, with `made V V ..` behind it where it wrote an order, or `made a log of N
+/// bytes`, of version 2 or, where it says so, 1 or 3, or the lines of a picture or of a page, and its status as a last line.
 pub fn answer<R: Threads + Wait + Sync>(
     rt: &R,
     alloc: Global,

@@ -65,6 +65,7 @@ impl<'a, R: Files + AllocGlobal> Made<'a, R> {
                 let paths = paths_of(rt.alloc(), name, &file_names(rt.alloc(), logs)?)?;
                 Ok(Made::Folder(NewFolder::new(rt, name, paths)))
             }
+            Command::Salvage { out: name, .. } => Ok(Made::File(NewFile::beside(rt, name))),
             command => Ok(Made::File(NewFile::new(rt, command.out()))),
         }
     }

@@ -3,6 +3,7 @@
 //! their run, and `vataudit order CASE --out FILE` makes an order of their records. `vataudit vat FILE` prints one line for the
 //! log of one vat, `vataudit records FILE` a line for each record of a log, `vataudit frame HEX` the message of a frame, and
 //! `vataudit frames FILE` that of each frame of a file; `vataudit migrate FILE --out FILE` writes a log in another version;
+//! `vataudit salvage FILE --out NEW` writes the whole records of one that is cut;
 //! `vataudit wire A B` prints one line for a connection, by the bytes that its ends sent; `vataudit join LOG .. --out FOLDER` finds
 //! the other end of each connection of logs, and makes their case.
 //! Beside the lines it notes on standard error what leads people to the cause of a no, of a record that isn't judged, of an

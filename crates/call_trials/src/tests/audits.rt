@@ -1,6 +1,6 @@
 //! Reports of whole cases: by `audit`, and by `judge` of what is posted in a book.
 
-use audit_core::{AuditError, Breach, Gate, Report, audit, judge, judge_unordered};
+use audit_core::{AuditError, Breach, Gate, Report, audit, check_case, judge, judge_unordered};
 use case_book::{Book, Case, Finding, Findings, Link, Piece};
 use merge_order::{Order, make_order};
 use std::alloc::Global;
@@ -134,6 +134,36 @@ fn audited<R: Threads + Wait + Sync>(
     }
 }
 
+/// The line of a report that has no run. None where it has one.
+fn line_alone(report: &Report) -> Option<Line> {
+    match report {
+        Report::Yes { run, .. } if !run.steps().is_empty() => None,
+        Report::Yes {
+            vats,
+            records,
+            delivered,
+            under_way,
+            ..
+        } => Some(Line::Yes(*vats, *records, *delivered, *under_way)),
+        report => line_of(report),
+    }
+}
+
+/// What is answered where the line alone is asked for.
+fn checked<R: Threads + Wait + Sync>(
+    rt: &R,
+    alloc: Global,
+    case: &Case,
+    order: Option<Order>,
+    workers: u32,
+) -> Result<Result<Line, AuditError>, NoAnswer> {
+    match check_case(rt, alloc, case, order, workers, &Open) {
+        Ok(report) => Ok(Ok(line_alone(&report).ok_or("no run")?)),
+        Err(AuditError::OutOfMemory) => Err(NoAnswer::OutOfMemory),
+        Err(error) => Ok(Err(error)),
+    }
+}
+
 /// A conversation, what is changed in it, an order if one is given, and what is answered.
 type Row = (
     Conversation<'static>,
@@ -211,9 +241,9 @@ fn is_answered<R: Threads + Wait + Sync>(
     workers: u32,
 ) -> Result<bool, NoAnswer> {
     let (given, changes, order, answer) = row;
-    let order = order_of(alloc, *order)?;
     let case = case_of(alloc, given, changes)?;
-    Ok(audited(rt, alloc, case, order, workers)? == *answer)
+    let line = checked(rt, alloc, &case, order_of(alloc, *order)?, workers)?;
+    Ok(line == *answer && audited(rt, alloc, case, order_of(alloc, *order)?, workers)? == *answer)
 }
 
 #[test]

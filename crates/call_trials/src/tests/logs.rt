@@ -7,8 +7,8 @@ use std::alloc::Global;
 use std::fmt::Write;
 use std::process::Abort;
 use vat_log::{
-    Body, LogError, LogWriter, Record, References, VatLog, migrate, parse_log, raise,
-    write_later_log, write_log,
+    Body, LogError, LogWriter, Record, References, VatLog, migrate, migrate_bytes, parse_log,
+    raise, raise_bytes, write_later_log, write_log,
 };
 use worked_cases::{
     NoAnswer, ask_again, bytes_of_later_log, bytes_of_log, bytes_of_new_log, is_so,
@@ -248,12 +248,32 @@ fn rises_to(alloc: Global, log: &VatLog, later: &[u8]) -> Result<bool, NoAnswer>
     )
 }
 
+/// Whether these bytes are made a log that has those, migrated and raised, with the vat and the number of records of this
+/// one.
+fn becomes(
+    alloc: Global,
+    bytes: &Bytes,
+    log: &VatLog,
+    migrated: &[u8],
+    raised: &[u8],
+) -> Result<bool, NoAnswer> {
+    let made = migrate_bytes(alloc, bytes.clone()?)?;
+    let risen = raise_bytes(alloc, bytes.clone()?)?;
+    Ok(
+        made.bytes().as_slice() == migrated
+            && risen.bytes().as_slice() == raised
+            && (made.vat(), made.len()) == (log.vat(), log.len())
+            && (risen.vat(), risen.len()) == (log.vat(), log.len()),
+    )
+}
+
 /// The log of a vat that recorded these records.
 pub(super) fn log_of_records(alloc: Global, vat: &str, records: &str) -> Result<VatLog, NoAnswer> {
     Ok(parse_log(alloc, bytes_of_log(alloc, vat, records)?)?)
 }
 
-/// Whether records are spelled so in version 1, written and migrated in version 2, and written and raised in version 3.
+/// Whether records are spelled so in version 1, written and migrated in version 2, and written and raised in version 3, and
+/// whether the bytes of each version are made the same.
 fn is_spelled(alloc: Global, vat: &str, records: &str, digits: &str) -> Result<bool, NoAnswer> {
     let bytes = bytes_of_digits(alloc, digits)?;
     let log = log_of_records(alloc, vat, records)?;
@@ -261,7 +281,10 @@ fn is_spelled(alloc: Global, vat: &str, records: &str, digits: &str) -> Result<b
     let later = bytes_of_later_log(alloc, vat, records)?;
     Ok(
         has_bytes(alloc, &log, bytes.as_slice(), new.as_slice())?
-            && rises_to(alloc, &log, later.as_slice())?,
+            && rises_to(alloc, &log, later.as_slice())?
+            && becomes(alloc, log.bytes(), &log, new.as_slice(), later.as_slice())?
+            && becomes(alloc, &new, &log, new.as_slice(), later.as_slice())?
+            && becomes(alloc, &later, &log, later.as_slice(), later.as_slice())?,
     )
 }
 

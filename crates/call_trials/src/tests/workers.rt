@@ -2,7 +2,7 @@
 //! what shows it.
 
 use super::audits::{Line, line_of};
-use audit_core::{Gate, audit};
+use audit_core::{Gate, Report, audit, check_case};
 use std::alloc::Global;
 use std::sync::Wait;
 use std::sync::atomic::{AtomicBool, AtomicU64, Ordering};
@@ -39,17 +39,37 @@ impl Gate for Meeting {
     }
 }
 
+impl Meeting {
+    /// A gate at which the first pieces meet, so many.
+    fn of(wanted: u64) -> Meeting {
+        Meeting {
+            wanted,
+            came: AtomicU64::new(0),
+            is_missed: AtomicBool::new(false),
+        }
+    }
+
+    /// Whether the pieces met, and what was found is answered as ever.
+    fn is_held(&self, report: &Report) -> bool {
+        !self.is_missed.load(Ordering::SeqCst) && line_of(report) == Some(Line::Yes(2, 28, 3, 0))
+    }
+}
+
 /// Whether so many workers hold a piece each at the same time, and what they find is answered as ever. Where a worker was
 /// refused memory, the pieces may not meet.
 fn meet<R: Threads + Wait + Sync>(rt: &R, alloc: Global, workers: u32) -> Result<bool, NoAnswer> {
-    let gate = Meeting {
-        wanted: u64::from(workers),
-        came: AtomicU64::new(0),
-        is_missed: AtomicBool::new(false),
-    };
+    let gate = Meeting::of(u64::from(workers));
     let case = case_of(alloc, &EMBARGOED_CALLS, &[])?;
     let report = audit(rt, alloc, case, None, workers, &gate)?;
-    Ok(!gate.is_missed.load(Ordering::SeqCst) && line_of(&report) == Some(Line::Yes(2, 28, 3, 0)))
+    Ok(gate.is_held(&report))
+}
+
+/// Whether two workers hold a log each at the same time where the line alone is asked for.
+fn meet_checking<R: Threads + Sync>(rt: &R, alloc: Global) -> Result<bool, NoAnswer> {
+    let gate = Meeting::of(2);
+    let case = case_of(alloc, &EMBARGOED_CALLS, &[])?;
+    let line = check_case(rt, alloc, &case, None, 2, &gate)?;
+    Ok(gate.is_held(&line))
 }
 
 #[test]
@@ -61,4 +81,13 @@ fn workers_hold_their_pieces_at_once(rt: HostRuntime) {
         };
         assert!(rt; is_so, "{workers} workers");
     }
+}
+
+#[test]
+fn workers_hold_their_logs_at_once(rt: HostRuntime) {
+    let is_so = match meet_checking(&rt, rt.alloc()) {
+        Ok(false) | Err(NoAnswer::OutOfMemory) => meet_checking(&rt, rt.alloc()) == Ok(true),
+        met => met == Ok(true),
+    };
+    assert!(rt; is_so);
 }

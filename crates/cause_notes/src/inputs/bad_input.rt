@@ -11,6 +11,7 @@ use record_notes::Logs;
 use report_lines::Fault;
 use std::alloc::{AllocError, Global};
 use std::fmt::Write;
+use vat_log::LogError;
 
 /// The file that was asked for last, where it was read and is kept.
 fn last_file<'a, S: RememberingSource>(source: &'a S) -> Option<&'a (String, Bytes)> {
@@ -50,6 +51,26 @@ fn put_bad<S: RememberingSource>(
         Fault::Order(fault) => put_order_fault(text, fault, file.1.len()),
         _ => put_form(alloc, text, file.1.as_slice()),
     }
+}
+
+/// Appends the notes of what is left out of the log that was read last, behind its whole records, which have so many bytes; and
+/// why.
+pub(crate) fn put_left_out<S: RememberingSource>(
+    text: &mut String,
+    source: &S,
+    fault: LogError,
+    end: usize,
+) -> Result<(), AllocError> {
+    let Some((name, bytes)) = last_file(source) else {
+        return Ok(());
+    };
+    let name = name.escape_debug();
+    let left = bytes.len().saturating_sub(end);
+    write!(
+        text,
+        "note: the last {left} bytes of {name} are left out, from byte {end} on\n"
+    )?;
+    put_log_fault(text, fault, bytes.len())
 }
 
 /// Appends the notes of a frame that isn't read, the last of a file or the one of the command line.

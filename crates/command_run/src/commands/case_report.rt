@@ -1,4 +1,4 @@
-//! A case, read and audited: what `check`, `graph` and `run` have in common, and `draw` in part.
+//! A case, read and audited: what `graph` and `run` have in common, and `check` and `draw` in part.
 
 ghost use Rattle.std.specs.Prelude.{◌≡◌, ◌≤◌};
 ghost use Rattle.command_run.specs.Glue.{ComesJudged};

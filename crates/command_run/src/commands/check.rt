@@ -1,21 +1,50 @@
-//! The report of a case.
+//! The report of a case, without its run.
 
-ghost use Rattle.std.specs.Prelude.{◌≤◌};
+ghost use Rattle.std.specs.Prelude.{◌≡◌, ◌≤◌};
 ghost use Rattle.command_run.specs.CommandAnswers.{AnswersReportOf};
-ghost use Rattle.command_run.specs.Glue.{Prints};
+ghost use Rattle.command_run.specs.Glue.{ComesChecked, Prints};
 ghost use Rattle.command_run.specs.ReportAnswers.{AnswersReport};
 ghost use Rattle.command_run.specs.Runs.{Wrote};
 
 use crate::answering::say;
-use crate::commands::case_report::case_report;
+use crate::commands::case_report::fault_of;
 use crate::host::Host;
 use crate::output::Output;
 use crate::watch::Watch;
-use case_files::Source;
+use audit_core::{Report, check_case};
+use case_files::{ReadCase, Source, read_case};
 use cause_notes::Heard;
 use report_lines::{Answer, Fault};
 use std::sync::Wait;
 use std::thread::Threads;
+
+/// The line of the report of the case that a source has under a name, by the order that its file names, if it names one: so
+/// many workers audit it, the calling thread among them. The case is heard, where notes are to be made.
+///
+/// # Errors
+///
+/// The case's first fault, or out of memory.
+fn case_line<R: Threads + Wait + Sync, G: Watch + Sync, S: Source>(
+    host: &Host<'_, R, G>,
+    name: &str,
+    workers: u32,
+    source: &mut S,
+    heard: &mut Heard,
+) -> Result<Report, Fault>
+    requires some { 1 ≤ workers }
+    requires few { workers ≤ 64 }
+    ensures { ComesChecked S.read_gives source.old name.now result source.new }
+{
+    let ReadCase { case, order } = read_case(host.alloc, source, name)?;
+    host.watch.begins(case.logs().len(), case.links().len());
+    match check_case(host.rt, host.alloc, &case, order, workers, host.watch) {
+        Ok(line) => {
+            heard.keep_case(case);
+            Ok(line)
+        }
+        Err(error) => Err(fault_of(error)),
+    }
+}
 
 /// Audits the case that a source has under a name, by so many workers, and says the report.
 ///
@@ -36,7 +65,7 @@ pub fn say_report<R: Threads + Wait + Sync, G: Watch + Sync, S: Source, O: Outpu
     ensures { Prints (AnswersReportOf AnswersReport S.read_gives source.old name.now source.new)
         (Wrote O.contents O.is_finished) out.old out.new result }
 {
-    match case_report(host, name, workers, source, heard) {
+    match case_line(host, name, workers, source, heard) {
         Ok(report) => say(Answer::Report(report), heard, out),
         Err(fault) => say(Answer::Fault(fault), heard, out),
     }

@@ -1,6 +1,8 @@
 //! A log in another version: its bytes go to a file, and then it is said.
 
-ghost use Rattle.std.specs.Prelude.{◌≡◌, IfOk, IfErr, option_map};
+ghost use Rattle.std.specs.Prelude.{◌≡◌, Ok, IfOk, IfErr, option_map};
+ghost use Rattle.vat_log.specs.Log.{Log};
+ghost use Rattle.vat_log.specs.Reading.{Fails, log_of};
 ghost use Rattle.case_files.specs.CaseReading.{Read};
 ghost use Rattle.report_lines.specs.Lines.{answer_status, answer_text, line};
 ghost use Rattle.command_run.specs.CommandAnswers.{AnswersMigration};
@@ -10,21 +12,23 @@ ghost use Rattle.command_run.specs.Runs.{Writes, Wrote};
 
 use crate::answering::{FileAnswer, say_made};
 use crate::output::{Failed, Output};
+use bytes::Bytes;
 use case_files::Source;
 use cause_notes::Heard;
 use report_lines::{Answer, Fault};
 use std::alloc::Global;
-use vat_log::{LogError, VatLog, migrate, parse_log, raise};
+use vat_log::{LogError, SpelledLog, migrate_bytes, raise_bytes};
 
-/// The log that is made of one: of version 3 where the later edition is asked for, or else one that is judged alike.
-fn made_of(alloc: Global, old: &VatLog, later: bool) -> Result<VatLog, LogError>
-    ensures ok { IfOk result (λ made. made ≡ made_of later old.now) }
-    ensures err { IfErr result (λ e. e ≡ LogError.OutOfMemory) }
+/// The log that is made of the one that these bytes spell: of version 3 where the later edition is asked for, or else one
+/// that is judged alike.
+fn made_of(alloc: Global, bytes: Bytes, later: bool) -> Result<SpelledLog, LogError>
+    ensures made { IfOk result (λ made. (log : Log) × (log_of bytes ≡ Ok log) × (made ≡ made_of later log)) }
+    ensures err { IfErr result (λ e. Fails e (log_of bytes)) }
 {
     if later {
-        raise(alloc, old)
+        raise_bytes(alloc, bytes)
     } else {
-        migrate(alloc, old)
+        migrate_bytes(alloc, bytes)
     }
 }
 
@@ -39,8 +43,7 @@ fn migration<S: Source>(
         × Migrates later read result }
 {
     let bytes = source.read(name)?;
-    let old = parse_log(alloc, bytes)?;
-    let log = made_of(alloc, &old, later)?;
+    let log = made_of(alloc, bytes, later)?;
     let bytes = log.bytes().clone()?;
     Ok(FileAnswer {
         answer: Answer::Migrated(log),

@@ -1,5 +1,5 @@
-//! The commands, one a file, with what they ask of their source and what they say. `check`, `graph`, `run` and `draw` have the
-//! report of a case in common (case_report.rt).
+//! The commands, one a file, with what they ask of their source and what they say. `graph`, `run` and `draw` have the report of
+//! a case in common (case_report.rt), of which `check` has the line alone.
 
 pub(crate) mod case_report;
 pub(crate) mod check;
@@ -9,6 +9,7 @@ pub(crate) mod graph;
 pub(crate) mod hex_frame;
 pub(crate) mod join_logs;
 pub(crate) mod log_records;
+pub(crate) mod log_salvage;
 pub(crate) mod make_order;
 pub(crate) mod migrate_log;
 pub(crate) mod next_frame;

@@ -13,9 +13,7 @@ use cause_notes::Heard;
 use report_lines::{Answer, Fault};
 use rpc_view::Limits;
 use std::alloc::Global;
-use std::sync::Arc;
-use vat_log::parse_log;
-use vat_rules::{SlimFinding, audit_slim};
+use vat_rules::{SlimFinding, audit_bytes};
 
 /// What the audit of the log that a source has under a name finds, within the default limits.
 fn finding<S: Source>(alloc: Global, source: &mut S, name: &str) -> Result<SlimFinding, Fault>
@@ -24,8 +22,7 @@ fn finding<S: Source>(alloc: Global, source: &mut S, name: &str) -> Result<SlimF
         (answer_status (answer_of result)) }
 {
     let bytes = source.read(name)?;
-    let log = Arc::new(alloc, parse_log(alloc, bytes)?)?;
-    Ok(audit_slim(alloc, &log, Limits::default())?)
+    Ok(audit_bytes(alloc, bytes, Limits::default())?)
 }
 
 /// Audits the log that a source has under a name, and says what was found.

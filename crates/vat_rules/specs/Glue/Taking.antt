@@ -1,5 +1,5 @@
 -- For the code's contracts, and no part of the meaning: one record more of a log.
-use Rattle.std.specs.Prelude.{◌≡◌, ◌+◌, ℕ, List, [], ◌∷◌, ◌++◌, if◌then◌else◌, Ok, Err}
+use Rattle.std.specs.Prelude.{◌≡◌, ℕ, List, [], ◌∷◌, ◌++◌, Ok, Err}
 use Rattle.vat_log.specs.declared.body.Body.{Body}
 use Rattle.vat_view.specs.Past.{Past}
 use Rattle.vat_rules.specs.Types.{Edition, DecodedRecord}
@@ -7,7 +7,7 @@ use Rattle.vat_rules.specs.Rules.{rules}
 use Rattle.vat_rules.specs.Events.{Reader, event_of}
 use Rattle.vat_rules.specs.Judged.{IsGoodBy, BreaksFirst}
 use Rattle.vat_rules.specs.LogFacts.{Facts, Entry}
-use Rattle.vat_rules.specs.Telling.{facts_of, entry_of, is_delivery}
+use Rattle.vat_rules.specs.Telling.{facts_of, entry_of}
 use Rattle.vat_rules.specs.declared.outcome.Outcome.{Outcome}
 use Rattle.vat_rules.specs.declared.outcome.Outcome.TheVariants as outcome
 use Rattle.vat_rules.specs.declared.taking.Refusal.{Refusal}
@@ -30,10 +30,9 @@ abbrev pub IsGathered : Edition → Reader → Past → Body → Past → List E
 IsGathered edition read before b after gathered longer =
     (e : DecodedRecord) × IsPut edition read before b after e × (longer ≡ gathered ++ entry_of before e ∷ [])
 
--- and was counted, where it delivers a call
-abbrev pub IsCounted : Edition → Reader → Past → Body → Past → ℕ → ℕ → Type 0
-IsCounted edition read before b after delivered more =
-    (e : DecodedRecord) × IsPut edition read before b after e × (more ≡ delivered + (if is_delivery e then 1 else 0))
+-- a stored record is good and was put behind those before it
+abbrev pub IsPutNext : Edition → Reader → Past → Body → Past → Type 0
+IsPutNext edition read before b after = (e : DecodedRecord) × IsPut edition read before b after e
 
 -- a stored record isn't good for this reason
 abbrev pub IsRefused : Edition → Reader → Past → Body → Refusal → Type 0

@@ -1,17 +1,17 @@
 //! Findings without what the log tells.
 
-ghost use Rattle.std.specs.Prelude.{◌≡◌};
-ghost use Rattle.std.specs.Arc.{arc_value};
+ghost use Rattle.std.specs.Prelude.{◌≡◌, length, reverse};
 ghost use Rattle.vat_rules.specs.Audit.{IsTrueOf};
 ghost use Rattle.vat_rules.specs.Slim.{outcome_in};
 
 use crate::outcome::Why;
 use crate::rule::Rule;
 use crate::slim::story::SlimStory;
+use erased::Erased;
 use rpc_view::Limits;
+use std::fmt::{self, Debug, Formatter, Write};
 use std::marker::Model;
-use std::sync::Arc;
-use vat_log::VatLog;
+use vat_log::{Body, LogHeader};
 
 /// What the audit of one log finds (docs/RULES.md), without the log's records.
 #[derive(Debug, Drop)]
@@ -34,11 +34,12 @@ pub enum SlimOutcome {
     },
 }
 
-/// What the audit of a log finds within limits, without the log's records. The outcome of every finding is what the rules
-/// say of its log.
-#[derive(Debug)]
+/// What the audit of a log finds within limits. It keeps the log's header, and none of its records. The outcome of every
+/// finding is what the rules say of its log.
 pub struct SlimFinding {
-    log: Arc<VatLog>,
+    header: LogHeader,
+    records: Erased<Body>,
+    count: u64,
     limits: Limits,
     outcome: SlimOutcome,
 }
@@ -46,50 +47,88 @@ pub struct SlimFinding {
 impl Drop for SlimFinding {
     fn drop(self) {
         let Self {
-            log: _,
+            header: _,
+            records: _,
+            count: _,
             limits: _,
             outcome: _,
         } = self;
     }
 }
 
+impl Debug for SlimFinding {
+    fn fmt<W: Write>(&self, f: &mut Formatter<W>) -> fmt::Result {
+        f.debug_struct("SlimFinding")
+            .field("header", &self.header)
+            .field("records", &self.count)
+            .field("limits", &self.limits)
+            .field("outcome", &self.outcome)
+            .finish()
+    }
+}
+
 impl Model for SlimFinding {
-    ghost use Rattle.std.specs.Arc.{arc_value};
+    ghost use Rattle.std.specs.Prelude.{◌≡◌, length, reverse};
     ghost use Rattle.vat_rules.specs.Audit.{Found, IsTrueOf};
     ghost use Rattle.vat_rules.specs.Slim.{outcome_in};
 
     ghost Value = { Found };
 
     ghost view = { λ f. record {
-      log = arc_value f.log;
+      log = record { version = f.header.version; vat = f.header.vat; records = reverse f.records.items };
       limits = f.limits;
       outcome = outcome_in f.outcome;
     } };
 
-    ghost invariant = { λ f. IsTrueOf (arc_value f.log) f.limits (outcome_in f.outcome) };
+    ghost invariant = { λ f. (f.count ≡ length f.records.items) × IsTrueOf
+        (record { version = f.header.version; vat = f.header.vat; records = reverse f.records.items })
+        f.limits (outcome_in f.outcome) };
 }
 
 impl SlimFinding {
-    pub(crate) fn new(log: Arc<VatLog>, limits: Limits, outcome: SlimOutcome) -> SlimFinding
-        requires { IsTrueOf (arc_value log) limits (outcome_in outcome) }
+    /// What was found of the log with this header and these records, the newest first, which are so many.
+    pub(crate) fn new(
+        header: LogHeader,
+        records: Erased<Body>,
+        count: u64,
+        limits: Limits,
+        outcome: SlimOutcome,
+    ) -> SlimFinding
+        requires count { count ≡ length records.items }
+        requires outcome { IsTrueOf
+            (record { version = header.version; vat = header.vat; records = reverse records.items })
+            limits (outcome_in outcome) }
         ensures { result ≡ record {
-          log = arc_value log;
+          log = record {
+            version = header.version;
+            vat = header.vat;
+            records = reverse records.items;
+          };
           limits = limits;
           outcome = outcome_in outcome;
         } }
     {
         SlimFinding {
-            log,
+            header,
+            records,
+            count,
             limits,
             outcome,
         }
     }
 
-    /// The log that was audited.
-    pub fn log(&self) -> &Arc<VatLog>
-        ensures { arc_value result.now ≡ self.now.log }
+    /// The vat whose log was audited.
+    pub fn vat(&self) -> u32
+        ensures { result ≡ self.now.log.vat }
     {
-        &self.log
+        self.header.vat()
+    }
+
+    /// How many records the log has.
+    pub fn len(&self) -> u64
+        ensures { result ≡ length self.now.log.records }
+    {
+        self.count
     }
 
     /// The limits within which its frames were read, as a [`VatFinding`](crate::VatFinding) has them.

@@ -3,3 +3,5 @@
 pub mod audit;
 pub mod finding;
 pub mod story;
+pub mod tally;
+pub mod vat_audit;

@@ -396,7 +396,7 @@ fn a_failed_note_changes_nothing(rt: HostRuntime) {
 }
 
 /// Words, and what they spell, or the kind of `clap`'s error.
-const WORDS: [(&[&str], Result<Command<'static>, ErrorKind>); 20] = [
+const WORDS: [(&[&str], Result<Command<'static>, ErrorKind>); 22] = [
     (&["vataudit", "vat", "-"], Ok(Command::Vat { file: "-" })),
     (
         &["vataudit", "check", "a"],
@@ -480,6 +480,17 @@ const WORDS: [(&[&str], Result<Command<'static>, ErrorKind>); 20] = [
         Err(ErrorKind::MissingRequiredArgument),
     ),
     (
+        &["vataudit", "salvage", "a", "--out", "b"],
+        Ok(Command::Salvage {
+            file: "a",
+            out: "b",
+        }),
+    ),
+    (
+        &["vataudit", "salvage", "a"],
+        Err(ErrorKind::MissingRequiredArgument),
+    ),
+    (
         &["vataudit", "frame", "a"],
         Ok(Command::Frame {
             hex: "a",
@@ -558,7 +569,7 @@ fn an_order_has_a_file(rt: HostRuntime) {
 }
 
 /// Commands, and a line of their help.
-const HELP: [(&str, &str); 10] = [
+const HELP: [(&str, &str); 11] = [
     ("check", "yes vats 2 records 14 delivered 1 under_way 0"),
     ("graph", "edge vat 1 to obj 2.7 record 4"),
     ("run", "step 0 vat 1 record 0 send bootstrap call 1.1"),
@@ -567,6 +578,7 @@ const HELP: [(&str, &str); 10] = [
     ("frames", "bootstrap question 0"),
     ("order", "order steps 14"),
     ("migrate", "migrated vat 2 records 8"),
+    ("salvage", "salvaged vat 2 records 2 bytes 96"),
     ("records", "4 deliver call 2 object 7"),
     ("--help", "good vat 2 records 8 delivered 1"),
 ];

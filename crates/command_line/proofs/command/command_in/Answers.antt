@@ -1,7 +1,7 @@
 use Rattle.std.proofs.Common.{◌∙◌, sym}
 use Rattle.clap.specs.Words.{first_value, found_of}
 use Rattle.command_line.proofs.Matched.{besides_of, checked_as, has_subcommand, input_there, is_some_by, matched, number_as, read_as, set_as, spells_one, thing_is}
-use Rattle.command_line.proofs.Named.{checking, drawing, framing, graphing, joining, last_command, listing, migrating, of_frames, of_run, of_vat, ordering, wiring}
+use Rattle.command_line.proofs.Named.{checking, drawing, framing, graphing, joining, last_command, listing, migrating, of_frames, of_run, of_vat, ordering, salvaging, wiring}
 use Rattle.command_line.specs.Parser.{count, dot, html, input, later, most, other, path, start, workers}
 use Rattle.command_line.proofs.command.command_in.Goals as goal
 
@@ -39,6 +39,12 @@ pub value_of-requires-in-migrate : goal.value_of-requires-in-migrate
 value_of-requires-in-migrate c =
     let m = matched c.requires.0 c.args.matches.now c.in-Some.given.now c.in-Some.name.now c.requires.1 c.in-Some.ensures.name c.in-Some.ensures.rows in
     let out = besides_of m migrating c.in-migrate.is in
+    is_some_by (first_value (found_of c.in-Some.given.now) path) out.0 (m.each path ∙ out.1)
+
+pub value_of-requires-in-salvage : goal.value_of-requires-in-salvage
+value_of-requires-in-salvage c =
+    let m = matched c.requires.0 c.args.matches.now c.in-Some.given.now c.in-Some.name.now c.requires.1 c.in-Some.ensures.name c.in-Some.ensures.rows in
+    let out = besides_of m salvaging c.in-salvage.is in
     is_some_by (first_value (found_of c.in-Some.given.now) path) out.0 (m.each path ∙ out.1)
 
 pub value_of-requires-in-wire : goal.value_of-requires-in-wire
@@ -112,6 +118,11 @@ returns-in-migrate-clause-spelled c words are =
       ),
     )
 
+pub returns-in-salvage-clause-spelled : goal.returns-in-salvage-clause-spelled
+returns-in-salvage-clause-spelled c words are =
+    let m = matched words c.args.matches.now c.in-Some.given.now c.in-Some.name.now are c.in-Some.ensures.name c.in-Some.ensures.rows in
+    (m.rows, (read_as m salvaging c.in-salvage.is, thing_is m _ c.value_of-input.ensures, sym (m.each path) ∙ c.value_of-in-salvage.ensures))
+
 pub returns-in-wire-clause-spelled : goal.returns-in-wire-clause-spelled
 returns-in-wire-clause-spelled c words are =
     let m = matched words c.args.matches.now c.in-Some.given.now c.in-Some.name.now are c.in-Some.ensures.name c.in-Some.ensures.rows in (
@@ -171,5 +182,5 @@ pub returns-in_default-name-clause-spelled : goal.returns-in_default-name-clause
 returns-in_default-name-clause-spelled c words are =
     let m = matched words c.args.matches.now c.in-Some.given.now c.in-Some.name.now are c.in-Some.ensures.name c.in-Some.ensures.rows in
     let not = c.in_default-name in
-    let is = last_command m.command c.in-Some.name.now m.named not.not-check not.not-order not.not-graph not.not-run not.not-draw not.not-vat not.not-records not.not-frame not.not-migrate not.not-wire not.not-join in
+    let is = last_command m.command c.in-Some.name.now m.named not.not-check not.not-order not.not-graph not.not-run not.not-draw not.not-vat not.not-records not.not-frame not.not-migrate not.not-salvage not.not-wire not.not-join in
     spells_one m of_frames _ is c.value_of-input.ensures

@@ -3,7 +3,7 @@ use Rattle.clap.specs.Words.{kind_of}
 use Rattle.clap.specs.declared.error.ErrorKind.TheVariants.{OutOfMemory, ValueValidation}
 use Rattle.clap.proofs.TakesLemmas.{passed_up}
 use Rattle.command_line.proofs.Matched.{fails_by_memory, fails_by_value, handed_on, refused_never}
-use Rattle.command_line.proofs.Taken.{refuses_part, refuses_workers, takes_after_dashes, takes_check, takes_draw, takes_draw_page, takes_draw_part, takes_frame_later, takes_graph_dot, takes_join, takes_migrate, takes_migrate_later, takes_one, takes_order, takes_part, takes_records, takes_wire, takes_wire_out, takes_workers}
+use Rattle.command_line.proofs.Taken.{refuses_part, refuses_workers, takes_after_dashes, takes_check, takes_draw, takes_draw_page, takes_draw_part, takes_frame_later, takes_graph_dot, takes_join, takes_migrate, takes_migrate_later, takes_one, takes_order, takes_part, takes_records, takes_salvage, takes_wire, takes_wire_out, takes_workers}
 use Rattle.command_line.proofs.command.command_of.Goals as goal
 
 pub returns-in_err-command-clause-taken : goal.returns-in_err-command-clause-taken
@@ -74,6 +74,11 @@ pub returns-in_err-command-clause-taken_migrate_later : goal.returns-in_err-comm
 returns-in_err-command-clause-taken_migrate_later g c first file out spelled plain unflagged =
     passed_up c.from_residual.result c.in_err-command.field-0.0 (λ e. kind_of e ≡ OutOfMemory) c.from_residual.ensures.1
     (fails_by_memory (map g.S.AsStr.text c.args.words.now) (first ∷ codes "migrate" ∷ file ∷ codes "--later" ∷ codes "--out" ∷ out ∷ []) c.in_err-command.field-0.0 c.in_err-command.ensures.kinds spelled (takes_migrate_later first file out plain unflagged))
+
+pub returns-in_err-command-clause-taken_salvage : goal.returns-in_err-command-clause-taken_salvage
+returns-in_err-command-clause-taken_salvage g c first file out spelled plain unflagged =
+    passed_up c.from_residual.result c.in_err-command.field-0.0 (λ e. kind_of e ≡ OutOfMemory) c.from_residual.ensures.1
+    (fails_by_memory (map g.S.AsStr.text c.args.words.now) (first ∷ codes "salvage" ∷ file ∷ codes "--out" ∷ out ∷ []) c.in_err-command.field-0.0 c.in_err-command.ensures.kinds spelled (takes_salvage first file out plain unflagged))
 
 pub returns-in_err-command-clause-taken_wire : goal.returns-in_err-command-clause-taken_wire
 returns-in_err-command-clause-taken_wire g c first one another spelled plain unflagged =

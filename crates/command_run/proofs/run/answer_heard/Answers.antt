@@ -1,4 +1,4 @@
-use Rattle.command_run.specs.CommandAnswers.{AnswersReportOf}
+use Rattle.command_run.specs.CommandAnswers.{AnswersLogRecords, AnswersReportOf}
 use Rattle.command_run.specs.ReportAnswers.{AnswersGraph, AnswersRun}
 use Rattle.command_run.specs.Runs.{Wrote}
 use Rattle.command_run.proofs.Told.{lines_written}
@@ -15,3 +15,13 @@ returns-in-Run g c =
     rw c.in-Run.is
     (lines_written (AnswersReportOf AnswersRun g.S.Source.read_gives c.args.source.now c.in-Run.case.now c.say_run.new.source) (Wrote g.O.Output.contents g.O.Output.is_finished)
     (Wrote g.F.Output.contents g.F.Output.is_finished) c.args.out.now c.say_run.new.out c.args.file.now c.say_run.result c.of_lines-in-Run.result c.of_lines-in-Run.ensures c.say_run.ensures)
+
+pub returns-in-Records : goal.returns-in-Records
+returns-in-Records g c =
+    let said = c.say_records.ensures in
+    rw c.in-Records.is (
+      said.0,
+      said.1,
+      lines_written (AnswersLogRecords c.in-Records.from c.in-Records.count said.0) (Wrote g.O.Output.contents g.O.Output.is_finished) (Wrote g.F.Output.contents g.F.Output.is_finished) c.args.out.now
+          c.say_records.new.out c.args.file.now c.say_records.result c.of_lines-in-Records.result c.of_lines-in-Records.ensures said.2,
+    )

@@ -1,0 +1,10 @@
+mod Lists
+mod Flowing
+mod Saying
+mod Calling
+mod Doing
+mod Reaching
+mod Finding
+mod Least
+mod Keys
+mod Logs

@@ -1,0 +1,19 @@
+//! Where the order of calls is broken, found as an order takes the records of a case, with no step of its run kept.
+//!
+//! It stands on `call_trace`, which says what run good logs have by an order, on `merge_order` for orders, on `vat_log` for
+//! logs, and on `undelivered`, which finds where the calls of one vat are delivered out of their order. What is kept is what
+//! is under way: the names of calls that came to a vat and haven't left it, those that were sent and not received, and those
+//! that were made and not delivered. No message is read, since the record that passes a call notes it.
+//! [`call_order_fault`] answers the order fault of the run (`specs/Fault.antt`). `specs/Glue` describes the tables, for the
+//! code's contracts alone.
+#![tactic(auto)]
+
+mod cursors;
+mod deeds;
+mod fault;
+mod lines;
+mod names;
+mod tables;
+mod told;
+
+pub use fault::call_order_fault;

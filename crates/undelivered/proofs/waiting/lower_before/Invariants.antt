@@ -1,0 +1,15 @@
+use Rattle.std.proofs.Common.{◌≡◌, ◌&&◌, ℕ, Some, eqb, ltb, ◌≤◌, cond}
+use Rattle.std.specs.BTreeMap.{get}
+use Rattle.std.specs.Option.{option_map}
+use Rattle.undelivered.specs.Glue.{key_cmp, lesser}
+use Rattle.undelivered.proofs.Lowering.{lowered_from}
+use Rattle.undelivered.proofs.waiting.lower_before.Given as goal
+
+abbrev pub invariant-loop-earlier : goal.invariant-loop-earlier
+invariant-loop-earlier l = record {
+  within : l.below ≤ l.turn;
+  lowered : (r t : ℕ) → get key_cmp l.waiting (r, t) ≡ lowered_from l.reference l.below l.turn l.place r t (get key_cmp l.initial.waiting (r, t));
+}
+
+abbrev pub decreases-loop-earlier : goal.decreases-loop-earlier
+decreases-loop-earlier l = l.below

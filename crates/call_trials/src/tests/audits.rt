@@ -135,7 +135,7 @@ fn audited<R: Threads + Wait + Sync>(
 }
 
 /// The line of a report that has no run. None where it has one.
-fn line_alone(report: &Report) -> Option<Line> {
+pub(super) fn line_alone(report: &Report) -> Option<Line> {
     match report {
         Report::Yes { run, .. } if !run.steps().is_empty() => None,
         Report::Yes {

@@ -1,8 +1,8 @@
 //! Workers that hold their findings at the same time. No contract says that a thread beside the calling one runs, so this is
 //! what shows it.
 
-use super::audits::{Line, line_of};
-use audit_core::{Gate, Report, audit, check_case};
+use super::audits::{Line, line_alone, line_of};
+use audit_core::{Gate, audit, check_case};
 use std::alloc::Global;
 use std::sync::Wait;
 use std::sync::atomic::{AtomicBool, AtomicU64, Ordering};
@@ -50,8 +50,8 @@ impl Meeting {
     }
 
     /// Whether the pieces met, and what was found is answered as ever.
-    fn is_held(&self, report: &Report) -> bool {
-        !self.is_missed.load(Ordering::SeqCst) && line_of(report) == Some(Line::Yes(2, 28, 3, 0))
+    fn is_held(&self, line: Option<Line>) -> bool {
+        !self.is_missed.load(Ordering::SeqCst) && line == Some(Line::Yes(2, 28, 3, 0))
     }
 }
 
@@ -61,15 +61,15 @@ fn meet<R: Threads + Wait + Sync>(rt: &R, alloc: Global, workers: u32) -> Result
     let gate = Meeting::of(u64::from(workers));
     let case = case_of(alloc, &EMBARGOED_CALLS, &[])?;
     let report = audit(rt, alloc, case, None, workers, &gate)?;
-    Ok(gate.is_held(&report))
+    Ok(gate.is_held(line_of(&report)))
 }
 
 /// Whether two workers hold a log each at the same time where the line alone is asked for.
 fn meet_checking<R: Threads + Sync>(rt: &R, alloc: Global) -> Result<bool, NoAnswer> {
     let gate = Meeting::of(2);
     let case = case_of(alloc, &EMBARGOED_CALLS, &[])?;
-    let line = check_case(rt, alloc, &case, None, 2, &gate)?;
-    Ok(gate.is_held(&line))
+    let report = check_case(rt, alloc, &case, None, 2, &gate)?;
+    Ok(gate.is_held(line_alone(&report)))
 }
 
 #[test]

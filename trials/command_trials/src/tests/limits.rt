@@ -1,7 +1,9 @@
 //! Cases of more logs and links than may be, and of many.
 
-use crate::asking::{RunOutput, ask};
 use bytes::Bytes;
+use case_files::FileList;
+use command_line::Command;
+use command_run::run_on;
 use std::alloc::Global;
 use std::fmt::Write;
 use std::sync::Wait;
@@ -56,9 +58,14 @@ fn check_prints<R: Threads + Wait + Sync>(
     links: u32,
     line: &str,
 ) -> Result<bool, NoAnswer> {
-    let files = files(alloc, vats, links)?;
-    let RunOutput { out, status, .. } = ask(rt, alloc, &["vataudit", "check", "case"], files)?;
-    if status == 3 {
+    let mut source = FileList::new(files(alloc, vats, links)?);
+    let check = Command::Check {
+        case: "case",
+        workers: 4,
+    };
+    let mut out = Vec::new(alloc);
+    let mut made = Vec::new(alloc);
+    if run_on(rt, alloc, &check, &mut source, &mut out, &mut made) == 3 {
         return Err(NoAnswer::OutOfMemory);
     }
     Ok(out.as_slice() == line.as_bytes())

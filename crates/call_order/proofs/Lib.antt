@@ -8,3 +8,4 @@ mod Finding
 mod Least
 mod Keys
 mod Logs
+mod OneFault

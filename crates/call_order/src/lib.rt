@@ -11,9 +11,11 @@
 mod cursors;
 mod deeds;
 mod fault;
+mod laws;
 mod lines;
 mod names;
 mod tables;
 mod told;
 
 pub use fault::call_order_fault;
+pub use laws::orders_have_one_fault;

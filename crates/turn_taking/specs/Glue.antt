@@ -59,9 +59,8 @@ pub record AreEmpty (tables : Tables) : Type 0 where
   pub passed : AreEmptyPairs tables.passed
   pub sent : AreEmptyCounts tables.sent
 
--- no count is full
+-- no count of frames is full
 pub record AreRoomy (tables : Tables) : Type 0 where
-  pub records : (v : ℕ) → count_of tables.records v + 1 < 2 ^ 64
   pub passed : (v k : ℕ) → count_at tables.passed v k + 1 < 2 ^ 64
   pub sent : (k : ℕ) → count_of tables.sent k + 1 < 2 ^ 64
 

@@ -75,7 +75,8 @@ impl Tables {
 
     /// The vat takes a record. The only error is that memory ran out, and then no count changes.
     pub(crate) fn take(&mut self, vat: u32, body: &Body) -> Result<(), AllocError>
-        requires { AreRoomy self.old }
+        requires few { count_of self.old.records vat + 1 < 2 ^ 64 }
+        requires roomy { AreRoomy self.old }
         ensures ok { OnOk result (IsTaken vat body.now self.old self.new) }
         ensures err { OnErr result (AreSameTables self.old self.new) }
     {

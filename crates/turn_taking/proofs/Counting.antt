@@ -1,14 +1,15 @@
 -- What turns count to, one turn further.
-use Rattle.std.proofs.Common.{◌≡◌, ℕ, suc, ◌+◌, ◌-◌, ◌<◌, ◌≤◌, Bool, true, false, cond, List, [], ◌∷◌, ◌++◌, length, Option, Some, None, refl, sym, ap, ◌∙◌, arith, inl, inr, length-append}
-use Rattle.std.specs.Prelude.{◌==◌, ◌&&◌, ◌||◌, ◌⊎◌, not, nat_lt, count_by, reverse, ◌^◌}
+use Rattle.std.proofs.Common.{◌≡◌, ℕ, suc, ◌+◌, ◌-◌, ◌<◌, ◌≤◌, Bool, true, false, cond, List, [], ◌∷◌, ◌++◌, length, Option, Some, None, refl, sym, ap, ◌∙◌, arith, inl, inr, length-append, append_assoc}
+use Rattle.std.specs.Prelude.{◌≢◌, ◌==◌, ◌&&◌, ◌||◌, ◌⊎◌, not, nat_lt, count_by, reverse, ◌^◌}
 use Rattle.std.specs.List.{filter_map, cons_option}
+use Rattle.std.proofs.lemmas.Bool.{eq-eqb}
 use Rattle.std.proofs.lemmas.Bool.Decides.{nat_tests}
 use Rattle.std.proofs.lemmas.List.{reverse-append, append-nil}
 use Rattle.std.proofs.lemmas.List.Sums.{sum_by-cons, sum_by_push, count_by-le-length}
 use Rattle.vat_log.specs.declared.body.Body.{Body}
 use Rattle.vat_log.specs.declared.body.Body.TheVariants.{Send, Receive}
 use Rattle.vat_log.specs.Passages.{sends_frame, receives_frame}
-use Rattle.merge_order.proofs.Greedy.{bool_cases}
+use Rattle.merge_order.proofs.Greedy.{eqb_apart}
 use Rattle.turn_taking.specs.Turns.{Turns, of_vat, records_of, received_by, sent_by_others, may_follow, under_way}
 use Rattle.turn_taking.specs.Glue.{count_of, count_at, passes_frame, passed_by, sent_by_all, AreTables}
 use Rattle.turn_taking.specs.declared.tables.Tables.{Tables}
@@ -22,6 +23,15 @@ one_more false b bs = sym (append-nil (reverse bs))
 -- a turn of the vat adds its record, any other none
 pub records_more : (v w : ℕ) (b : Body) (turns : Turns) → records_of v ((w, b) ∷ turns) ≡ records_of v turns ++ cond (w == v) (b ∷ []) []
 records_more v w b turns = one_more (w == v) b (filter_map (of_vat v) turns)
+
+pub records_own : (v : ℕ) (b : Body) (turns : Turns) (rest : List Body) → records_of v ((v, b) ∷ turns) ++ rest ≡ records_of v turns ++ b ∷ rest
+records_own v b turns rest =
+    let own = records_more v v b turns ∙ ap (λ (t : Bool). records_of v turns ++ cond t (b ∷ []) []) (eq-eqb v v refl) in
+    ap (λ (l : List Body). l ++ rest) own ∙ append_assoc (records_of v turns) (b ∷ []) rest
+
+pub records_other : (v w : ℕ) (b : Body) (turns : Turns) → w ≢ v → records_of v ((w, b) ∷ turns) ≡ records_of v turns
+records_other v w b turns other =
+    records_more v w b turns ∙ ap (λ (t : Bool). records_of v turns ++ cond t (b ∷ []) []) (eqb_apart w v other) ∙ append-nil (records_of v turns)
 
 length_one : (t : Bool) (b : Body) → length (cond t (b ∷ []) []) ≡ cond t 1 0
 length_one true b = refl
@@ -69,7 +79,9 @@ pub balance : (v k : ℕ) (turns : Turns) → sent_by_all k turns + received_by 
 balance v k [] = refl
 balance v k (turn ∷ turns) =
     omega (
-      arith, balance v k turns, one_turn (turn.0 == v) (sends_frame k turn.1) (receives_frame k turn.1) (one_way k turn.1),
+      arith,
+      balance v k turns,
+      one_turn (turn.0 == v) (sends_frame k turn.1) (receives_frame k turn.1) (one_way k turn.1),
       sum_by-cons (λ t. cond (sends_frame k t.1) 1 0) turn turns,
       sum_by-cons (λ t. cond ((t.0 == v) && receives_frame k t.1) 1 0) turn turns,
       sum_by-cons (λ t. cond (not (t.0 == v) && sends_frame k t.1) 1 0) turn turns,

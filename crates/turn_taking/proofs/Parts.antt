@@ -99,7 +99,9 @@ sent_is v k turns (log ∷ logs) begins =
 sent_by_one : (k u w : ℕ) (b : Body) (turns : Turns) → count_by (sends_frame k) (records_of u ((w, b) ∷ turns)) ≡ cond ((w == u) && sends_frame k b) 1 0 + count_by (sends_frame k) (records_of u turns)
 sent_by_one k u w b turns =
     omega (
-      arith, count_of_vat (sends_frame k) u ((w, b) ∷ turns), count_of_vat (sends_frame k) u turns,
+      arith,
+      count_of_vat (sends_frame k) u ((w, b) ∷ turns),
+      count_of_vat (sends_frame k) u turns,
       sum_by-cons (λ (t : ℕ × Body). cond ((t.0 == u) && sends_frame k t.1) 1 0) (w, b) turns,
     )
 
@@ -168,7 +170,9 @@ sent_turns v k logs (turn ∷ turns) rising are =
     let place = own.1 in
     let vat : (get_or logs place.0 own.0).vat ≡ turn.0 = ap (λ (l : Log). l.vat) place.2 ∙ own.2 in
     omega (
-      arith, sent_more v k turn.0 turn.1 turns logs place.0 own.0 rising place.1 vat, sent_turns v k logs turns rising (All-tail P turn turns are),
+      arith,
+      sent_more v k turn.0 turn.1 turns logs place.0 own.0 rising place.1 vat,
+      sent_turns v k logs turns rising (All-tail P turn turns are),
       sum_by-cons (λ (t : ℕ × Body). cond (not (t.0 == v) && sends_frame k t.1) 1 0) turn turns,
     )
 

@@ -25,7 +25,7 @@ tried() {
 
 passed=0
 failed=0
-[ $# -gt 0 ] || set -- call_trials command_trials refusal_trials schema_trials
+[ $# -gt 0 ] || set -- call_trials refusal_trials schema_trials
 for trial; do
     if (tried "$trial") > "$room/told" 2>&1; then
         passed=$((passed + 1))

@@ -4,6 +4,7 @@
 mod audits;
 mod books;
 mod cases;
+mod commands;
 mod deliveries;
 mod edges;
 mod ends;

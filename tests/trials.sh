@@ -13,14 +13,14 @@ with_trials "$room" || exit 2
 tried() {
     cd "$room/crates/$1" || return 2
     if [ -f src/lib.rt ]; then
-        rt try --test
+        rt try --test --seconds 1000
         return
     fi
     local words=()
     for file in data/*; do
         [ ! -f "$file" ] || words+=(--data "${file#data/}=$file")
     done
-    rt try "${words[@]}" > "$room/came" && diff stdout "$room/came"
+    rt try --seconds 1000 "${words[@]}" > "$room/came" && diff stdout "$room/came"
 }
 
 passed=0

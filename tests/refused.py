@@ -1,5 +1,5 @@
 #!/usr/bin/env python3
-"""Refuses each allocation in turn, one a run: of refusal_trials, whose answers all have to come as they must, of schema_trials, and of vataudit
+"""Refuses each allocation in turn, one a run: of call_trials, whose answers all have to come as they must, of schema_trials, and of vataudit
 by each of its commands over samples/, which has to end as ever, or to say that memory ran out and end with status 3. With
 --json, notes and what is open may be left out, and a file or folder that was made stands where memory ran out over the
 object of its line.
@@ -141,11 +141,11 @@ def refuse_each(words, may_run_out, place="samples"):
 with tempfile.TemporaryDirectory() as ROOM:
     subprocess.run(["cc", "-O2", "-shared", "-fPIC", "-o", f"{ROOM}/refuse.so", f"{ROOT}/tests/refuse.c"], check=True)
     VATAUDIT = os.path.abspath(sys.argv[1]) if len(sys.argv) > 1 else built("vataudit", ["frame", ABORT], ROOT)
-    TRIALS = os.path.abspath(sys.argv[2]) if len(sys.argv) > 2 else built("refusal_trials", [])
+    TRIALS = os.path.abspath(sys.argv[2]) if len(sys.argv) > 2 else built("call_trials", [])
     (status, text, _), refused, differences = refuse_each([TRIALS], False)
     differences += status
     answers = text.decode().strip()
-    print(f"refusal_trials: {refused} allocations refused", flush=True)
+    print(f"call_trials: {refused} allocations refused", flush=True)
     schemas = os.path.abspath(sys.argv[3]) if len(sys.argv) > 3 else built("schema_trials", [])
     (status, _, _), more, others = refuse_each([schemas], False, "trials/schema_trials/data")
     print(f"schema_trials: {more} allocations refused", flush=True)

@@ -1,5 +1,5 @@
-//! Calls that no command reaches, each with memory to be had, and its answer. What is refused memory is asked again, and no
-//! other error is.
+//! Calls that no command reaches, each with memory to be had, and its answer; commands where no conversation tells. What is
+//! refused memory is asked again, and no other error is.
 
 mod audits;
 mod books;
@@ -20,6 +20,7 @@ mod open_ends;
 mod orders;
 mod pointers;
 mod readers;
+mod refusals;
 mod rules;
 mod states;
 mod tables;

@@ -1,6 +1,6 @@
 //! What the tests have in common: the worked conversations as logs and cases, and why a test has no answer.
 //!
-//! It serves call_trials, vat_scripts and refusal_trials alone, and what it makes has no contract but what calls of the product
+//! It serves call_trials alone, and what it makes has no contract but what calls of the product
 //! require.
 //! `refused.rt` tells a growth of memory that was refused from any other error, and `asking.rt` asks again for the first
 //! alone; `conversation.rt` has the conversations, `given.rt` the logs of records in the notation, and `naming.rt` the run

@@ -1,7 +1,7 @@
 //! The calls that join logs.
 
-use crate::rows::Row;
-use crate::tally::{Tally, is_same_twice};
+use super::rows::Row;
+use super::tally::{Tally, is_same_twice};
 use log_ends::{Joining, alike_ends, join_ends, renumbered_logs};
 use std::alloc::Global;
 use std::io;

@@ -3,7 +3,7 @@
 ghost use Rattle.std.specs.Prelude.{◌≡◌, ◌≢◌, ◌∷◌, [], All, IfOk};
 ghost use Rattle.vat_tap.specs.Tickets.{AreDifferent, IsLaneOf, SameLane, SameTap};
 
-use crate::tally::Tally;
+use super::tally::Tally;
 use std::alloc::Global;
 use std::io;
 use vat_log::{Body, Record, VatLog};

@@ -1,6 +1,6 @@
 //! The calls on one log and its frames.
 
-use crate::tally::{Tally, is_same_twice};
+use super::tally::{Tally, is_same_twice};
 use bytes::Bytes;
 use cap_frame::Frame;
 use cap_reader::{Limits, fields, root};

@@ -1,7 +1,7 @@
 //! The calls on a case, its order and its run.
 
-use crate::rows::Row;
-use crate::tally::{Tally, is_same_twice};
+use super::rows::Row;
+use super::tally::{Tally, is_same_twice};
 use audit_core::{Gate, Report, audit, check_case};
 use authority::graph;
 use case_book::{Case, Link};

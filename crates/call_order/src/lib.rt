@@ -8,6 +8,8 @@
 //! code's contracts alone.
 #![tactic(auto)]
 
+mod call_order;
+mod counts;
 mod cursors;
 mod deeds;
 mod fault;
@@ -16,4 +18,5 @@ mod names;
 mod tables;
 mod told;
 
+pub use call_order::CallOrder;
 pub use fault::call_order_fault;

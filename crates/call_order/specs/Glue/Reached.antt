@@ -37,5 +37,5 @@ AreTablesOf turns tables = (row : Row) (before : List Step) → AreRead row turn
 
 -- the tables and the counts are those of these turns
 pub record IsReached (turns : Turns) (tables : Tables) (counts : Counts) : Type 0 where
-  pub tables : AreTablesOf turns tables
-  pub counts : (v : ℕ) → count_of counts v ≡ turns_counted v turns
+  pub steps : AreTablesOf turns tables
+  pub numbers : (v : ℕ) → count_of counts v ≡ turns_counted v turns

@@ -19,6 +19,15 @@ pub(crate) struct Cursor {
 }
 
 impl Cursor {
+    /// One record further, if there is one.
+    fn go_on(&mut self)
+        ensures { (arc_value self.new.log, self.new.taken) ≡ one_further (arc_value self.old.log, self.old.taken) }
+    {
+        if (self.taken as usize) < self.log.len() {
+            self.taken += 1;
+        }
+    }
+
     /// The log's vat takes its turn with the next record, if there is one.
     fn turn(&mut self, vat: u32, calls: &mut CallOrder) -> Result<(), AllocError>
         ensures turn { OnOk result (calls.new
@@ -26,10 +35,11 @@ impl Cursor {
         ensures further { OnOk result ((arc_value self.new.log, self.new.taken)
             ≡ one_further (arc_value self.old.log, self.old.taken)) }
     {
-        if let Some(record) = self.log.get(self.taken as usize) {
-            calls.take(vat, record.body())?;
-            self.taken += 1;
-        }
+        let Some(record) = self.log.get(self.taken as usize) else {
+            return Ok(());
+        };
+        calls.take(vat, record.body())?;
+        self.go_on();
         Ok(())
     }
 }

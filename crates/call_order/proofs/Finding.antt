@@ -1,5 +1,5 @@
 -- The least place at which one of the vats tells of a break is the order fault of the run.
-use Rattle.std.proofs.Common.{◌≡◌, inl, inr, refl, sym, ◌∙◌, subst, ℕ, List, [], ◌∷◌, map, reverse, Bool, true, false, Option, Some, None, if◌then◌else◌}
+use Rattle.std.proofs.Common.{◌≡◌, inl, inr, refl, sym, ◌∙◌, subst, ℕ, List, [], ◌∷◌, map, reverse, Bool, true, false, Option, Some, None}
 use Rattle.std.specs.List.{AllByRecursion, zip}
 use Rattle.std.proofs.lemmas.List.{append-nil, reverse-reverse}
 use Rattle.call_trace.proofs.Next.{may_run}

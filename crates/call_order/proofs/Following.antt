@@ -1,12 +1,11 @@
 -- The turns that an order takes of logs, and that these are all of their records where it fits.
-use Rattle.std.proofs.Common.{◌≡◌, inl, inr, refl, sym, ◌∙◌, ap, ap₂, subst, ℕ, zero, suc, ◌+◌, ◌<◌, ◌≤◌, ◌==◌, List, [], ◌∷◌, ◌++◌, length, map, reverse, take, Bool, true, false, ◌&&◌, Option, Some, None, if◌then◌else◌, option_and_then, option_map, slice_get, is_some, arith, eqb-true}
+use Rattle.std.proofs.Common.{◌≡◌, inl, inr, refl, sym, ◌∙◌, ap, ap₂, subst, ℕ, zero, suc, ◌+◌, ◌<◌, ◌≤◌, ◌==◌, List, [], ◌∷◌, ◌++◌, length, map, reverse, take, Bool, true, false, Option, Some, None, if◌then◌else◌, option_and_then, option_map, slice_get, is_some, arith, eqb-true}
 use Rattle.std.specs.List.{cons_option, AllByRecursion, list_all}
 use Rattle.std.specs.Option.{option_or}
 use Rattle.std.specs.Prelude.{find, nat_le, Contains}
 use Rattle.std.proofs.lemmas.Bool.{cases_Bool, eq-eqb, leb-true, and_parts}
 use Rattle.std.proofs.lemmas.List.{reverse-append, reverse-reverse, take_all}
-use Rattle.std.proofs.lemmas.Option.{slice_get_within}
-use Rattle.call_trace.proofs.Fitting.{Rises, rises, member, part_after, parts_after, fits_all}
+use Rattle.call_trace.proofs.Fitting.{Rises, rises, member, parts_after, fits_all}
 use Rattle.call_trace.proofs.Sharing.{found_in, own_found}
 use Rattle.call_trace.proofs.Whole.{vats_taken}
 use Rattle.call_trace.specs.Findings.{logs_of, AreTrue, MayBeNamed}

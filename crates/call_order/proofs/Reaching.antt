@@ -1,6 +1,6 @@
 -- The turns so far: what is kept after one more, and before the first.
-use Rattle.std.proofs.Common.{◌≡◌, inl, inr, refl, sym, ◌∙◌, ap, subst, ℕ, suc, ◌+◌, ◌==◌, List, [], ◌∷◌, map, Bool, true, false, Option, Some, None, if◌then◌else◌, arith, eqb-true}
-use Rattle.std.proofs.lemmas.Bool.{cases_Bool, eq-eqb, false≢true}
+use Rattle.std.proofs.Common.{◌≡◌, inl, inr, refl, sym, ◌∙◌, ap, subst, ℕ, suc, ◌+◌, ◌==◌, List, [], ◌∷◌, map, Option, Some, None, if◌then◌else◌, arith, eqb-true}
+use Rattle.std.proofs.lemmas.Bool.{cases_Bool, false≢true}
 use Rattle.agree.proofs.Points.{heads, tails}
 use Rattle.agree.specs.Rows.{Row, log_of_vat}
 use Rattle.call_trace.proofs.Carrying.{IsNext, named_next, log_here, log_there, steps_here, steps_there}
@@ -11,7 +11,6 @@ use Rattle.call_trace.specs.Types.{DecodedRecord, Step}
 use Rattle.run_model.specs.Steps.{count_steps, vat_of}
 use Rattle.turn_taking.specs.Turns.{Turns}
 use Rattle.vat_log.specs.declared.body.Body.{Body}
-use Rattle.vat_rules.specs.Events.{Reader, event_of}
 use Rattle.vat_rules.specs.Judged.{IsGood}
 use Rattle.vat_rules.specs.declared.rule.Rule.TheVariants as rule
 use Rattle.vat_view.specs.Past.{Each}
@@ -26,7 +25,7 @@ use Rattle.call_order.specs.declared.counts.Counts.{Counts}
 use Rattle.call_order.specs.declared.tables.Tables.{Tables}
 use Rattle.call_order.proofs.Calling.{named_beside}
 use Rattle.call_order.proofs.Doing.{IsTurn, IsTurned, turned}
-use Rattle.call_order.proofs.Saying.{deed_in, deed_is}
+use Rattle.call_order.proofs.Saying.{deed_is}
 use Rattle.call_order.proofs.Turning.{counted_own, counted_other}
 
 -- ---- a vat has as many steps as turns

@@ -1,5 +1,5 @@
 -- Turns that took all records of findings' logs, and the row of records that their order takes.
-use Rattle.std.proofs.Common.{◌≡◌, inl, inr, refl, sym, ◌∙◌, ap, subst, ℕ, ◌+◌, ◌≤◌, ◌==◌, List, [], ◌∷◌, length, map, Bool, true, Option, Some, None, Ok, option_map, slice_get, arith, eqb-true}
+use Rattle.std.proofs.Common.{◌≡◌, inl, inr, refl, sym, ◌∙◌, ap, subst, ℕ, ◌+◌, ◌≤◌, ◌==◌, List, [], ◌∷◌, length, map, true, Option, Some, None, Ok, option_map, slice_get, arith, eqb-true}
 use Rattle.std.specs.List.{cons_option}
 use Rattle.std.specs.Prelude.{Contains}
 use Rattle.std.proofs.lemmas.Bool.{cases_Bool, eq-eqb}
@@ -7,7 +7,7 @@ use Rattle.agree.proofs.Points.{tails}
 use Rattle.call_trace.proofs.Sharing.{IsStored, stored_at, found_in}
 use Rattle.call_trace.proofs.Taking.{steps_own, steps_other}
 use Rattle.call_trace.specs.Findings.{logs_of}
-use Rattle.call_trace.specs.Taking.{finding_of, next_record, steps_counted_by, taken_by}
+use Rattle.call_trace.specs.Taking.{next_record, steps_counted_by, taken_by}
 use Rattle.call_trace.specs.Types.{DecodedRecord}
 use Rattle.turn_taking.specs.Turns.{Turns}
 use Rattle.vat_log.specs.Log.{Log}

@@ -1,4 +1,4 @@
--- For the code's contracts, and no part of the meaning: what is kept of a case as an order takes its records.
+-- For the code's contracts, and no part of the meaning: what is kept of the records that vats took.
 pub mod Deeds
 pub mod Names
 pub mod Lines

@@ -3,7 +3,7 @@ use Rattle.std.specs.Arc.{arc_value}
 use Rattle.std.specs.BTreeMap.{get}
 use Rattle.std.specs.List.{cons_option}
 use Rattle.std.specs.Ordering.{nat_cmp}
-use Rattle.std.specs.Prelude.{◌+◌, ◌==◌, ℕ, List, [], ◌∷◌, Option, Some, None, find, if◌then◌else◌, slice_get, option_and_then, option_map, is_some}
+use Rattle.std.specs.Prelude.{◌+◌, ◌==◌, ℕ, List, [], ◌∷◌, Option, find, if◌then◌else◌, slice_get, option_and_then, option_map, is_some}
 use Rattle.call_order.specs.Glue.Counts.{turns_counted}
 use Rattle.call_order.specs.declared.cursors.Cursor.{Cursor}
 use Rattle.call_order.specs.declared.cursors.Cursors.{Cursors}

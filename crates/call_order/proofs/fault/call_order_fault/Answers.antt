@@ -1,4 +1,4 @@
-use Rattle.std.proofs.Common.{◌≡◌, ◌∙◌, Some, refl, sym, ap, ap₂, subst, get_or, map, reverse, take}
+use Rattle.std.proofs.Common.{◌∙◌, Some, refl, sym, ap, ap₂, subst, get_or, map, reverse, take}
 use Rattle.std.specs.Arc.{arc_value}
 use Rattle.std.proofs.lemmas.List.{take_all}
 use Rattle.call_trace.proofs.Reaching.{turn_more}

@@ -1,18 +1,17 @@
 -- What turns count to, one turn further.
-use Rattle.std.proofs.Common.{◌≡◌, ℕ, suc, ◌+◌, ◌-◌, ◌<◌, ◌≤◌, Bool, true, false, cond, List, [], ◌∷◌, ◌++◌, length, Option, Some, None, refl, sym, ap, ◌∙◌, arith, inl, inr, length-append, append_assoc}
-use Rattle.std.specs.Prelude.{◌≢◌, ◌==◌, ◌&&◌, ◌||◌, ◌⊎◌, not, nat_lt, count_by, reverse, ◌^◌}
+use Rattle.std.proofs.Common.{◌≡◌, ℕ, ◌+◌, ◌-◌, ◌≤◌, Bool, true, false, cond, List, [], ◌∷◌, ◌++◌, length, Some, None, refl, sym, ap, ◌∙◌, arith, inl, inr, length-append, append_assoc}
+use Rattle.std.specs.Prelude.{◌≢◌, ◌==◌, ◌&&◌, ◌||◌, ◌⊎◌, not, nat_lt, count_by, reverse}
 use Rattle.std.specs.List.{filter_map, cons_option}
 use Rattle.std.proofs.lemmas.Bool.{eq-eqb}
 use Rattle.std.proofs.lemmas.Bool.Decides.{nat_tests}
 use Rattle.std.proofs.lemmas.List.{reverse-append, append-nil}
-use Rattle.std.proofs.lemmas.List.Sums.{sum_by-cons, sum_by_push, count_by-le-length}
+use Rattle.std.proofs.lemmas.List.Sums.{sum_by-cons, sum_by_push}
 use Rattle.vat_log.specs.declared.body.Body.{Body}
-use Rattle.vat_log.specs.declared.body.Body.TheVariants.{Send, Receive}
+use Rattle.vat_log.specs.declared.body.Body.TheVariants.{Send}
 use Rattle.vat_log.specs.Passages.{sends_frame, receives_frame}
 use Rattle.merge_order.proofs.Greedy.{eqb_apart}
-use Rattle.turn_taking.specs.Turns.{Turns, of_vat, records_of, received_by, sent_by_others, may_follow, under_way}
-use Rattle.turn_taking.specs.Glue.{count_of, count_at, passes_frame, passed_by, sent_by_all, AreTables}
-use Rattle.turn_taking.specs.declared.tables.Tables.{Tables}
+use Rattle.turn_taking.specs.Turns.{Turns, of_vat, records_of, received_by, sent_by_others}
+use Rattle.turn_taking.specs.Glue.{passes_frame, passed_by, sent_by_all}
 
 -- ---- the records of a vat
 

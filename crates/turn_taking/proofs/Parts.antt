@@ -1,10 +1,10 @@
 -- Turns of several logs, seen as the parts of these logs that came.
-use Rattle.std.proofs.Common.{◌≡◌, ℕ, zero, suc, ◌+◌, ◌<◌, ◌≤◌, Bool, true, false, cond, List, [], ◌∷◌, ◌++◌, length, get_or, take, Option, Some, None, refl, sym, ap, subst, ◌∙◌, inl, inr, arith, length-append, append_assoc}
-use Rattle.std.specs.Prelude.{◌≢◌, ◌==◌, ◌&&◌, ◌⊎◌, not, map, nat_lt, slice_get, count_by, sum_by, filter, All, Contains}
+use Rattle.std.proofs.Common.{◌≡◌, ℕ, zero, suc, ◌+◌, ◌<◌, ◌≤◌, Bool, true, false, cond, List, [], ◌∷◌, ◌++◌, length, get_or, take, Option, Some, None, refl, sym, ap, subst, ◌∙◌, inl, inr, arith, length-append}
+use Rattle.std.specs.Prelude.{◌≢◌, ◌==◌, ◌&&◌, not, map, nat_lt, slice_get, count_by, All, Contains}
 use Rattle.std.specs.List.Sorted.{IsStrictlyIncreasing}
-use Rattle.std.proofs.lemmas.Bool.{false≢true, eqb-true, eq-eqb, cases_eq, cases_lt}
+use Rattle.std.proofs.lemmas.Bool.{false≢true, eqb-true, eq-eqb, cases_eq}
 use Rattle.std.proofs.lemmas.List.{append-nil, take_at, get_or_at, get_or-map, length-map}
-use Rattle.std.proofs.lemmas.List.Elements.{All-head, All-tail, All-cons, Contains-get_or}
+use Rattle.std.proofs.lemmas.List.Elements.{All-head, All-tail, Contains-get_or}
 use Rattle.std.proofs.lemmas.List.Sums.{sum_by-cons}
 use Rattle.std.proofs.lemmas.Map.Keys.{sorted_from_strictly_increasing, below_from_sorted}
 use Rattle.std.proofs.lemmas.Option.{slice_get-get_or, slice_get_past}
@@ -14,12 +14,12 @@ use Rattle.vat_log.specs.declared.body.Body.TheVariants.{Receive}
 use Rattle.vat_log.specs.Passages.{sends_frame, receives_frame}
 use Rattle.merge_order.specs.Fits as fits
 use Rattle.merge_order.specs.Fits.{Part, sent_so_far, received_so_far, part_of, sent_by_the_others, may_come_from, may_come, further, after, begin, IsRising}
-use Rattle.merge_order.proofs.Greedy.{bool_cases, eqb_apart, further_cases, some_is, others_own, others_more}
+use Rattle.merge_order.proofs.Greedy.{bool_cases, eqb_apart, further_cases, others_own, others_more}
 use Rattle.merge_order.proofs.Steps.{rising_tail, all_passed}
 use Rattle.merge_order.proofs.Totals.{part_at}
 use Rattle.turn_taking.specs.Turns.{Turns, records_of, received_by, sent_by_others, may_follow, AreOf}
 use Rattle.turn_taking.specs.Orders.{GoesOnWith, IsHeldUp}
-use Rattle.turn_taking.proofs.Counting.{records_more, count_records, count_of_vat}
+use Rattle.turn_taking.proofs.Counting.{count_records, count_of_vat}
 
 -- a log with as many of its records as its vat took
 abbrev pub part_behind : Turns → Log → Part

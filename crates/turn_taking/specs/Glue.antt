@@ -1,5 +1,5 @@
 -- For the code's contracts, and no part of the meaning: tables of how many records vats took, and how many frames passed.
-use Rattle.std.specs.Prelude.{◌≡◌, ℕ, ◌+◌, ◌<◌, ◌^◌, ◌==◌, ◌&&◌, ◌||◌, Bool, List, length, unwrap_or, count_by, if◌then◌else◌}
+use Rattle.std.specs.Prelude.{◌≡◌, ℕ, ◌+◌, ◌<◌, ◌^◌, ◌==◌, ◌&&◌, ◌||◌, Bool, length, unwrap_or, count_by, if◌then◌else◌}
 use Rattle.std.specs.BTreeMap.{get}
 use Rattle.std.specs.Ordering.{nat_cmp, ordering_then}
 use Rattle.std.specs.declared.cmp.Ordering.{Ordering}
@@ -8,7 +8,7 @@ use Rattle.vat_log.specs.declared.body.Body.{Body}
 use Rattle.turn_taking.specs.declared.counts.Counts.{Counts}
 use Rattle.turn_taking.specs.declared.counts.PairCounts.{PairCounts}
 use Rattle.turn_taking.specs.declared.tables.Tables.{Tables}
-use Rattle.turn_taking.specs.Turns.{Turns, records_of, received_by}
+use Rattle.turn_taking.specs.Turns.{Turns, records_of}
 
 -- ---- counts
 

@@ -1,6 +1,6 @@
 use Rattle.std.proofs.Common.{◌∙◌, ap}
 use Rattle.std.specs.Prelude.{nat_lt}
-use Rattle.turn_taking.specs.Turns.{received_by, sent_by_others, may_follow}
+use Rattle.turn_taking.specs.Turns.{received_by, sent_by_others}
 use Rattle.turn_taking.proofs.Counting.{some_under_way}
 use Rattle.turn_taking.proofs.turns_taken.TurnsTaken.may_follow.Goals as goal
 

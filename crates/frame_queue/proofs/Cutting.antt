@@ -1,5 +1,5 @@
 -- Frames that lie one right behind another.
-use Rattle.std.proofs.Common.{◌≡◌, ℕ, ◌+◌, ◌≤◌, List, [], ◌∷◌, ◌++◌, length, take, drop, Bool, true, refl, sym, ap, ◌∙◌, arith, length-append, length-drop}
+use Rattle.std.proofs.Common.{◌≡◌, ℕ, ◌+◌, ◌≤◌, List, [], ◌∷◌, ◌++◌, length, take, drop, true, refl, sym, ap, arith, length-drop}
 use Rattle.std.specs.Prelude.{Result, Ok, Err, sum, is_ok, OnOk}
 use Rattle.std.proofs.lemmas.List.{drop-append-le, nil_from_length, take_all, take-append-le}
 use Rattle.std.proofs.lemmas.List.Sums.{sum_by-cons}

@@ -28,12 +28,7 @@ impl Comparison {
 
     /// One list grows by a frame: it had `count` frames, and the other has `others`. The only error is that memory ran out, and
     /// then nothing changes.
-    pub(crate) fn take(
-        &mut self,
-        count: u64,
-        others: u64,
-        frame: &[u8],
-    ) -> Result<(), AllocError>
+    pub(crate) fn take(&mut self, count: u64, others: u64, frame: &[u8]) -> Result<(), AllocError>
         ensures ok { OnOk result ((own other : List (List ℕ)) → length own ≡ count → length other ≡ others
             → AreCompared own other self.old.difference self.old.waiting
             → AreCompared (own ++ frame.now ∷ []) other self.new.difference self.new.waiting) }

@@ -3,6 +3,7 @@
 ghost use Rattle.std.specs.Prelude.{◌≡◌, ◌+◌, [], length, OnOk, OnErr};
 ghost use Rattle.frame_queue.specs.Directions.{between, nothing_passed, received_by, sent_by};
 ghost use Rattle.link_check.specs.Prefix.{Ends, IsOutcome};
+ghost use Rattle.link_check.specs.declared.link_outcome.LinkOutcome.{LinkOutcome};
 
 use crate::end::End;
 use crate::frame_queue::FrameQueue;
@@ -87,8 +88,12 @@ impl LinkQueues {
     /// these are their frames. The first end is tried first, then the least message. The two numbers are those of the vats at
     /// its ends.
     pub fn outcome(&self, first: u32, second: u32) -> LinkOutcome
-        ensures { (link : Ends) → link.first.vat ≡ first → link.second.vat ≡ second → between link ≡ self.now
+        // What it means, of logs with these frames.
+        ensures meaning { (link : Ends) → link.first.vat ≡ first → link.second.vat ≡ second → between link ≡ self.now
             → IsOutcome link result }
+        // They have no other outcome.
+        ensures only { (link : Ends) (other : LinkOutcome) → link.first.vat ≡ first → link.second.vat ≡ second
+            → between link ≡ self.now → IsOutcome link other → other ≡ result }
     {
         if let Some(message) = self.to_first.fault() {
             return LinkOutcome::Broken {

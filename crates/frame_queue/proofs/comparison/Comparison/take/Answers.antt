@@ -12,6 +12,8 @@ returns-then-eq-clause-ok c = λ own other count others so.
     (first_same c.first.result c.args.self.now.waiting c.args.frame c.eq.result c.first.ensures c.eq.ensures c.if-eq.true) so)
 
 pub returns-else-eq-clause-ok : goal.returns-else-eq-clause-ok
-returns-else-eq-clause-ok c = λ own other count others so.
-    (parts own other c.args.self.now.waiting c.args.frame.now c.args.self.now.difference c.args.count (sym c.is_some.ensures ∙ c.if-is_some.false) count (omega (arith, count, others, c.if-others-count.false))
-    (first_other c.first.result c.args.self.now.waiting c.args.frame c.eq.result c.first.ensures c.eq.ensures c.if-eq.false) so, c.clear.ensures)
+returns-else-eq-clause-ok c = λ own other count others so. (
+  parts own other c.args.self.now.waiting c.args.frame.now c.args.self.now.difference c.args.count (sym c.is_some.ensures ∙ c.if-is_some.false) count (omega (arith, count, others, c.if-others-count.false))
+      (first_other c.first.result c.args.self.now.waiting c.args.frame c.eq.result c.first.ensures c.eq.ensures c.if-eq.false) so,
+  c.clear.ensures,
+)

@@ -1,4 +1,4 @@
-use Rattle.std.proofs.Common.{◌≡◌, arith}
+use Rattle.std.proofs.Common.{arith}
 use Rattle.std.proofs.lemmas.List.{length-reverse}
 use Rattle.std.specs.Prelude.{reverse}
 use Rattle.frame_queue.proofs.Comparing.{in_second, other_way}
@@ -13,5 +13,5 @@ invariant_of-self-2 c =
       sent_counted = held.sent_counted;
       received_counted = omega (arith, held.received_counted, c.in-Some.ensures);
       compared = in_second other c.self.inside.received.items c.args.frame.now c.take.new.self.waiting c.take.new.self.difference (rw c.as_slice.ensures at (c.in_ok-take.ensures.ok own other (omega (arith, held.received_counted, length-reverse c.self.inside.received.items))
-      (omega (arith, held.sent_counted, length-reverse c.self.inside.sent.items)) (other_way _ _ _ c.self.inside.comparison.difference held.compared)));
+          (omega (arith, held.sent_counted, length-reverse c.self.inside.sent.items)) (other_way _ _ _ c.self.inside.comparison.difference held.compared)));
     })

@@ -49,11 +49,11 @@ raised m n v k o had u x y =
           rw other (omega arith)
     ]
 
--- a count was put at a key that had none
-pub begun : (old m n : Map) (v k : ℕ) → m ≡ old → None ≡ get key_cmp old (v, k) → Updates key_cmp m n (v, k) (Some 1)
-    → (x y : ℕ) → unwrap_or (get key_cmp n (x, y)) 0 ≡ unwrap_or (get key_cmp old (x, y)) 0 + cond ((v == x) && (k == y)) 1 0
-begun old m n v k same none u =
-    raised old n v k None (sym none) (subst (λ (l : Map). Updates key_cmp l n (v, k) (Some 1)) same u)
+-- one was put at a key that had none
+pub begun : (m n : Map) (v k : ℕ) → unwrap_or (get key_cmp m (v, k)) 0 ≡ 0 → Updates key_cmp m n (v, k) (Some 1)
+    → (x y : ℕ) → unwrap_or (get key_cmp n (x, y)) 0 ≡ unwrap_or (get key_cmp m (x, y)) 0 + cond ((v == x) && (k == y)) 1 0
+begun m n v k none u =
+    raised m n v k (get key_cmp m (v, k)) refl (subst (λ (w : ℕ). Updates key_cmp m n (v, k) (Some (w + 1))) (sym none) u)
 
 -- one less was put at a key
 pub lowered : (m n : Map) (v k c : ℕ) → get key_cmp m (v, k) ≡ Some c → 0 < unwrap_or (get key_cmp m (v, k)) 0 → Updates key_cmp m n (v, k) (Some (c - 1))

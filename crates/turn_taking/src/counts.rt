@@ -36,11 +36,23 @@ impl Counts {
         ensures err { OnErr result (HaveSameCounts self.old self.new) }
     {
         match self.counts.get_mut(&number) {
-            Some(count) => *count += 1,
-            None => {
-                self.counts.insert(number, 1)?;
+            Some(count) => {
+                *count += 1;
+                Ok(())
             }
+            None => self.begin(number),
         }
+    }
+
+    /// This one came up for the first time. The only error is that memory ran out, and then no count changes.
+    #[cold]
+    #[inline(never)]
+    fn begin(&mut self, number: u32) -> Result<(), AllocError>
+        requires { count_of self.old number ≡ 0 }
+        ensures ok { OnOk result (IsRaised number self.old self.new) }
+        ensures err { OnErr result (HaveSameCounts self.old self.new) }
+    {
+        self.counts.insert(number, 1)?;
         Ok(())
     }
 
@@ -86,11 +98,23 @@ impl PairCounts {
         ensures err { OnErr result (HaveSamePairs self.old self.new) }
     {
         match self.counts.get_mut(&(vat, connection)) {
-            Some(count) => *count += 1,
-            None => {
-                self.counts.insert((vat, connection), 1)?;
+            Some(count) => {
+                *count += 1;
+                Ok(())
             }
+            None => self.begin(vat, connection),
         }
+    }
+
+    /// This vat came up on the connection for the first time. The only error is that memory ran out, and then no count changes.
+    #[cold]
+    #[inline(never)]
+    fn begin(&mut self, vat: u32, connection: u32) -> Result<(), AllocError>
+        requires { count_at self.old vat connection ≡ 0 }
+        ensures ok { OnOk result (IsRaisedAt vat connection self.old self.new) }
+        ensures err { OnErr result (HaveSamePairs self.old self.new) }
+    {
+        self.counts.insert((vat, connection), 1)?;
         Ok(())
     }
 

@@ -1,5 +1,5 @@
 use Rattle.std.proofs.Common.{◌+◌, Some, sym}
-use Rattle.turn_taking.proofs.Pairs.{raised, begun, is_there}
+use Rattle.turn_taking.proofs.Pairs.{raised, is_there}
 use Rattle.turn_taking.proofs.counts.PairCounts.raise.Goals as goal
 
 pub returns-in-Some-clause-ok : goal.returns-in-Some-clause-ok
@@ -8,7 +8,3 @@ returns-in-Some-clause-ok c =
     let count = c.in-Some.count.now in
     raised old (c.get_mut.follows.lender (count + 1)) c.args.vat c.args.connection (Some count) (sym c.in-Some.ensures.value)
     ((c.get_mut.follows.holds (count + 1)).3 (is_there _ count c.in-Some.ensures.value))
-
-pub returns-in_ok-insert-in-None-clause-ok : goal.returns-in_ok-insert-in-None-clause-ok
-returns-in_ok-insert-in-None-clause-ok c =
-    begun c.args.self.now.counts c.get_mut.follows.lender-at-none c.insert.new.self c.args.vat c.args.connection c.get_mut.follows.holds-at-none c.in-None.ensures.value c.in_ok-insert-in-None.ensures.updates

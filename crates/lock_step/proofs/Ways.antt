@@ -22,7 +22,7 @@ use Rattle.case_book.specs.declared.link.Link.{Link}
 use Rattle.case_book.specs.Pieces.{IsComparisonOf}
 use Rattle.lock_step.specs.declared.link_state.LinkState.{LinkState}
 use Rattle.lock_step.specs.declared.link_table.LinkTable.{LinkTable}
-use Rattle.lock_step.specs.Links.{link_on, ways_of}
+use Rattle.lock_step.specs.Links.{LinkTurns, link_on, ways_of}
 use Rattle.lock_step.specs.Glue.{end_of, with_record, with_record_at, with_turn, state_of, state_on, passes_on, IsPassed, IsAdded, AreStates}
 
 -- ---- the frames of one vat
@@ -56,7 +56,7 @@ longer k first second b s r t u =
 
 ways_more : (k first second w : ℕ) (b : Body) (turns : Turns) → ways_of k first second ((w, b) ∷ turns)
     ≡ longer k (w == first) (w == second) b (filter_map (frame_sent k) (records_of second turns)) (filter_map (frame_received k) (records_of first turns)) (filter_map (frame_sent k) (records_of first turns))
-        (filter_map (frame_received k) (records_of second turns))
+    (filter_map (frame_received k) (records_of second turns))
 ways_more k first second w b turns =
     let s = frames_more (frame_sent k) second w b turns in
     let r = frames_more (frame_received k) first w b turns in
@@ -168,7 +168,7 @@ further links w b turns old new are passed k =
     passed k ∙ ap (λ (o : Option LinkState). cond (passes_on k b) (option_map (with_turn w b) o) o) (are k) ∙ one_further k w b turns (link_on links k) (link_is links k)
 
 -- what is kept of a link
-pub state_is : (links : List Link) (turns : Turns) (table : LinkTable) (k : ℕ) (link : Link) (state : LinkState) → AreStates links turns table → Some state ≡ state_on table k → link_on links k ≡ Some link
+state_is : (links : List Link) (turns : Turns) (table : LinkTable) (k : ℕ) (link : Link) (state : LinkState) → AreStates links turns table → Some state ≡ state_on table k → link_on links k ≡ Some link
     → state ≡ state_of turns link
 state_is links turns table k link state are kept found =
     let same = kept ∙ are k ∙ ap (option_map (state_of turns)) found in
@@ -193,9 +193,25 @@ added_one added link old new are is =
 -- ---- whole logs
 
 -- what the ends of a link passed to each other, where these turns are all records of the logs
-pub ends_passed : (logs : List Log) (turns : Turns) (link : Link) (ends : Ends) → AreAll logs turns → IsComparisonOf logs link ends → between ends ≡ ways_of link.connection (min link.a link.b) (max link.a link.b) turns
+ends_passed : (logs : List Log) (turns : Turns) (link : Link) (ends : Ends) → AreAll logs turns → IsComparisonOf logs link ends → between ends ≡ ways_of link.connection (min link.a link.b) (max link.a link.b) turns
 ends_passed logs turns link ends all is =
     let first = all.taken ends.first is.first_held ∙ ap (λ (v : ℕ). records_of v turns) is.smaller in
     let second = all.taken ends.second is.second_held ∙ ap (λ (v : ℕ). records_of v turns) is.greater in
     let passed : ℕ → List Body → List Body → BothWays = λ k one other. ways (filter_map (frame_sent k) other) (filter_map (frame_received k) one) (filter_map (frame_sent k) one) (filter_map (frame_received k) other) in
     ap (λ (k : ℕ). passed k ends.first.records ends.second.records) is.connection ∙ ap (λ (one : List Body). passed link.connection one ends.second.records) first ∙ ap (passed link.connection (records_of (min link.a link.b) turns)) second
+
+-- the ends of a link are those of what is kept, and so is what they passed to each other
+pub record AreEnds (ends : Ends) (state : LinkState) : Type 0 where
+  pub first : ends.first.vat ≡ state.first
+  pub second : ends.second.vat ≡ state.second
+  pub passed : between ends ≡ state.queues
+
+pub ends_are : (table : LinkTable) (kept : LinkTurns) (k : ℕ) (state : LinkState) → AreStates kept.links kept.turns table → Some state ≡ state_on table k → (logs : List Log) (link : Link) (ends : Ends)
+    → link_on kept.links k ≡ Some link → AreAll logs kept.turns → IsComparisonOf logs link ends → AreEnds ends state
+ends_are table kept k state are there logs link ends found all is =
+    let same = sym (state_is kept.links kept.turns table k link state are there found) in
+    record {
+      first = is.smaller ∙ ap (λ (s : LinkState). s.first) same;
+      second = is.greater ∙ ap (λ (s : LinkState). s.second) same;
+      passed = ends_passed logs kept.turns link ends all is ∙ ap (λ (s : LinkState). s.queues) same;
+    }

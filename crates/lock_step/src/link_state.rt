@@ -3,6 +3,7 @@
 ghost use Rattle.std.specs.Prelude.{◌≡◌, [], OnOk, OnErr};
 ghost use Rattle.frame_queue.specs.Directions.{between};
 ghost use Rattle.link_check.specs.Prefix.{Ends, IsOutcome};
+ghost use Rattle.link_check.specs.declared.link_outcome.LinkOutcome.{LinkOutcome};
 ghost use Rattle.lock_step.specs.Glue.{end_of, state_of, with_turn};
 
 use case_book::Link;
@@ -61,8 +62,11 @@ impl LinkState {
 
     /// What is found of the link, if this were all.
     pub(crate) fn outcome(&self) -> LinkOutcome
-        ensures { (ends : Ends) → ends.first.vat ≡ self.now.first → ends.second.vat ≡ self.now.second
+        ensures meaning { (ends : Ends) → ends.first.vat ≡ self.now.first → ends.second.vat ≡ self.now.second
             → between ends ≡ self.now.queues → IsOutcome ends result }
+        ensures only { (ends : Ends) (other : LinkOutcome) → ends.first.vat ≡ self.now.first
+            → ends.second.vat ≡ self.now.second → between ends ≡ self.now.queues
+            → IsOutcome ends other → other ≡ result }
     {
         self.queues.outcome(self.first, self.second)
     }

@@ -2,13 +2,13 @@
 
 ghost use Rattle.std.specs.Prelude.{◌≡◌, [], ◌∷◌, IfOk, IfSome, List, Some, is_some, OnOk, OnErr};
 ghost use Rattle.case_book.specs.Pieces.{IsComparisonOf};
-ghost use Rattle.case_book.specs.declared.link.Link.{Link as link_of_two};
+ghost use Rattle.case_book.specs.declared.link.Link.{Link};
 ghost use Rattle.link_check.specs.Prefix.{Ends, IsOutcome};
+ghost use Rattle.link_check.specs.declared.link_outcome.LinkOutcome.{LinkOutcome};
 ghost use Rattle.lock_step.specs.Links.{link_on};
 ghost use Rattle.turn_taking.specs.Turns.{AreAll};
 ghost use Rattle.vat_log.specs.Log.{Log};
 
-use crate::link_state::LinkState;
 use crate::link_table::LinkTable;
 use case_book::Link;
 use erased::Erased;
@@ -78,12 +78,18 @@ impl LinkStates {
     }
 
     /// What is found of the link of a connection, if these were all turns; none where no link of the connection has two vats
-    /// as its ends. Where the turns are all records of some logs, it is what is found of the link's ends among them.
+    /// as its ends. Where the turns are all records of some logs, it is what [`link_check::check_link`] finds of the ends that
+    /// the link has among them.
     pub fn outcome(&self, connection: u32) -> Option<LinkOutcome>
         ensures some { is_some result ≡ is_some (link_on self.now.links connection) }
-        ensures exact { IfSome result (λ outcome. (logs : List Log) (link : link_of_two) (ends : Ends)
-            → link_on self.now.links connection ≡ Some link → AreAll logs self.now.turns
-            → IsComparisonOf logs link ends → IsOutcome ends outcome) }
+        // What it means, of the logs whose records these are.
+        ensures meaning { IfSome result (λ outcome. (logs : List Log) (link : Link) (ends : Ends)
+            → link_on self.now.links connection ≡ Some link → AreAll logs self.now.turns → IsComparisonOf logs link ends
+            → IsOutcome ends outcome) }
+        // The link has no other outcome among them.
+        ensures only { IfSome result (λ outcome. (logs : List Log) (link : Link) (ends : Ends) (other : LinkOutcome)
+            → link_on self.now.links connection ≡ Some link → AreAll logs self.now.turns → IsComparisonOf logs link ends
+            → IsOutcome ends other → other ≡ outcome) }
     {
         Some(self.table.on(connection)?.outcome())
     }

@@ -1,13 +1,7 @@
 //! The links of a case, as vats take turns.
 
-ghost use Rattle.std.specs.Prelude.{◌≡◌, [], ◌∷◌, IfOk, IfSome, List, Some, is_some, OnOk, OnErr};
-ghost use Rattle.case_book.specs.Pieces.{IsComparisonOf};
-ghost use Rattle.case_book.specs.declared.link.Link.{Link};
-ghost use Rattle.link_check.specs.Prefix.{Ends, IsOutcome};
-ghost use Rattle.link_check.specs.declared.link_outcome.LinkOutcome.{LinkOutcome};
-ghost use Rattle.lock_step.specs.Links.{link_on};
-ghost use Rattle.turn_taking.specs.Turns.{AreAll};
-ghost use Rattle.vat_log.specs.Log.{Log};
+ghost use Rattle.std.specs.Prelude.{◌≡◌, [], ◌∷◌, IfOk, IfSome, is_some, OnOk, OnErr};
+ghost use Rattle.lock_step.specs.Links.{IsFoundOn, link_on};
 
 use crate::link_table::LinkTable;
 use case_book::Link;
@@ -82,14 +76,7 @@ impl LinkStates {
     /// the link has among them.
     pub fn outcome(&self, connection: u32) -> Option<LinkOutcome>
         ensures some { is_some result ≡ is_some (link_on self.now.links connection) }
-        // What it means, of the logs whose records these are.
-        ensures meaning { IfSome result (λ outcome. (logs : List Log) (link : Link) (ends : Ends)
-            → link_on self.now.links connection ≡ Some link → AreAll logs self.now.turns → IsComparisonOf logs link ends
-            → IsOutcome ends outcome) }
-        // The link has no other outcome among them.
-        ensures only { IfSome result (λ outcome. (logs : List Log) (link : Link) (ends : Ends) (other : LinkOutcome)
-            → link_on self.now.links connection ≡ Some link → AreAll logs self.now.turns → IsComparisonOf logs link ends
-            → IsOutcome ends other → other ≡ outcome) }
+        ensures found { IfSome result (λ outcome. IsFoundOn self.now.links self.now.turns connection outcome) }
     {
         Some(self.table.on(connection)?.outcome())
     }

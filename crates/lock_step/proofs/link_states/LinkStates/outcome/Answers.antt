@@ -4,14 +4,15 @@ use Rattle.lock_step.specs.Links.{LinkTurns}
 use Rattle.lock_step.proofs.Ways.{ends_are}
 use Rattle.lock_step.proofs.link_states.LinkStates.outcome.Goals as goal
 
-pub returns-clause-meaning : goal.returns-clause-meaning
-returns-clause-meaning c = λ logs link ends found all is.
+pub returns-clause-found : goal.returns-clause-found
+returns-clause-found c =
     let kept = subst (λ (s : LinkTurns). AreStates s.links s.turns c.self.inside.table) c.self.view_is c.self.invariant in
-    let are = ends_are c.self.inside.table c.args.self.now c.args.connection c.in_ok-on.field-0.now kept c.in_ok-on.ensures logs link ends found all is in
-    c.outcome.ensures.meaning ends are.first are.second are.passed
-
-pub returns-clause-only : goal.returns-clause-only
-returns-clause-only c = λ logs link ends other found all is so.
-    let kept = subst (λ (s : LinkTurns). AreStates s.links s.turns c.self.inside.table) c.self.view_is c.self.invariant in
-    let are = ends_are c.self.inside.table c.args.self.now c.args.connection c.in_ok-on.field-0.now kept c.in_ok-on.ensures logs link ends found all is in
-    c.outcome.ensures.only ends other are.first are.second are.passed so
+    let are = ends_are c.self.inside.table c.args.self.now c.args.connection c.in_ok-on.field-0.now kept c.in_ok-on.ensures in
+    record {
+      found = λ logs link ends there all is.
+          let so = are logs link ends there all is in
+          c.outcome.ensures.meaning ends so.first so.second so.passed;
+      only = λ logs link ends other there all is other_is.
+          let so = are logs link ends there all is in
+          c.outcome.ensures.only ends other so.first so.second so.passed other_is;
+    }

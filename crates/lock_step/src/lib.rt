@@ -5,8 +5,11 @@
 //! link by some turns is said in `specs/Links.antt`. `specs/Glue.antt` describes the tables, for the code's contracts alone.
 #![tactic(auto)]
 
+mod case_turns;
+mod counts;
 mod link_state;
 mod link_states;
 mod link_table;
 
+pub use case_turns::CaseTurns;
 pub use link_states::LinkStates;

@@ -1,12 +1,28 @@
 //! What was told of the calls of each vat.
 
 ghost use Rattle.std.specs.Prelude.{◌≡◌, ℕ, [], OnOk};
-ghost use Rattle.call_order.specs.Glue.Told.{told_of, IsTold};
-ghost use Rattle.undelivered.specs.Order.{AreOnce, IsFault};
+ghost use Rattle.call_order.specs.Glue.Told.{told_of, IsTold, lesser, AreAllOnce, IsFaultIn};
 
 use std::alloc::{AllocError, Global};
 use std::collections::BTreeMap;
 use undelivered::{Moment, Undelivered};
+
+/// The lesser of two places, by vat and then by number, where there are any.
+fn lesser(known: Option<(u32, u32)>, found: Option<(u32, u32)>) -> Option<(u32, u32)>
+    ensures { result ≡ lesser known found }
+{
+    match (known, found) {
+        (None, place) => place,
+        (Some(least), None) => Some(least),
+        (Some(least), Some(place)) => {
+            if place.0 < least.0 || (place.0 == least.0 && place.1 < least.1) {
+                Some(place)
+            } else {
+                Some(least)
+            }
+        }
+    }
+}
 
 /// What was told of the calls that each vat made.
 #[derive(Drop)]
@@ -41,13 +57,14 @@ impl Told {
         }
     }
 
-    /// The least place where a call of a vat was delivered too early.
-    pub(crate) fn fault(&self, vat: u32) -> Option<(u32, u32)>
-        ensures { AreOnce (told_of self.now vat) → IsFault (told_of self.now vat) result }
+    /// The least place where a call of one of the vats was delivered too early.
+    pub(crate) fn fault(&self) -> Option<(u32, u32)>
+        ensures { AreAllOnce self.now → IsFaultIn self.now result }
     {
-        match self.vats.get(&vat) {
-            Some(calls) => calls.fault(),
-            None => None,
+        let mut least = None;
+        for calls in self.vats.values() {
+            least = lesser(least, calls.fault());
         }
+        least
     }
 }

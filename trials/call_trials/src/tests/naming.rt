@@ -1,9 +1,12 @@
 //! The runs that good logs name by an order, and where these break the order of calls.
 
+use call_order::{CallOrder, call_order_fault};
 use call_trace::{name_run, no_findings_have_the_empty_run};
-use merge_order::Order;
+use merge_order::{Order, make_order};
 use run_model::Run;
 use std::alloc::Global;
+use std::sync::Arc;
+use vat_log::{Record, VatLog};
 use worked_cases::{
     Conversation, EMBARGOED_CALLS, NoAnswer, RELAYED_CALL, case_of, early_delivery, is_so, run_of,
 };
@@ -59,4 +62,69 @@ fn is_without_steps(alloc: Global) -> Result<bool, NoAnswer> {
 #[test]
 fn no_findings_name_no_steps(rt: HostRuntime) {
     assert!(rt; is_so(|| is_without_steps(rt.alloc())));
+}
+
+/// The record that a vat takes at this step of an order.
+fn record_at<'a>(
+    logs: &'a [Arc<VatLog>],
+    vats: &[u32],
+    step: usize,
+    vat: u32,
+) -> Option<&'a Record> {
+    let mut taken: usize = 0;
+    for (at, other) in vats.iter().enumerate() {
+        if at < step && *other == vat {
+            taken = taken.saturating_add(1);
+        }
+    }
+    for log in logs {
+        if log.vat() == vat {
+            return log.get(taken);
+        }
+    }
+    None
+}
+
+/// Where the order of calls is broken, by the turns of an order, one after another.
+fn found_by_turns(
+    alloc: Global,
+    logs: &[Arc<VatLog>],
+    order: &Order,
+) -> Result<Option<(u32, u32)>, NoAnswer> {
+    let vats = order.as_slice();
+    let mut calls = CallOrder::new(alloc);
+    for (step, vat) in vats.iter().enumerate() {
+        let Some(record) = record_at(logs, vats, step, *vat) else {
+            return Err(NoAnswer::Otherwise);
+        };
+        calls.take(*vat, record.body())?;
+    }
+    Ok(calls.fault())
+}
+
+/// Whether the order of calls is broken there, with all logs at hand and with one record after another.
+fn is_broken_at(
+    alloc: Global,
+    given: &Conversation<'_>,
+    changes: &[&str],
+    place: Option<(u32, u32)>,
+) -> Result<bool, NoAnswer> {
+    let case = case_of(alloc, given, changes)?;
+    let Some(order) = make_order(alloc, case.logs())? else {
+        return Err(NoAnswer::Otherwise);
+    };
+    Ok(
+        call_order_fault(alloc, case.logs(), &order)? == place
+            && found_by_turns(alloc, case.logs(), &order)? == place,
+    )
+}
+
+#[test]
+fn turns_tell_where_a_run_breaks(rt: HostRuntime) {
+    for (given, changes, _steps, place) in &NAMED {
+        assert!(rt;
+            is_so(|| is_broken_at(rt.alloc(), given, changes, *place)),
+            "{changes:?}"
+        );
+    }
 }

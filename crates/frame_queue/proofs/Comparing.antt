@@ -1,6 +1,6 @@
 -- Two lists of frames that are compared as they grow, and the fault that is found of them.
 use Rattle.std.proofs.Common.{◌≡◌, ◌≢◌, ℕ, zero, suc, ◌<◌, ◌≤◌, Bool, true, false, cond, List, [], ◌∷◌, ◌++◌, length, take, drop, Option, Some, None, refl, sym, ap, subst, ◌∙◌, inl, inr, arith, length-append, append_assoc}
-use Rattle.std.specs.Prelude.{◌⊎◌, is_some, reverse, slice_get, IfSome}
+use Rattle.std.specs.Prelude.{is_some, reverse, slice_get, IfSome}
 use Rattle.std.specs.Option.{option_copied, option_eq, option_map}
 use Rattle.std.specs.Str.{bytes_eq}
 use Rattle.std.proofs.lemmas.Bool.{false≢true}
@@ -169,22 +169,3 @@ none_is sent received waiting None e le (inr back) =
 pub least_is : (received sent : List (List ℕ)) (o : Option ℕ) → o ≡ first_fault received sent → IfSome o (λ message. IsLeastFault received sent message)
 least_is received sent None e = tt
 least_is received sent (Some m) e = least_from_some received sent m (sym e)
-
--- ---- longer lists
-
--- at the first frames: they differ there, or the rest differs at the message before
-first_or_later : (b : Bool) (o : Option ℕ) (m : ℕ) → cond b (option_map suc o) (Some 0) ≡ Some m → ((b ≡ true) × ((k : ℕ) × (o ≡ Some k) × (suc k ≡ m))) ⊎ ((b ≡ false) × (m ≡ 0))
-first_or_later true None m e = absurd cc
-first_or_later true (Some k) m e = inl (refl, (k, refl, cc))
-first_or_later false o m e = inr (refl, cc)
-
--- what is found of both lists is found of longer ones
-pub found_longer : (received sent more later : List (List ℕ)) (m : ℕ) → m < length sent → first_fault received sent ≡ Some m → first_fault (received ++ more) (sent ++ later) ≡ Some m
-unfolding first_fault
-found_longer [] sent more later m lt e = absurd cc
-found_longer (r ∷ received) [] more later m lt e = absurd (omega arith)
-found_longer (r ∷ received) (s ∷ sent) more later m lt e =
-    elim (first_or_later (bytes_eq r s) (first_fault received sent) m e) [
-      | inl h ↦ same_here (bytes_eq r s) _ h.1.0 h.0 (found_longer received sent more later h.1.0 (omega (arith, lt, h.1.2)) h.1.1) ∙ ap Some h.1.2
-      | inr h ↦ apart_here (bytes_eq r s) _ h.0 ∙ ap Some (sym h.1)
-    ]

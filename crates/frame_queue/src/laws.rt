@@ -1,16 +1,11 @@
 //! A law of frames that are compared while more come.
 
-ghost use Rattle.std.specs.Prelude.{◌≡◌, ◌<◌, ◌++◌, ℕ, List, length, Some};
-ghost use Rattle.link_check.specs.Glue.{first_fault};
+ghost use Rattle.std.specs.Prelude.{◌<◌, ◌++◌, ℕ, List, length};
 ghost use Rattle.link_check.specs.Prefix.{IsLeastFault};
 
-/// A message that was received and sent, and isn't the same on both sides, stays the least fault whatever more comes (`least`);
-/// so it is found of all the longer lists too (`found`).
+/// A message that was received and sent, and isn't the same on both sides, stays the least fault whatever more comes.
 pub fn differences_stay()
-    ensures least { (received sent more_received more_sent : List (List ℕ)) (message : ℕ) → message < length sent
+    ensures { (received sent more_received more_sent : List (List ℕ)) (message : ℕ) → message < length sent
         → IsLeastFault received sent message
         → IsLeastFault (received ++ more_received) (sent ++ more_sent) message }
-    ensures found { (received sent more_received more_sent : List (List ℕ)) (message : ℕ) → message < length sent
-        → first_fault received sent ≡ Some message
-        → first_fault (received ++ more_received) (sent ++ more_sent) ≡ Some message }
 {}

@@ -1,1 +1,3 @@
 pub mod Ways
+pub mod Counting
+pub mod Finding

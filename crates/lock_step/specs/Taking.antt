@@ -24,6 +24,6 @@ abbrev pub delivers : Body → Bool
 delivers (Deliver call object) = true
 delivers _ = false
 
--- how many turns deliver a call
-abbrev pub deliveries : Turns → ℕ
-deliveries turns = count_by (λ turn. delivers turn.1) turns
+-- how many turns have a record that passes a test
+abbrev pub count_turns : (Body → Bool) → Turns → ℕ
+count_turns test turns = count_by (λ turn. test turn.1) turns

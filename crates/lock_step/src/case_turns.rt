@@ -1,11 +1,12 @@
 //! The turns of a whole case.
 
-ghost use Rattle.std.specs.Prelude.{◌≡◌, [], List, Option, Some, None, IfOk, IfSome, is_some, length, option_map, OnOk, OnErr};
+ghost use Rattle.std.specs.Prelude.{◌≡◌, ◌-◌, [], List, Option, Some, None, IfOk, IfSome, is_some, length, option_map, OnOk, OnErr};
 ghost use Rattle.call_order.specs.Fault.{IsFaultBy};
 ghost use Rattle.lock_step.specs.Links.{IsFoundOn, link_on};
-ghost use Rattle.lock_step.specs.Taking.{deliveries, with_passed, with_taken};
+ghost use Rattle.lock_step.specs.Taking.{count_turns, delivers, with_passed, with_taken};
 ghost use Rattle.turn_taking.specs.Turns.{AreAll, may_follow, order_of};
 ghost use Rattle.vat_log.specs.Log.{Log};
+ghost use Rattle.vat_log.specs.Passages.{receives, sends};
 
 use crate::counts::Counts;
 use crate::link_states::LinkStates;
@@ -133,8 +134,15 @@ impl CaseTurns {
 
     /// How many of them deliver a call.
     pub fn delivered(&self) -> u64
-        ensures { IfSome self.now (λ taken. result ≡ deliveries taken.all) }
+        ensures { IfSome self.now (λ taken. result ≡ count_turns delivers taken.all) }
     {
         self.counts.delivered
+    }
+
+    /// How many frames are under way: how many more were sent than received.
+    pub fn under_way(&self) -> u64
+        ensures { IfSome self.now (λ taken. result ≡ count_turns sends taken.all - count_turns receives taken.all) }
+    {
+        self.counts.sent.saturating_sub(self.counts.received)
     }
 }

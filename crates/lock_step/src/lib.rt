@@ -7,9 +7,11 @@
 
 mod case_turns;
 mod counts;
+mod laws;
 mod link_state;
 mod link_states;
 mod link_table;
 
 pub use case_turns::CaseTurns;
+pub use laws::{links_are_on_their_connections, turns_are_records};
 pub use link_states::LinkStates;

@@ -1,12 +1,9 @@
 -- What turns of all records of some logs count to.
-use Rattle.std.proofs.Common.{◌≡◌, ℕ, zero, suc, ◌+◌, ◌<◌, Bool, true, false, cond, List, [], ◌∷◌, length, get_or, refl, sym, ap, ◌∙◌, arith}
+use Rattle.std.proofs.Common.{◌≡◌, ℕ, zero, suc, ◌+◌, ◌<◌, Bool, true, cond, List, [], ◌∷◌, length, get_or, refl, sym, ap, ◌∙◌, arith}
 use Rattle.std.specs.Prelude.{◌≢◌, ◌==◌, ◌&&◌, map, count_by, sum_by, All, Contains}
 use Rattle.std.proofs.lemmas.Bool.{eq-eqb}
-use Rattle.std.proofs.lemmas.Bool.Decides.{eqb_tells}
-use Rattle.std.proofs.lemmas.List.{get_or-map, length-map}
 use Rattle.std.proofs.lemmas.List.Elements.{All-head, All-tail, Contains-get_or}
 use Rattle.std.proofs.lemmas.List.Sums.{sum_by-cons}
-use Rattle.std.proofs.lemmas.Map.Keys.{sorted_from_strictly_increasing, below_from_sorted}
 use Rattle.merge_order.specs.Fits.{IsRising}
 use Rattle.merge_order.proofs.Greedy.{eqb_apart}
 use Rattle.merge_order.proofs.Steps.{rising_tail}
@@ -15,6 +12,7 @@ use Rattle.vat_log.specs.declared.body.Body.{Body}
 use Rattle.turn_taking.specs.Turns.{Turns, records_of, AreAll}
 use Rattle.turn_taking.proofs.Counting.{count_of_vat}
 use Rattle.lock_step.specs.Taking.{count_turns}
+use Rattle.lock_step.proofs.Rising.{above_first}
 
 -- ---- the logs of one vat
 
@@ -30,11 +28,7 @@ no_hits v passes (log ∷ logs) others =
     omega (arith, none, no_hits v passes logs (All-tail P log logs others), sum_by-cons (λ (l : Log). cond ((v == l.vat) && passes) 1 0) log logs)
 
 behind_others : (log : Log) (logs : List Log) → IsRising (log ∷ logs) → All (λ l. log.vat ≢ l.vat) logs
-behind_others log logs rising i d lt same =
-    let vat = λ (l : Log). l.vat in
-    let fits : suc i < length (map vat (log ∷ logs)) = omega (arith, length-map logs vat) in
-    let below = below_from_sorted (map vat (log ∷ logs)) 0 (suc i) 0 (sorted_from_strictly_increasing (map vat (log ∷ logs)) rising) (omega arith) fits in
-    omega (arith, below, get_or-map vat logs i d 0 lt, same)
+behind_others log logs rising i d lt same = omega (arith, above_first (λ (l : Log). l.vat) log logs i d rising lt, same)
 
 one_hit : (v : ℕ) (passes : Bool) (logs : List Log) (i : ℕ) (d : Log) → IsRising logs → i < length logs → (get_or logs i d).vat ≡ v → hits v passes logs ≡ cond passes 1 0
 one_hit v passes [] i d rising lt vat = absurd (omega arith)

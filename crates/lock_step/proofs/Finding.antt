@@ -1,29 +1,20 @@
 -- The links of a case by their connections.
-use Rattle.std.proofs.Common.{◌≡◌, ℕ, zero, suc, ◌<◌, Bool, true, false, cond, List, [], ◌∷◌, length, get_or, Some, refl, sym, ap, subst, ◌∙◌, arith}
+use Rattle.std.proofs.Common.{◌≡◌, ℕ, zero, suc, ◌<◌, Bool, true, false, cond, List, [], ◌∷◌, length, get_or, Some, sym, ap, ◌∙◌, arith}
 use Rattle.std.specs.Prelude.{◌≢◌, ◌==◌, ◌&&◌, not, map}
 use Rattle.std.specs.List.Sorted.{IsStrictlyIncreasing}
 use Rattle.std.proofs.lemmas.Bool.{eq-eqb}
-use Rattle.std.proofs.lemmas.List.{get_or-map, length-map}
-use Rattle.std.proofs.lemmas.Map.Keys.{sorted_from_strictly_increasing, below_from_sorted}
 use Rattle.merge_order.proofs.Greedy.{eqb_apart}
 use Rattle.merge_order.proofs.Steps.{rising_tail}
 use Rattle.case_book.specs.Case.{connections_of}
 use Rattle.case_book.specs.declared.link.Link.{Link}
 use Rattle.lock_step.specs.Links.{link_on}
+use Rattle.lock_step.proofs.Rising.{above_first}
 
 this_one : {X : Type 0} (here same : Bool) (one other : X) → here ≡ true → same ≡ false → cond (here && not same) one other ≡ one
 this_one here same one other is_here apart = cc
 
 not_this : {X : Type 0} (here two : Bool) (one other : X) → here ≡ false → cond (here && two) one other ≡ other
 not_this here two one other elsewhere = cc
-
--- a link behind another has a greater connection
-below : (link : Link) (links : List Link) (i : ℕ) (d : Link) → IsStrictlyIncreasing (connections_of (link ∷ links)) → i < length links → link.connection < (get_or links i d).connection
-below link links i d rising lt =
-    let connection = λ (l : Link). l.connection in
-    let fits : suc i < length (map connection (link ∷ links)) = omega (arith, length-map links connection) in
-    let less = below_from_sorted (map connection (link ∷ links)) 0 (suc i) 0 (sorted_from_strictly_increasing (map connection (link ∷ links)) rising) (omega arith) fits in
-    omega (arith, less, get_or-map connection links i d 0 lt)
 
 pub found : (links : List Link) (link : Link) (i : ℕ) → IsStrictlyIncreasing (connections_of links) → i < length links → get_or links i link ≡ link → link.a ≢ link.b → link_on links link.connection ≡ Some link
 found [] link i rising lt is apart = absurd (omega arith)
@@ -32,7 +23,7 @@ found (one ∷ links) link zero rising lt is apart =
     (eqb_apart one.a one.b (λ e. apart (sym (ap (λ (l : Link). l.a) is) ∙ e ∙ ap (λ (l : Link). l.b) is)))
     ∙ ap Some is
 found (one ∷ links) link (suc i) rising lt is apart =
-    let less = below one links i link rising (omega arith) in
+    let less = above_first (λ (l : Link). l.connection) one links i link rising (omega arith) in
     let other : one.connection ≢ link.connection = λ e. omega (arith, less, e, ap (λ (l : Link). l.connection) is) in
     not_this (one.connection == link.connection) (not (one.a == one.b)) (Some one) (link_on links link.connection) (eqb_apart _ _ other)
     ∙ found links link i (rising_tail one.connection (map (λ l. l.connection) links) rising) (omega arith) is apart

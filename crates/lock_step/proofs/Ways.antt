@@ -9,7 +9,7 @@ use Rattle.std.proofs.lemmas.List.{append-nil, reverse-append}
 use Rattle.std.proofs.lemmas.List.Elements.{filter_map-append}
 use Rattle.std.proofs.lemmas.List.Folds.{find-append}
 use Rattle.vat_log.specs.Log.{Log}
-use Rattle.vat_log.specs.Passages.{sends_frame, receives_frame, frame_sent, frame_received}
+use Rattle.vat_log.specs.Passages.{frame_sent, frame_received}
 use Rattle.vat_log.specs.declared.body.Body.{Body}
 use Rattle.vat_log.specs.declared.body.Body.TheVariants.{Send, Receive}
 use Rattle.frame_queue.specs.Directions.{BothWays, between}
@@ -23,7 +23,7 @@ use Rattle.case_book.specs.Pieces.{IsComparisonOf}
 use Rattle.lock_step.specs.declared.link_state.LinkState.{LinkState}
 use Rattle.lock_step.specs.declared.link_table.LinkTable.{LinkTable}
 use Rattle.lock_step.specs.Links.{LinkTurns, link_on, ways_of}
-use Rattle.lock_step.specs.Glue.{end_of, with_record, with_record_at, with_turn, state_of, state_on, passes_on, IsPassed, IsAdded, AreStates}
+use Rattle.lock_step.specs.Glue.{end_of, with_record_at, with_turn, state_of, state_on, passes_on, IsPassed, IsAdded, AreStates}
 
 -- ---- the frames of one vat
 

@@ -1,8 +1,6 @@
-use Rattle.std.proofs.Common.{[], ◌∷◌, ◌++◌, List, take, get_or, add-one, ◌∙◌, sym, ap, arith}
-use Rattle.std.proofs.Math.Seq.{take-suc}
+use Rattle.std.proofs.Common.{arith}
 use Rattle.std.proofs.lemmas.Grind.{common_steps}
 use Rattle.std.proofs.lemmas.List.{reverse-append}
-use Rattle.std.specs.Prelude.{reverse}
 use Rattle.lock_step.proofs.Ways.{added_one}
 use Rattle.lock_step.proofs.link_states.LinkStates.new.Goals as goal
 

@@ -1,0 +1,17 @@
+//! What is kept of a case while the records of its logs are taken one by one, in turns, with no log in memory.
+//!
+//! It stands on `turn_taking` for turns, on `frame_queue` for what passes on a link, on `case_book` for links, and on `erased`
+//! for the turns that its clauses speak of. [`LinkStates`] compares the ends of all links as turns are taken; what passed on a
+//! link by some turns is said in `specs/Links.antt`. `specs/Glue.antt` describes the tables, for the code's contracts alone.
+#![tactic(auto)]
+
+mod case_turns;
+mod counts;
+mod laws;
+mod link_state;
+mod link_states;
+mod link_table;
+
+pub use case_turns::CaseTurns;
+pub use laws::{links_are_on_their_connections, turns_are_records};
+pub use link_states::LinkStates;

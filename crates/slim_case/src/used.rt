@@ -32,19 +32,29 @@ impl Model for UsedConnections {
     ghost invariant = { λ used. AreUsed (reverse used.records.items) used.set.keys × IfSome used.last (Contains used.set.keys) };
 }
 
+/// The connection that a record uses.
+fn used_by(body: &Body) -> Option<u32>
+    ensures { result ≡ used_by body.now }
+{
+    match body.passage() {
+        Some((_, connection)) => Some(connection),
+        None => None,
+    }
+}
+
 /// Adds the connection that a record uses, if it uses one, to those of the records before it, of which one may be known.
 /// Answers one of them all.
-fn add(set: &mut BTreeSet<u32>, last: Option<u32>, body: &Body) -> Result<Option<u32>, AllocError>
-    requires { IfSome last (Contains set.old.keys) }
+fn add(set: &mut BTreeSet<u32>, known: Option<u32>, body: &Body) -> Result<Option<u32>, AllocError>
+    requires { IfSome known (Contains set.old.keys) }
     ensures used { (records : List Body) → AreUsed records set.old.keys
         → OnOk result (AreUsed (records ++ body.now ∷ []) set.new.keys) }
-    ensures last { IfOk result (λ last. IfSome last (Contains set.new.keys)) }
+    ensures known { IfOk result (λ known. IfSome known (Contains set.new.keys)) }
     ensures err { OnErr result (set.new.keys ≡ set.old.keys) }
 {
-    let Some((_, connection)) = body.passage() else {
-        return Ok(last);
+    let Some(connection) = used_by(body) else {
+        return Ok(known);
     };
-    if last != Some(connection) {
+    if known != Some(connection) {
         set.insert(connection)?;
     }
     Ok(Some(connection))

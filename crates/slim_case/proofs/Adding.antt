@@ -1,5 +1,5 @@
 -- The connections that the records use, with one record more.
-use Rattle.std.proofs.Common.{◌≡◌, ℕ, Bool, true, false, cond, List, [], ◌∷◌, ◌++◌, Option, Some, None, refl, ap, subst, sym, inl, inr, ◌∙◌, arith}
+use Rattle.std.proofs.Common.{◌≡◌, ℕ, true, false, cond, List, [], ◌∷◌, ◌++◌, Option, Some, None, ap, subst, sym, inl, inr, ◌∙◌, arith}
 use Rattle.std.specs.Prelude.{◌⊎◌, Contains, IfSome, nat_eq, not}
 use Rattle.std.specs.Option.{option_eq}
 use Rattle.std.specs.BTreeMap.{is_at}

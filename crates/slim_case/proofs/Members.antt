@@ -1,7 +1,7 @@
 -- Lists that have the same numbers, however often, have the same least one.
-use Rattle.std.proofs.Common.{◌≡◌, ℕ, Bool, true, false, List, [], ◌∷◌, Option, Some, None, fold, refl, ap, subst, sym, inl, inr, arith}
+use Rattle.std.proofs.Common.{◌≡◌, ℕ, Bool, true, List, [], ◌∷◌, Option, Some, None, fold, refl, ap, subst, inl, inr, arith}
 use Rattle.std.specs.Prelude.{◌⊎◌, Contains, filter}
-use Rattle.std.proofs.lemmas.List.Elements.{All-contains, All-filter, All-contains_itself, Contains-push, Contains-append_right, Contains-append_cases, Contains-push_cases, filter_passes}
+use Rattle.std.proofs.lemmas.List.Elements.{All-contains, All-filter, All-contains_itself, Contains-append_right, Contains-append_cases, Contains-push_cases, filter_passes}
 use Rattle.case_book.specs.Least.{lower, least, IsLeast}
 use Rattle.case_book.proofs.Lowest.{least_of, only_least}
 use Rattle.case_book.proofs.Numbers.{bool_cases}

@@ -8,11 +8,13 @@
 #![tactic(auto)]
 
 mod case;
+mod counts;
 mod log;
 mod repeats;
 mod ties;
 mod used;
 
 pub use case::SlimCase;
+pub use counts::count_records;
 pub use log::SlimLog;
 pub use used::UsedConnections;

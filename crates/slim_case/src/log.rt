@@ -1,0 +1,58 @@
+//! Logs whose records are gone.
+
+ghost use Rattle.std.specs.Prelude.{◌≡◌};
+ghost use Rattle.slim_case.specs.Used.{AreUsed};
+
+use crate::used::UsedConnections;
+use std::collections::BTreeSet;
+use std::marker::Model;
+use vat_rules::SlimFinding;
+
+/// What is left of a log that was audited: what was found, and which connections it used.
+#[derive(Drop)]
+pub struct SlimLog {
+    finding: SlimFinding,
+    used: UsedConnections,
+}
+
+impl Model for SlimLog {
+    ghost use Rattle.std.specs.Prelude.{◌≡◌};
+    ghost use Rattle.vat_rules.specs.Audit.{Found};
+
+    ghost Value = { Found };
+
+    ghost view = { λ log. log.finding };
+
+    ghost invariant = { λ log. log.used ≡ log.finding.log.records };
+}
+
+impl SlimLog {
+    /// The log that was audited, with the connections that its records use. They must have been told the log's own records.
+    pub fn new(finding: SlimFinding, used: UsedConnections) -> SlimLog
+        requires { used ≡ finding.log.records }
+        ensures { result ≡ finding }
+    {
+        SlimLog { finding, used }
+    }
+
+    /// The vat whose log it was.
+    pub fn vat(&self) -> u32
+        ensures { result ≡ self.now.log.vat }
+    {
+        self.finding.vat()
+    }
+
+    /// What its audit found.
+    pub fn finding(&self) -> &SlimFinding
+        ensures { result.now ≡ self.now }
+    {
+        &self.finding
+    }
+
+    /// The connections that its records used, each once.
+    pub(crate) fn connections(&self) -> &BTreeSet<u32>
+        ensures { AreUsed self.now.log.records result.now.keys }
+    {
+        self.used.connections()
+    }
+}

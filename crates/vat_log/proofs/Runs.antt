@@ -119,7 +119,7 @@ stands limit bytes log end fits p =
 abbrev Reads : List ℕ → Log → ℕ → Type 0
 Reads bytes log at = IsReadTo record_limit bytes log at
 
-pub limit_is : record_limit ≡ 1048576
+pub limit_is : record_limit ≡ 4294967295
 unfolding record_limit
 limit_is = refl
 
@@ -142,15 +142,14 @@ more_spelled log x =
     ∙ flat_map_more (record_bytes log.version) (magic ++ vat) log.records x
     ∙ append_assoc magic vat (Text log.version (log.records ++ x ∷ []))
 
-pub read_on : (bytes : List ℕ) (log : Log) (at : ℕ) (kind : RecordKind) (x : Body) (after : ℕ) → Reads bytes log at → at < length bytes → length log.records < record_limit
+pub read_on : (bytes : List ℕ) (log : Log) (at : ℕ) (kind : RecordKind) (x : Body) (after : ℕ) → All (λ octet. octet < 2 ^ 8) bytes → Reads bytes log at → at < length bytes → length log.records < record_limit
     → kind_at bytes at ≡ Ok kind → fields_at log.version kind bytes (at + 1) ≡ Ok (x, after) → Reads bytes (with_record x log) after
-read_on bytes log at kind x after r lt room k f =
+read_on bytes log at kind x after octets r lt room k f =
     let version = log.version in
-    let one = record_takes version bytes (IsBytes-from_all bytes r.octets) at kind (x, after) lt k f in
+    let one = record_takes version bytes (IsBytes-from_all bytes octets) at kind (x, after) lt k f in
     let joined = Spans-join bytes 0 (log_bytes log) at (record_bytes version x) after (read_spans bytes log at r) one.0 in
     let all : Spans bytes 0 (log_bytes (with_record x log)) after = subst (λ (t : List ℕ). Spans bytes 0 t after) (more_spelled log x) joined in
     record {
-      octets = r.octets;
       parts = all.parts;
       places = omega (arith, all.places);
       within = all.within;
@@ -182,7 +181,6 @@ read_none bytes version vat at octets v n =
     let all : Spans bytes 0 (magic ++ (number_bytes w32 vat ++ [])) at = subst (λ (t : List ℕ). Spans bytes 0 (magic ++ t) at) (sym (append-nil (number_bytes w32 vat))) joined in
     let whole : record_limit - 0 ≡ record_limit = omega arith in
     record {
-      octets = octets;
       parts = all.parts;
       places = omega (arith, all.places);
       within = all.within;

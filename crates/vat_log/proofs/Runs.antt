@@ -23,7 +23,7 @@ use Rattle.vat_log.proofs.FieldLaws.{u32_field}
 use Rattle.vat_log.proofs.BodyLaws.{FitsWide, fields_again}
 use Rattle.vat_log.proofs.LogLaws.{kind_again, record_takes, begins, version_was, magic_long, version_again}
 
-abbrev Text : LogVersion → List Body → List ℕ
+abbrev pub Text : LogVersion → List Body → List ℕ
 Text version xs = flat_map (record_bytes version) xs
 
 -- ---- what stands at a place
@@ -35,16 +35,16 @@ pub record IsNext (version : LogVersion) (bytes : List ℕ) (at : ℕ) (x : Body
   pub kind : kind_at bytes at ≡ Ok (kind_in x)
   pub fields : fields_at version (kind_in x) bytes (at + 1) ≡ Ok (x, after)
 
-next_at : (version : LogVersion) (bytes : List ℕ) (at : ℕ) (x : Body) (end : ℕ) → FitsWide version x → Spans bytes at (record_bytes version x) end → (at < length bytes) × (kind_at bytes at ≡ Ok (kind_in x)) × (fields_at version (kind_in x) bytes (at + 1) ≡ Ok (x, end))
+pub next_at : (version : LogVersion) (bytes : List ℕ) (at : ℕ) (x : Body) (end : ℕ) → FitsWide version x → Spans bytes at (record_bytes version x) end → (at < length bytes) × (kind_at bytes at ≡ Ok (kind_in x)) × (fields_at version (kind_in x) bytes (at + 1) ≡ Ok (x, end))
 next_at version bytes at x end fit p =
     let code = kind_byte (kind_in x) ∷ [] in
     let k = kind_again bytes at (kind_in x) (at + 1) (Spans-first bytes at code (fields_bytes version x) end p) in
     (k.0, k.1, fields_again version x bytes (at + 1) end fit (Spans-second bytes at code (fields_bytes version x) end p))
 
-abbrev first_end : LogVersion → ℕ → Body → ℕ
+abbrev pub first_end : LogVersion → ℕ → Body → ℕ
 first_end version at x = at + length (record_bytes version x)
 
-first_of : (version : LogVersion) (bytes : List ℕ) (at : ℕ) (x : Body) (xs : List Body) (end : ℕ) → Spans bytes at (Text version (x ∷ xs)) end
+pub first_of : (version : LogVersion) (bytes : List ℕ) (at : ℕ) (x : Body) (xs : List Body) (end : ℕ) → Spans bytes at (Text version (x ∷ xs)) end
     → Spans bytes at (record_bytes version x) (first_end version at x) × Spans bytes (first_end version at x) (Text version xs) end
 first_of version bytes at x xs end p =
     let all : Spans bytes at (record_bytes version x ++ Text version xs) end = rw flat_map-cons at p in
@@ -81,7 +81,7 @@ ahead version bytes (x ∷ xs) (y ∷ ys) at mid end fx fy p q le =
 
 -- ---- logs at the begin of bytes
 
-vat_long : (vat : ℕ) → 8 + length (number_bytes w32 vat) ≡ 12
+pub vat_long : (vat : ℕ) → 8 + length (number_bytes w32 vat) ≡ 12
 unfolding number_bytes
 vat_long vat = refl
 
@@ -165,7 +165,7 @@ read_on bytes log at kind x after octets r lt room k f =
       so_far = record_goes_on version bytes log.records record_limit at kind x after (records_at version bytes record_limit 12) lt room k f r.so_far;
     }
 
-nothing_before : (read : Result (List Body) LogError) → (read >>= λ others. Ok ([] ++ others)) ≡ read
+pub nothing_before : (read : Result (List Body) LogError) → (read >>= λ others. Ok ([] ++ others)) ≡ read
 nothing_before (Ok xs) = refl
 nothing_before (Err e) = refl
 

@@ -39,8 +39,8 @@ vat_longer : (bytes more : List ℕ) → 12 ≤ length bytes → number_at w32 (
 unfolding number_at
 vat_longer bytes more le = rw (le-ltb (length bytes) 12 le, le-ltb (length (bytes ++ more)) 12 (omega (arith, length-append bytes more)), around_range [] bytes more 8 12 (omega arith) le) refl
 
-abbrev header : LogVersion → ℕ → Log
-header version vat = record { version = version; vat = vat; records = [] }
+abbrev pub headed : LogVersion → ℕ → Log
+headed version vat = record { version = version; vat = vat; records = [] }
 
 header_longer : (bytes more : List ℕ) → 12 ≤ length bytes → header_of (bytes ++ more) ≡ header_of bytes
 unfolding header_of
@@ -49,9 +49,9 @@ header_longer bytes more le = rw (version_longer bytes more (omega arith), vat_l
 header_fails : (bytes : List ℕ) (e : LogError) → header_of bytes ≡ Err e → log_of bytes ≡ Err e
 unfolding header_of log_within
 header_fails bytes e h =
-    elim (bind_err (version_at bytes) (λ version. number_at w32 bytes 8 >>= λ vat. Ok (header version vat.0)) e h) [
+    elim (bind_err (version_at bytes) (λ version. number_at w32 bytes 8 >>= λ vat. Ok (headed version vat.0)) e h) [
       | inl v ↦ rw v refl
-      | inr v ↦ elim (bind_err (number_at w32 bytes 8) (λ vat. Ok (header v.0 vat.0)) e v.2) [
+      | inr v ↦ elim (bind_err (number_at w32 bytes 8) (λ vat. Ok (headed v.0 vat.0)) e v.2) [
         | inl n ↦ rw (v.1, n) refl
         | inr n ↦ absurd (cc n.2)
       ]
@@ -68,20 +68,20 @@ no_log_begins window is_over e h whole all m =
     ] in
     (failed, header_fails all e failed)
 
-header_long : (version : LogVersion) (vat : ℕ) → length (log_bytes (header version vat)) ≡ 12
+header_long : (version : LogVersion) (vat : ℕ) → length (log_bytes (headed version vat)) ≡ 12
 header_long version vat = omega (arith, length-append (log_magic version) (number_bytes w32 vat ++ []), length-append (number_bytes w32 vat) [], magic_long version, vat_long vat)
 
-pub holds_header : (window : List ℕ) (version : LogVersion) (vat : ℕ) → All (λ octet. octet < 2 ^ 8) window → header_of window ≡ Ok (header version vat) → Holds window window (header version vat) 0 12
+pub holds_header : (window : List ℕ) (version : LogVersion) (vat : ℕ) → All (λ octet. octet < 2 ^ 8) window → header_of window ≡ Ok (headed version vat) → Holds window window (headed version vat) 0 12
 holds_header window version vat octets h =
-    let p = header_parts window (header version vat) h in
+    let p = header_parts window (headed version vat) h in
     let first = read_none window p.0 p.1.0 p.1.1 octets p.2 p.3 in
-    let r : IsReadTo record_limit window (header version vat) p.1.1 = subst (λ (l : Log). IsReadTo record_limit window l p.1.1) p.4 first in
+    let r : IsReadTo record_limit window (headed version vat) p.1.1 = subst (λ (l : Log). IsReadTo record_limit window l p.1.1) p.4 first in
     let twelve : p.1.1 ≡ 12 = omega (arith, r.places, header_long version vat) in
     record {
       octets = octets;
       within = omega (arith, r.within);
       from_begin = refl;
-      parts = subst (λ (n : ℕ). window ≡ log_bytes (header version vat) ++ drop n window) twelve r.parts;
+      parts = subst (λ (n : ℕ). window ≡ log_bytes (headed version vat) ++ drop n window) twelve r.parts;
       places = header_long version vat;
       fits = r.fits;
     }

@@ -92,6 +92,8 @@ fn first_window<P: Pieces>(alloc: Global, pieces: &mut P) -> Result<Bytes, ReadF
     requires { P.came pieces.old ≡ [] }
     ensures came { IfOk result (λ window. P.came pieces.new ≡ window) }
     ensures long { IfOk result (λ window. length window < 12 → P.is_over pieces.new ≡ true) }
+    ensures err { IfErr result (λ fault.
+        NoLogBegins fault (P.came pieces.new) (P.is_over pieces.new)) }
 {
     let mut window = Bytes::new();
     while window.len() < HEADER {

@@ -35,7 +35,7 @@ pub struct LogReader {
 }
 
 impl Model for LogReader {
-    ghost use Rattle.std.specs.Prelude.{◌≡◌, length, reverse};
+    ghost use Rattle.std.specs.Prelude.{◌≡◌, ◌<◌, ◌^◌, All, length, reverse};
     ghost use Rattle.vat_log.specs.Fits.{record_limit};
     ghost use Rattle.vat_log.specs.Reader.{IsReadTo};
     ghost use Rattle.vat_log.specs.Runs.{ReadSoFar};
@@ -48,6 +48,7 @@ impl Model for LogReader {
     } };
 
     ghost invariant = { λ reader. (length reader.given.items ≡ reader.count)
+        × All (λ octet. octet < 2 ^ 8) reader.bytes
         × IsReadTo record_limit reader.bytes
         (record { version = reader.version; vat = reader.vat; records = reverse reader.given.items }) reader.at };
 }
@@ -110,7 +111,7 @@ impl LogReader {
         }
     }
 
-    /// How many records were given so far, 1,048,576 at most.
+    /// How many records were given so far, 4,294,967,295 at most.
     pub fn given(&self) -> usize
         ensures { result ≡ length self.now.log.records }
     {

@@ -1,6 +1,7 @@
 //! Logs of which the bytes alone are kept.
 
 ghost use Rattle.std.specs.Prelude.{◌≡◌, ◌≤◌, length};
+ghost use Rattle.vat_log.specs.Fits.{record_limit};
 ghost use Rattle.vat_log.specs.Spelling.{log_bytes};
 
 use crate::body::Body;
@@ -67,10 +68,10 @@ impl SpelledLog {
         self.header.vat
     }
 
-    /// How many records there are, 1,048,576 at most.
+    /// How many records there are, 4,294,967,295 at most.
     pub fn len(&self) -> usize
         ensures value { result ≡ length self.now.records }
-        ensures bound { result ≤ 1048576 }
+        ensures bound { result ≤ record_limit }
     {
         self.count
     }

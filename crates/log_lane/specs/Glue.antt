@@ -1,0 +1,21 @@
+-- For the code's contracts, and no part of the meaning: what a lane keeps of one log.
+use Rattle.std.specs.Prelude.{◌≡◌, Bool, true, false, List, ◌++◌, Option, Some, None}
+use Rattle.cap_reader.specs.Defaults.{default_limits}
+use Rattle.vat_log.specs.Streams.{StreamSoFar}
+use Rattle.vat_log.specs.declared.body.Body.{Body}
+use Rattle.vat_rules.specs.Audited.{Audited}
+use Rattle.log_lane.specs.Lanes.{LaneSoFar, EndsSo}
+use Rattle.log_lane.specs.declared.ending.Ending.{Ending}
+
+-- what was read, unless memory was refused
+abbrev pub lane_unless : Bool → StreamSoFar → List Body → Option Ending → Option LaneSoFar
+lane_unless true read ahead ending = None
+lane_unless false read ahead ending = Some (record { read = read; ahead = ahead; ending = ending })
+
+-- all parts are of the same log, and the records ahead are its last
+pub record AreOfOne (read : StreamSoFar) (audit : Audited) (used ahead : List Body) (ending : Option Ending) : Type 0 where
+  pub audited : audit ≡ record { log = read.log; limits = default_limits }
+  pub used_too : used ≡ read.log.records
+  pub before : List Body
+  pub last : read.log.records ≡ before ++ ahead
+  pub ended : EndsSo ending read

@@ -1,6 +1,6 @@
 //! A log that is read ahead.
 
-ghost use Rattle.std.specs.Prelude.{◌≡◌, ◌×◌, ◌<◌, false, true, [], Some, None, Ok, drop, IfOk, IfErr, IfSome, OnOk, OnErr, option_map, slice_get};
+ghost use Rattle.std.specs.Prelude.{◌≡◌, ◌<◌, false, true, [], Some, None, Ok, drop, IfOk, IfErr, IfSome, OnOk, OnErr, option_map, slice_get};
 ghost use Rattle.std.specs.Option.{option_copied};
 ghost use Rattle.cap_reader.specs.Defaults.{default_limits};
 ghost use Rattle.vat_log.specs.Reading.{log_of};

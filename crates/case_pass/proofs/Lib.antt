@@ -1,0 +1,3 @@
+pub mod Turned
+pub mod Sided
+pub mod Stepping

@@ -1,0 +1,2 @@
+pub mod Fake
+pub mod Pass

@@ -1,0 +1,70 @@
+-- The lanes of a case that are read side by side, and the turns that their vats took.
+use Rattle.std.specs.Prelude.{◌≡◌, ℕ, ◌<◌, Bool, false, List, [], ◌∷◌, ◌++◌, length, map, reverse, Option, Some, None, Contains, slice_get}
+use Rattle.vat_log.specs.declared.body.Body.{Body}
+use Rattle.turn_taking.specs.Turns.{Turns, records_of, may_follow, AreInOrder}
+use Rattle.case_pass.specs.Fake.{LaneSoFar, Taken, GoesOn, HasNext}
+
+-- the vat whose log a lane reads
+abbrev pub vat_of : LaneSoFar → ℕ
+vat_of lane = lane.read.log.vat
+
+-- a lane stands at a place, and nothing was refused to it
+abbrev pub IsLaneAt : List (Option LaneSoFar) → ℕ → LaneSoFar → Type 0
+IsLaneAt lanes i lane = slice_get lanes i ≡ Some (Some lane)
+
+-- nothing was refused to any lane
+abbrev pub AreThere : List (Option LaneSoFar) → Type 0
+AreThere lanes = (i : ℕ) → i < length lanes → (lane : LaneSoFar) × IsLaneAt lanes i lane
+
+-- Of each log what was read is what its vat took and what is ahead; no two lanes are of one vat, and each turn is of a lane's
+-- vat.
+pub record AreInStep (lanes : List (Option LaneSoFar)) (turns : Turns) : Type 0 where
+  pub each : (i : ℕ) (lane : LaneSoFar) → IsLaneAt lanes i lane → lane.read.log.records ≡ records_of (vat_of lane) turns ++ lane.ahead
+  pub apart : (i j : ℕ) (one other : LaneSoFar) → IsLaneAt lanes i one → IsLaneAt lanes j other → vat_of one ≡ vat_of other → i ≡ j
+  pub known : (turn : ℕ × Body) → Contains turns turn → (i : ℕ) × (lane : LaneSoFar) × IsLaneAt lanes i lane × (vat_of lane ≡ turn.0)
+
+-- the first record ahead, if there is one, may not come next
+abbrev pub IsHeldUp : Turns → LaneSoFar → Type 0
+IsHeldUp turns lane = (next : Body) → slice_get lane.ahead 0 ≡ Some next → may_follow turns (vat_of lane) next ≡ false
+
+-- a vat's turns with these records, the newest first
+abbrev pub turns_with : ℕ → List Body → Turns
+turns_with v records = map (λ body. (v, body)) (reverse records)
+
+-- a vat took its turns with records that were ahead in its lane, each in order, and as many as these
+pub record TookTurns (lane after : LaneSoFar) (taken more : Taken) (count : ℕ) : Type 0 where
+  pub read : after.read ≡ lane.read
+  pub ending : after.ending ≡ lane.ending
+  pub records : List Body
+  pub counted : length records ≡ count
+  pub ahead : lane.ahead ≡ records ++ after.ahead
+  pub links : more.links ≡ taken.links
+  pub in_turn : more.in_order ≡ turns_with (vat_of lane) records ++ taken.in_order
+  pub all : more.all ≡ turns_with (vat_of lane) records ++ taken.all
+  pub in_order : AreInOrder taken.in_order → AreInOrder more.in_order
+
+-- each lane took its turns as far as these lanes, and whether any took one
+pub record IsRound (lanes after : List (Option LaneSoFar)) (taken more : Taken) (some : Bool) : Type 0 where
+  pub in_step : AreInStep lanes taken.in_order → AreInStep after more.in_order
+  pub in_order : AreInOrder taken.in_order → AreInOrder more.in_order
+  pub links : more.links ≡ taken.links
+  pub alike : taken.all ≡ taken.in_order → more.all ≡ more.in_order
+  pub reads : (i : ℕ) (lane : LaneSoFar) → IsLaneAt after i lane → (before : LaneSoFar) × IsLaneAt lanes i before × (lane.read ≡ before.read) × (lane.ending ≡ before.ending)
+  pub same : some ≡ false → (i : ℕ) (lane : LaneSoFar) → IsLaneAt after i lane → IsLaneAt lanes i lane
+  pub still : some ≡ false → (i : ℕ) (lane : LaneSoFar) → IsLaneAt after i lane → IsHeldUp more.in_order lane
+
+-- more was read ahead in each lane, unless memory was refused
+pub record AreFilled (lanes longer : List (Option LaneSoFar)) : Type 0 where
+  pub long : length longer ≡ length lanes
+  pub each : (i : ℕ) (lane one : LaneSoFar) → IsLaneAt lanes i lane → IsLaneAt longer i one → GoesOn lane one × HasNext one
+
+-- the turns were taken in order, all of them, and each lane goes on behind them
+pub record IsPass (lanes : List (Option LaneSoFar)) (taken : Taken) : Type 0 where
+  pub there : AreThere lanes
+  pub in_step : AreInStep lanes taken.in_order
+  pub in_order : AreInOrder taken.in_order
+  pub alike : taken.all ≡ taken.in_order
+
+-- no lane has a record that may come next: it has none ahead and no more is read, or its first is held up
+abbrev pub AreHeldUp : List (Option LaneSoFar) → Turns → Type 0
+AreHeldUp lanes turns = (i : ℕ) (lane : LaneSoFar) → IsLaneAt lanes i lane → IsHeldUp turns lane × HasNext lane

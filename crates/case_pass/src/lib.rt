@@ -1,0 +1,12 @@
+//! One pass over the logs of a case.
+#![tactic(auto)]
+
+mod fakes;
+mod rounds;
+mod steps;
+mod taking;
+
+pub use fakes::{Lane, Turns};
+pub use rounds::take_round;
+pub use steps::take_in_step;
+pub use taking::take_from;

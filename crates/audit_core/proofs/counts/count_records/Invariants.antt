@@ -4,4 +4,4 @@ use Rattle.audit_core.specs.Report.{records_in}
 use Rattle.audit_core.proofs.counts.count_records.Given as goal
 
 abbrev pub invariant-loop-log : goal.invariant-loop-log
-invariant-loop-log l = (l.count ≡ records_in (map arc_value (take l.log-index l.logs))) × (l.count ≤ l.log-index * 1048576)
+invariant-loop-log l = (l.count ≡ records_in (map arc_value (take l.log-index l.logs))) × (l.count ≤ l.log-index * 4294967295)

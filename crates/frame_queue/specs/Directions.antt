@@ -22,6 +22,11 @@ pub record BothWays : Type 0 where
   pub to_first : Direction
   pub to_second : Direction
 
+-- the direction to an end
+abbrev pub way_to : End → BothWays → Direction
+way_to First ways = ways.to_first
+way_to Second ways = ways.to_second
+
 -- before any frame
 abbrev pub nothing_passed : BothWays
 nothing_passed = record { to_first = record { sent = []; received = [] }; to_second = record { sent = []; received = [] } }

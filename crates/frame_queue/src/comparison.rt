@@ -1,6 +1,6 @@
 //! Two lists of frames, compared as they grow.
 
-ghost use Rattle.std.specs.Prelude.{◌≡◌, ℕ, List, [], ◌∷◌, ◌++◌, length, None, OnOk, OnErr};
+ghost use Rattle.std.specs.Prelude.{◌≡◌, ◌<◌, ℕ, List, [], ◌∷◌, ◌++◌, length, None, IsOk, OnOk, OnErr};
 ghost use Rattle.frame_queue.specs.Glue.{AreCompared};
 
 use crate::waiting::Waiting;
@@ -33,6 +33,7 @@ impl Comparison {
             → AreCompared own other self.old.difference self.old.waiting
             → AreCompared (own ++ frame.now ∷ []) other self.new.difference self.new.waiting) }
         ensures err { OnErr result (self.new ≡ self.old) }
+        ensures met { count < others → IsOk result }
     {
         if self.difference.is_some() {
             return Ok(());

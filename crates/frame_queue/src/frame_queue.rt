@@ -1,6 +1,6 @@
 //! One direction of a connection.
 
-ghost use Rattle.std.specs.Prelude.{◌≡◌, [], length, IfNone, IfSome, OnOk, OnErr};
+ghost use Rattle.std.specs.Prelude.{◌≡◌, ◌<◌, [], length, IfNone, IfSome, IsOk, OnOk, OnErr};
 ghost use Rattle.frame_queue.specs.Directions.{with_received, with_sent};
 ghost use Rattle.link_check.specs.Glue.{first_fault};
 ghost use Rattle.link_check.specs.Prefix.{IsLeastFault, IsPrefix};
@@ -71,6 +71,8 @@ impl FrameQueue {
     pub fn send(&mut self, frame: &Bytes) -> Result<(), AllocError>
         ensures ok { OnOk result (self.new ≡ with_sent frame.now self.old) }
         ensures err { OnErr result (self.new ≡ self.old) }
+        // A frame that was received already takes no memory.
+        ensures met { length self.old.sent < length self.old.received → IsOk result }
     {
         let Some(count) = self.sent_count.checked_add(1) else {
             return Err(AllocError);
@@ -90,6 +92,8 @@ impl FrameQueue {
     pub fn receive(&mut self, frame: &Bytes) -> Result<(), AllocError>
         ensures ok { OnOk result (self.new ≡ with_received frame.now self.old) }
         ensures err { OnErr result (self.new ≡ self.old) }
+        // A frame that was sent already takes no memory.
+        ensures met { length self.old.received < length self.old.sent → IsOk result }
     {
         let Some(count) = self.received_count.checked_add(1) else {
             return Err(AllocError);

@@ -1,7 +1,7 @@
 //! Both directions of a connection.
 
-ghost use Rattle.std.specs.Prelude.{◌≡◌, ◌+◌, [], length, OnOk, OnErr};
-ghost use Rattle.frame_queue.specs.Directions.{between, nothing_passed, received_by, sent_by};
+ghost use Rattle.std.specs.Prelude.{◌≡◌, ◌+◌, ◌<◌, length, IsOk, OnOk, OnErr};
+ghost use Rattle.frame_queue.specs.Directions.{between, nothing_passed, received_by, sent_by, way_to};
 ghost use Rattle.link_check.specs.Prefix.{Ends, IsOutcome};
 ghost use Rattle.link_check.specs.declared.link_outcome.LinkOutcome.{LinkOutcome};
 
@@ -70,6 +70,8 @@ impl LinkQueues {
     pub fn receive(&mut self, end: End, frame: &Bytes) -> Result<(), AllocError>
         ensures ok { OnOk result (self.new ≡ received_by end frame.now self.old) }
         ensures err { OnErr result (self.new ≡ self.old) }
+        // A frame that was sent already takes no memory.
+        ensures met { length (way_to end self.old).received < length (way_to end self.old).sent → IsOk result }
     {
         match end {
             End::First => self.to_first.receive(frame),

@@ -5,7 +5,7 @@ use Rattle.std.specs.List.{filter_map, cons_option}
 use Rattle.std.proofs.lemmas.Bool.{eq-eqb}
 use Rattle.std.proofs.lemmas.Bool.Decides.{nat_tests}
 use Rattle.std.proofs.lemmas.List.{reverse-append, append-nil}
-use Rattle.std.proofs.lemmas.List.Sums.{sum_by-cons, sum_by_push}
+use Rattle.std.proofs.lemmas.List.Sums.{sum_by-cons, sum_by_push, count_by-le-length}
 use Rattle.vat_log.specs.declared.body.Body.{Body}
 use Rattle.vat_log.specs.declared.body.Body.TheVariants.{Send}
 use Rattle.vat_log.specs.Passages.{sends_frame, receives_frame}
@@ -90,3 +90,6 @@ balance v k (turn ∷ turns) =
 -- a frame is under way where more were sent than received
 pub some_under_way : (r s : ℕ) → nat_lt 0 (s - r) ≡ nat_lt r s
 some_under_way r s = grind (arith, nat_tests)
+
+pub passed_le : (v k : ℕ) (turns : Turns) → passed_by v k turns ≤ length turns
+passed_le v k turns = count_by-le-length (λ t. (t.0 == v) && passes_frame k t.1) turns

@@ -1,90 +1,124 @@
 -- For the code's contracts, and no part of the meaning: tables of how many records vats took, and how many frames passed.
-use Rattle.std.specs.Prelude.{◌≡◌, ℕ, ◌+◌, ◌<◌, ◌^◌, ◌==◌, ◌&&◌, ◌||◌, Bool, length, unwrap_or, count_by, if◌then◌else◌}
+use Rattle.std.specs.Prelude.{◌≡◌, ℕ, ◌+◌, ◌<◌, ◌^◌, ◌==◌, ◌&&◌, ◌||◌, Bool, length, Option, Some, None, unwrap_or, count_by, if◌then◌else◌}
 use Rattle.std.specs.BTreeMap.{get}
-use Rattle.std.specs.Ordering.{nat_cmp, ordering_then}
-use Rattle.std.specs.declared.cmp.Ordering.{Ordering}
+use Rattle.std.specs.Ordering.{nat_cmp}
 use Rattle.vat_log.specs.Passages.{sends_frame, receives_frame}
 use Rattle.vat_log.specs.declared.body.Body.{Body}
 use Rattle.turn_taking.specs.declared.counts.Counts.{Counts}
-use Rattle.turn_taking.specs.declared.counts.PairCounts.{PairCounts}
+use Rattle.turn_taking.specs.declared.line.End.{End}
+use Rattle.turn_taking.specs.declared.line.Line.{Line}
 use Rattle.turn_taking.specs.declared.tables.Tables.{Tables}
 use Rattle.turn_taking.specs.Turns.{Turns, records_of}
 
 -- ---- counts
 
--- by vat, then by connection
-abbrev pub key_cmp : ℕ × ℕ → ℕ × ℕ → Ordering
-key_cmp x y = ordering_then (nat_cmp x.0 y.0) (nat_cmp x.1 y.1)
-
--- how often a vat came up, or a connection
+-- how often a vat came up
 abbrev pub count_of : Counts → ℕ → ℕ
-count_of table n = unwrap_or (get nat_cmp table.counts n) 0
-
--- how often a vat came up on a connection
-abbrev pub count_at : PairCounts → ℕ → ℕ → ℕ
-count_at table v k = unwrap_or (get key_cmp table.counts (v, k)) 0
+count_of table v = unwrap_or (get nat_cmp table.counts v) 0
 
 -- none came up
 abbrev pub AreEmptyCounts : Counts → Type 0
-AreEmptyCounts table = (n : ℕ) → count_of table n ≡ 0
-
-abbrev pub AreEmptyPairs : PairCounts → Type 0
-AreEmptyPairs table = (v k : ℕ) → count_at table v k ≡ 0
+AreEmptyCounts table = (v : ℕ) → count_of table v ≡ 0
 
 -- one came up once more
 abbrev pub IsRaised : ℕ → Counts → Counts → Type 0
-IsRaised number old new = (n : ℕ) → count_of new n ≡ count_of old n + (if number == n then 1 else 0)
-
-abbrev pub IsRaisedAt : ℕ → ℕ → PairCounts → PairCounts → Type 0
-IsRaisedAt vat connection old new = (v k : ℕ) → count_at new v k ≡ count_at old v k + (if (vat == v) && (connection == k) then 1 else 0)
+IsRaised vat old new = (v : ℕ) → count_of new v ≡ count_of old v + (if vat == v then 1 else 0)
 
 -- every count is as it was
 abbrev pub HaveSameCounts : Counts → Counts → Type 0
-HaveSameCounts old new = (n : ℕ) → count_of new n ≡ count_of old n
+HaveSameCounts old new = (v : ℕ) → count_of new v ≡ count_of old v
 
-abbrev pub HaveSamePairs : PairCounts → PairCounts → Type 0
-HaveSamePairs old new = (v k : ℕ) → count_at new v k ≡ count_at old v k
+-- ---- lines
+
+-- how many frames a vat sent or received at an end
+abbrev pub passed_at : End → ℕ → ℕ
+passed_at end v = if end.vat == v then end.passed else 0
+
+-- the same, where there is an end
+abbrev pub passed_if : Option End → ℕ → ℕ
+passed_if None v = 0
+passed_if (Some end) v = passed_at end v
+
+-- how many frames a vat sent or received on a line
+abbrev pub passed_of : Line → ℕ → ℕ
+passed_of line v = passed_at line.first v + passed_if line.second v + count_of line.others v
+
+-- a line says what it said
+pub record IsSameLine (old new : Line) : Type 0 where
+  pub passed : (v : ℕ) → passed_of new v ≡ passed_of old v
+  pub sent : new.sent ≡ old.sent
+
+-- a vat passed one frame more
+pub record IsRaisedLine (vat : ℕ) (old new : Line) : Type 0 where
+  pub passed : (v : ℕ) → passed_of new v ≡ passed_of old v + (if vat == v then 1 else 0)
+  pub sent : new.sent ≡ old.sent
+
+-- a vat sent a frame, or received one
+pub record IsPassedLine (vat : ℕ) (sends : Bool) (old new : Line) : Type 0 where
+  pub passed : (v : ℕ) → passed_of new v ≡ passed_of old v + (if vat == v then 1 else 0)
+  pub sent : new.sent ≡ old.sent + (if sends then 1 else 0)
+
+-- the same of the first frame
+pub record IsBegun (vat : ℕ) (sends : Bool) (line : Line) : Type 0 where
+  pub passed : (v : ℕ) → passed_of line v ≡ (if vat == v then 1 else 0)
+  pub sent : line.sent ≡ (if sends then 1 else 0)
 
 -- ---- tables
+
+-- how many frames a vat sent or received on a line, and how many all vats sent, where there is a line
+abbrev pub passed_in : Option Line → ℕ → ℕ
+passed_in None v = 0
+passed_in (Some line) v = passed_of line v
+
+abbrev pub sent_in : Option Line → ℕ
+sent_in None = 0
+sent_in (Some line) = line.sent
+
+-- the same on a connection
+abbrev pub passed_on : Tables → ℕ → ℕ → ℕ
+passed_on tables v k = passed_in (get nat_cmp tables.lines k) v
+
+abbrev pub sent_on : Tables → ℕ → ℕ
+sent_on tables k = sent_in (get nat_cmp tables.lines k)
 
 -- every count is as it was
 pub record AreSameTables (old new : Tables) : Type 0 where
   pub records : HaveSameCounts old.records new.records
-  pub passed : HaveSamePairs old.passed new.passed
-  pub sent : HaveSameCounts old.sent new.sent
+  pub passed : (v k : ℕ) → passed_on new v k ≡ passed_on old v k
+  pub sent : (k : ℕ) → sent_on new k ≡ sent_on old k
 
 -- nothing is counted
 pub record AreEmpty (tables : Tables) : Type 0 where
   pub records : AreEmptyCounts tables.records
-  pub passed : AreEmptyPairs tables.passed
-  pub sent : AreEmptyCounts tables.sent
+  pub passed : (v k : ℕ) → passed_on tables v k ≡ 0
+  pub sent : (k : ℕ) → sent_on tables k ≡ 0
 
 -- no count of frames is full
 pub record AreRoomy (tables : Tables) : Type 0 where
-  pub passed : (v k : ℕ) → count_at tables.passed v k + 1 < 2 ^ 64
-  pub sent : (k : ℕ) → count_of tables.sent k + 1 < 2 ^ 64
+  pub passed : (v k : ℕ) → passed_on tables v k + 1 < 2 ^ 64
+  pub sent : (k : ℕ) → sent_on tables k + 1 < 2 ^ 64
 
--- a vat sent a frame on a connection
-pub record IsSent (vat connection : ℕ) (old new : Tables) : Type 0 where
+-- a vat sent a frame on a connection, or received one
+pub record IsPassed (vat connection : ℕ) (sends : Bool) (old new : Tables) : Type 0 where
   pub records : HaveSameCounts old.records new.records
-  pub passed : IsRaisedAt vat connection old.passed new.passed
-  pub sent : IsRaised connection old.sent new.sent
+  pub passed : (v k : ℕ) → passed_on new v k ≡ passed_on old v k + (if (vat == v) && (connection == k) then 1 else 0)
+  pub sent : (k : ℕ) → sent_on new k ≡ sent_on old k + (if sends && (connection == k) then 1 else 0)
 
 -- a record sends or receives a frame on the connection
 abbrev pub passes_frame : ℕ → Body → Bool
 passes_frame k body = sends_frame k body || receives_frame k body
 
--- a vat passed the frame of its record, if there is one
-pub record IsPassed (vat : ℕ) (body : Body) (old new : Tables) : Type 0 where
+-- a vat passed the frame of its record, if it has one
+pub record IsNoted (vat : ℕ) (body : Body) (old new : Tables) : Type 0 where
   pub records : HaveSameCounts old.records new.records
-  pub passed : (v k : ℕ) → count_at new.passed v k ≡ count_at old.passed v k + (if (vat == v) && passes_frame k body then 1 else 0)
-  pub sent : (k : ℕ) → count_of new.sent k ≡ count_of old.sent k + (if sends_frame k body then 1 else 0)
+  pub passed : (v k : ℕ) → passed_on new v k ≡ passed_on old v k + (if (vat == v) && passes_frame k body then 1 else 0)
+  pub sent : (k : ℕ) → sent_on new k ≡ sent_on old k + (if sends_frame k body then 1 else 0)
 
 -- a vat took a record
 pub record IsTaken (vat : ℕ) (body : Body) (old new : Tables) : Type 0 where
   pub records : IsRaised vat old.records new.records
-  pub passed : (v k : ℕ) → count_at new.passed v k ≡ count_at old.passed v k + (if (vat == v) && passes_frame k body then 1 else 0)
-  pub sent : (k : ℕ) → count_of new.sent k ≡ count_of old.sent k + (if sends_frame k body then 1 else 0)
+  pub passed : (v k : ℕ) → passed_on new v k ≡ passed_on old v k + (if (vat == v) && passes_frame k body then 1 else 0)
+  pub sent : (k : ℕ) → sent_on new k ≡ sent_on old k + (if sends_frame k body then 1 else 0)
 
 -- how many frames a vat sent or received on the connection
 abbrev pub passed_by : ℕ → ℕ → Turns → ℕ
@@ -97,6 +131,7 @@ sent_by_all k turns = count_by (λ turn. sends_frame k turn.1) turns
 -- the tables count these turns
 pub record AreTables (turns : Turns) (count : ℕ) (tables : Tables) : Type 0 where
   pub counted : length turns ≡ count
+  pub few : count < 2 ^ 64
   pub records : (v : ℕ) → count_of tables.records v ≡ length (records_of v turns)
-  pub passed : (v k : ℕ) → count_at tables.passed v k ≡ passed_by v k turns
-  pub sent : (k : ℕ) → count_of tables.sent k ≡ sent_by_all k turns
+  pub passed : (v k : ℕ) → passed_on tables v k ≡ passed_by v k turns
+  pub sent : (k : ℕ) → sent_on tables k ≡ sent_by_all k turns

@@ -8,6 +8,7 @@
 
 mod counts;
 mod laws;
+mod line;
 mod tables;
 mod turns_taken;
 

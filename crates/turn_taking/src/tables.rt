@@ -1,21 +1,20 @@
 //! How many records vats took, and how many frames passed.
 
 ghost use Rattle.std.specs.Prelude.{◌≡◌, ◌-◌, ◌+◌, ◌<◌, ◌^◌, ℕ, OnOk, OnErr};
-ghost use Rattle.turn_taking.specs.Glue.{count_of, count_at, AreEmpty, AreRoomy, IsSent, IsPassed, IsTaken, AreSameTables};
+ghost use Rattle.turn_taking.specs.Glue.{count_of, sent_on, passed_on, AreEmpty, AreRoomy, IsPassed, IsNoted, IsTaken, AreSameTables};
 
-use crate::counts::{Counts, PairCounts};
+use crate::counts::Counts;
+use crate::line::Line;
 use std::alloc::{AllocError, Global};
+use std::collections::BTreeMap;
 use vat_log::Body;
 
-/// How many records each vat took, and how many frames passed on each connection.
+/// How many records each vat took, and what passed on each connection.
 #[derive(Drop)]
 pub(crate) struct Tables {
-    /// Of each vat its records.
+    alloc: Global,
     records: Counts,
-    /// Of each vat and connection the frames that the vat sent or received there.
-    passed: PairCounts,
-    /// Of each connection the frames that vats sent there.
-    sent: Counts,
+    lines: BTreeMap<u32, Line>,
 }
 
 impl Tables {
@@ -24,9 +23,9 @@ impl Tables {
         ensures { AreEmpty result }
     {
         Tables {
+            alloc,
             records: Counts::new(alloc),
-            passed: PairCounts::new(alloc),
-            sent: Counts::new(alloc),
+            lines: BTreeMap::new(alloc),
         }
     }
 
@@ -39,36 +38,53 @@ impl Tables {
 
     /// How many more frames were sent on the connection than the vat sent or received there.
     pub(crate) fn under_way(&self, vat: u32, connection: u32) -> u64
-        ensures { result ≡ count_of self.now.sent connection - count_at self.now.passed vat connection }
+        requires { passed_on self.now vat connection < 2 ^ 64 }
+        ensures { result ≡ sent_on self.now connection - passed_on self.now vat connection }
     {
-        let sent = self.sent.of(connection);
-        sent.saturating_sub(self.passed.of(vat, connection))
+        match self.lines.get(&connection) {
+            Some(line) => line.sent().saturating_sub(line.passed(vat)),
+            None => 0,
+        }
     }
 
-    /// The vat sends a frame on the connection. The only error is that memory ran out, and then no count changes.
-    fn send(&mut self, vat: u32, connection: u32) -> Result<(), AllocError>
-        requires { AreRoomy self.old }
-        ensures ok { OnOk result (IsSent vat connection self.old self.new) }
+    /// The vat sends the connection's first frame, or receives it. The only error is that memory ran out, and then nothing
+    /// changes.
+    #[cold]
+    #[inline(never)]
+    fn begin(&mut self, vat: u32, connection: u32, sends: bool) -> Result<(), AllocError>
+        requires passed { (v : ℕ) → passed_on self.old v connection ≡ 0 }
+        requires sent { sent_on self.old connection ≡ 0 }
+        ensures ok { OnOk result (IsPassed vat connection sends self.old self.new) }
         ensures err { OnErr result (AreSameTables self.old self.new) }
     {
-        self.passed.raise(vat, connection)?;
-        if self.sent.raise(connection).is_err() {
-            self.passed.lower(vat, connection);
-            return Err(AllocError);
-        }
+        let line = Line::begin(self.alloc, vat, sends);
+        self.lines.insert(connection, line)?;
         Ok(())
     }
 
-    /// The vat passes a frame, if its record sends or receives one. The only error is that memory ran out, and then no count
+    /// The vat sends a frame on the connection, or receives one. The only error is that memory ran out, and then no count
     /// changes.
-    fn pass(&mut self, vat: u32, body: &Body) -> Result<(), AllocError>
+    fn pass(&mut self, vat: u32, connection: u32, sends: bool) -> Result<(), AllocError>
         requires { AreRoomy self.old }
-        ensures ok { OnOk result (IsPassed vat body.now self.old self.new) }
+        ensures ok { OnOk result (IsPassed vat connection sends self.old self.new) }
+        ensures err { OnErr result (AreSameTables self.old self.new) }
+    {
+        match self.lines.get_mut(&connection) {
+            Some(line) => line.pass(vat, sends),
+            None => self.begin(vat, connection, sends),
+        }
+    }
+
+    /// The vat's record, if it sends a frame or receives one, does so. The only error is that memory ran out, and then no
+    /// count changes.
+    fn note(&mut self, vat: u32, body: &Body) -> Result<(), AllocError>
+        requires { AreRoomy self.old }
+        ensures ok { OnOk result (IsNoted vat body.now self.old self.new) }
         ensures err { OnErr result (AreSameTables self.old self.new) }
     {
         match body {
-            Body::Send { connection, .. } => self.send(vat, *connection),
-            Body::Receive { connection, .. } => self.passed.raise(vat, *connection),
+            Body::Send { connection, .. } => self.pass(vat, *connection, true),
+            Body::Receive { connection, .. } => self.pass(vat, *connection, false),
             _ => Ok(()),
         }
     }
@@ -81,7 +97,7 @@ impl Tables {
         ensures err { OnErr result (AreSameTables self.old self.new) }
     {
         self.records.raise(vat)?;
-        if self.pass(vat, body).is_err() {
+        if self.note(vat, body).is_err() {
             self.records.lower(vat);
             return Err(AllocError);
         }

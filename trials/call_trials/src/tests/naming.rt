@@ -64,22 +64,22 @@ fn no_findings_name_no_steps(rt: HostRuntime) {
     assert!(rt; is_so(|| is_without_steps(rt.alloc())));
 }
 
-/// The record that a vat takes at this step of an order.
-fn record_at<'a>(
-    logs: &'a [Arc<VatLog>],
-    vats: &[u32],
-    step: usize,
-    vat: u32,
-) -> Option<&'a Record> {
+/// How many records of its log a vat took before this step of an order.
+fn taken_before(vats: &[u32], step: usize, vat: u32) -> usize {
     let mut taken: usize = 0;
     for (at, other) in vats.iter().enumerate() {
         if at < step && *other == vat {
             taken = taken.saturating_add(1);
         }
     }
+    taken
+}
+
+/// The record of this number of a vat's log.
+fn record_of(logs: &[Arc<VatLog>], vat: u32, number: usize) -> Option<&Record> {
     for log in logs {
         if log.vat() == vat {
-            return log.get(taken);
+            return log.get(number);
         }
     }
     None
@@ -94,7 +94,7 @@ fn found_by_turns(
     let vats = order.as_slice();
     let mut calls = CallOrder::new(alloc);
     for (step, vat) in vats.iter().enumerate() {
-        let Some(record) = record_at(logs, vats, step, *vat) else {
+        let Some(record) = record_of(logs, *vat, taken_before(vats, step, *vat)) else {
             return Err(NoAnswer::Otherwise);
         };
         calls.take(*vat, record.body())?;

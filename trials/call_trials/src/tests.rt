@@ -23,4 +23,5 @@ mod rules;
 mod states;
 mod tables;
 mod taps;
+mod turns;
 mod workers;

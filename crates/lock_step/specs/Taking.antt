@@ -5,7 +5,7 @@ use Rattle.vat_log.specs.declared.body.Body.TheVariants.{Deliver}
 use Rattle.turn_taking.specs.Turns.{Turns}
 use Rattle.case_book.specs.declared.link.Link.{Link}
 
--- the links of a case, the turns that were taken in order, and all turns: these and those that only passed
+-- the links of a case, the turns that were taken in order, and all of them: these, and the records that only passed
 pub record Taken : Type 0 where
   pub links : List Link
   pub in_order : Turns

@@ -18,9 +18,9 @@ use std::marker::Model;
 use turn_taking::TurnsTaken;
 use vat_log::Body;
 
-/// A case while the records of its logs are taken one by one, each with its vat. While an order fits, they are taken in that
-/// order; where none fits any more, the others only pass, so that the links are still compared to their ends. Contracts see
-/// the links of the case and the turns, the newest first; none of this, once memory was refused.
+/// A case while the records of its logs are taken one by one, each with its vat. As long as they come in an order, each is a
+/// turn. Where none of those that are left may come next, they only pass, so that links are still compared to their ends.
+/// Contracts see the links of the case, the turns, and all records, the newest first; none of this, once memory was refused.
 #[derive(Drop)]
 pub struct CaseTurns {
     turns: TurnsTaken,
@@ -86,12 +86,12 @@ impl CaseTurns {
         Ok(())
     }
 
-    /// A record of a vat, the next of its log, only passes: its frame is compared, and nothing else is kept of it. So are
-    /// taken the records that are left where no order fits.
+    /// A record of a vat, the next of its log, only passes: it is counted, and its frame is compared, but it is no turn. The
+    /// records go so that are left where no order fits any more.
     ///
     /// # Errors
     ///
-    /// As of [`CaseTurns::take`].
+    /// Those of [`CaseTurns::take`].
     pub fn pass(&mut self, vat: u32, body: &Body) -> Result<(), AllocError>
         ensures ok { OnOk result (self.new ≡ option_map (with_passed (vat, body.now)) self.old) }
         ensures err { OnErr result (self.new ≡ None) }

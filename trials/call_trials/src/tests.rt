@@ -25,4 +25,5 @@ mod rules;
 mod states;
 mod tables;
 mod taps;
+mod turns;
 mod workers;

@@ -15,7 +15,7 @@ use Rattle.std.proofs.lemmas.Map.Views.{btree_set_contains_iff}
 use Rattle.vat_log.specs.declared.body.Body.{Body}
 use Rattle.vat_log.specs.Passages.{used_by}
 use Rattle.case_book.proofs.Numbers.{bool_cases}
-use Rattle.slim_case.specs.Used.{HaveSame, AreUsed}
+use Rattle.slim_case.specs.Glue.{HaveSame, AreUsed}
 
 -- a list has the numbers of another, and this one
 pub record HasBeside (k : ℕ) (ks ns : List ℕ) : Type 0 where

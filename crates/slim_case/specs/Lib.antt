@@ -1,2 +1,2 @@
-pub mod Used
+pub mod Glue
 pub mod Slim

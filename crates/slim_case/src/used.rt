@@ -3,7 +3,7 @@
 ghost use Rattle.std.specs.Prelude.{◌≡◌, ◌∷◌, ◌++◌, [], Contains, IfOk, IfSome, List, OnErr, OnOk};
 ghost use Rattle.vat_log.specs.declared.body.Body.{Body};
 ghost use Rattle.vat_log.specs.Passages.{used_by};
-ghost use Rattle.slim_case.specs.Used.{AreUsed};
+ghost use Rattle.slim_case.specs.Glue.{AreUsed};
 
 use erased::Erased;
 use std::alloc::{AllocError, Global};
@@ -23,13 +23,14 @@ pub struct UsedConnections {
 impl Model for UsedConnections {
     ghost use Rattle.std.specs.Prelude.{Contains, IfSome, List, reverse};
     ghost use Rattle.vat_log.specs.declared.body.Body.{Body};
-    ghost use Rattle.slim_case.specs.Used.{AreUsed};
+    ghost use Rattle.slim_case.specs.Glue.{AreUsed};
 
     ghost Value = { List Body };
 
     ghost view = { λ used. reverse used.records.items };
 
-    ghost invariant = { λ used. AreUsed (reverse used.records.items) used.set.keys × IfSome used.last (Contains used.set.keys) };
+    ghost invariant = { λ used. AreUsed (reverse used.records.items) used.set.keys
+        × IfSome used.last (Contains used.set.keys) };
 }
 
 /// The connection that a record uses.
@@ -42,8 +43,8 @@ fn used_by(body: &Body) -> Option<u32>
     }
 }
 
-/// Adds the connection that a record uses, if it uses one, to those of the records before it, of which one may be known.
-/// Answers one of them all.
+/// Adds the connection that a record uses, if it uses one, to those of the records before it, of which one may be known; one
+/// of them all, if there is one.
 fn add(set: &mut BTreeSet<u32>, known: Option<u32>, body: &Body) -> Result<Option<u32>, AllocError>
     requires { IfSome known (Contains set.old.keys) }
     ensures used { (records : List Body) → AreUsed records set.old.keys

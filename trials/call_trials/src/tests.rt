@@ -20,6 +20,7 @@ mod orders;
 mod pointers;
 mod readers;
 mod rules;
+mod slim_cases;
 mod states;
 mod tables;
 mod taps;

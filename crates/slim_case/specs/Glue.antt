@@ -1,4 +1,4 @@
--- The connections that the records of a log use, each once.
+-- For the code's contracts, and no part of the meaning: the connections that the records of a log use, each once.
 use Rattle.std.specs.Prelude.{ℕ, List, Contains}
 use Rattle.std.specs.List.{filter_map}
 use Rattle.vat_log.specs.declared.body.Body.{Body}

@@ -5,7 +5,7 @@
 //! (`specs/Case.antt` and `specs/Ties.antt` there): [`SlimCase::new`] refuses just what [`Case::new`](case_book::Case::new)
 //! refuses, and [`SlimCase::tie_fault`] is just the fault that the case with all records has. [`UsedConnections`] is kept
 //! beside a log's audit, while the log is read; a [`SlimLog`] joins it to what the audit found. Memory is taken by
-//! [`UsedConnections::take`] alone, once for each connection of a log.
+//! [`UsedConnections::take`] alone, where a connection is used for the first time.
 #![tactic(auto)]
 
 mod case;

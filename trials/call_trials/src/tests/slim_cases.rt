@@ -12,7 +12,7 @@ use worked_cases::{NoAnswer, ask_again, log};
 const LOGS: [(&str, &str); 3] = [
     ("7", "S5 abort; R2 abort; S5 abort; R5 abort"),
     ("1", "S5 abort; R5 abort; R5 abort"),
-    ("3", "host r1 o1"),
+    ("3", "HOST r1 1"),
 ];
 
 /// Vat 1 has two logs.
@@ -105,6 +105,6 @@ fn what_is_left_of_logs_ties_up_as_they_do(rt: HostRuntime) {
             Ok(told) => told.as_str() == *text,
             Err(_) => false,
         };
-        assert!(rt; is_told, "{text}");
+        assert!(rt; is_told, "{text} {came:?}");
     }
 }

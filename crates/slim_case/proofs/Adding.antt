@@ -1,6 +1,6 @@
 -- The connections that the records use, with one record more.
 use Rattle.std.proofs.Common.{◌≡◌, ℕ, true, false, cond, List, [], ◌∷◌, ◌++◌, Option, Some, None, ap, subst, sym, inl, inr, ◌∙◌, arith}
-use Rattle.std.specs.Prelude.{◌⊎◌, Contains, IfSome, nat_eq, not}
+use Rattle.std.specs.Prelude.{◌⊎◌, Contains, IfSome, IsSomeAnd, nat_eq, not}
 use Rattle.std.specs.Option.{option_eq}
 use Rattle.std.specs.BTreeMap.{is_at}
 use Rattle.std.specs.BTreeSet.{BTreeSet, contains}
@@ -15,7 +15,8 @@ use Rattle.std.proofs.lemmas.Map.Views.{btree_set_contains_iff}
 use Rattle.vat_log.specs.declared.body.Body.{Body}
 use Rattle.vat_log.specs.Passages.{used_by}
 use Rattle.case_book.proofs.Numbers.{bool_cases}
-use Rattle.slim_case.specs.Used.{HaveSame, AreUsed}
+use Rattle.slim_case.specs.Glue.{HaveSame, AreUsed}
+use Rattle.slim_case.specs.Used.{UsesAnother}
 
 -- a list has the numbers of another, and this one
 pub record HasBeside (k : ℕ) (ks ns : List ℕ) : Type 0 where
@@ -77,3 +78,8 @@ has_put s t k puts =
 pub is_known : (known : Option ℕ) (k : ℕ) (ks : List ℕ) → IfSome known (Contains ks) → not (option_eq nat_eq known (Some k)) ≡ false → Contains ks k
 is_known None k ks all e = absurd (cc)
 is_known (Some n) k ks all e = subst (Contains ks) (let same : n ≡ k = grind (arith, nat_tests) in same) all
+
+-- one that isn't in the set is used for the first time
+pub first_use : (records : List Body) (body : Body) (k : ℕ) (s : BTreeSet ℕ) → used_by body ≡ Some k → contains nat_cmp s k ≡ false → AreUsed records s.keys → UsesAnother records body
+first_use records body k s some absent used =
+    subst (λ (o : Option ℕ). IsSomeAnd o (λ connection. ¬ Contains (filter_map used_by records) connection)) (sym some) (λ h. let there = found s k (used.there k h) in cc)

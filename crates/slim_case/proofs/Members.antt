@@ -5,7 +5,7 @@ use Rattle.std.proofs.lemmas.List.Elements.{All-contains, All-filter, All-contai
 use Rattle.case_book.specs.Least.{lower, least, IsLeast}
 use Rattle.case_book.proofs.Lowest.{least_of, only_least}
 use Rattle.case_book.proofs.Numbers.{bool_cases}
-use Rattle.slim_case.specs.Used.{HaveSame}
+use Rattle.slim_case.specs.Glue.{HaveSame}
 
 nowhere : (n : ℕ) → Contains [] n → ⊥
 nowhere n h = let lt = h.1 in omega arith

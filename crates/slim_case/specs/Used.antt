@@ -1,14 +1,9 @@
--- The connections that the records of a log use, each once.
-use Rattle.std.specs.Prelude.{ℕ, List, Contains}
+-- Which record uses a connection that none before it uses.
+use Rattle.std.specs.Prelude.{List, Contains, IsSomeAnd}
 use Rattle.std.specs.List.{filter_map}
 use Rattle.vat_log.specs.declared.body.Body.{Body}
 use Rattle.vat_log.specs.Passages.{used_by}
 
--- two lists have the same numbers, whether a number stands there once or often
-pub record HaveSame (ones others : List ℕ) : Type 0 where
-  pub there : (n : ℕ) → Contains ones n → Contains others n
-  pub back : (n : ℕ) → Contains others n → Contains ones n
-
--- these are the connections that the records use
-abbrev pub AreUsed : List Body → List ℕ → Type 0
-AreUsed records connections = HaveSame (filter_map used_by records) connections
+-- a record uses a connection that none of these uses
+abbrev pub UsesAnother : List Body → Body → Type 0
+UsesAnother records b = IsSomeAnd (used_by b) (λ connection. ¬ Contains (filter_map used_by records) connection)

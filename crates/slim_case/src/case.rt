@@ -12,9 +12,9 @@ use crate::ties::{least_missing, least_same_ended};
 use case_book::{CaseError, Link, MAX_LINKS, MAX_VATS, TieFault};
 use std::marker::Model;
 
-/// The logs of some vats, at most [`MAX_VATS`], and the links between them, at most [`MAX_LINKS`]. Each vat has one log, each
-/// connection one link; that they tie up is asked of [`SlimCase::tie_fault`]. It is what a [`Case`](case_book::Case) is, but
-/// that the logs' records are gone.
+/// What is left of the logs of some vats, at most [`MAX_VATS`], and the links between them, at most [`MAX_LINKS`]. Each vat
+/// has one log, each connection one link; that they tie up is asked of [`SlimCase::tie_fault`]. Contracts see it as they see
+/// a [`Case`](case_book::Case): the logs with all their records.
 #[derive(Drop)]
 pub struct SlimCase {
     logs: Vec<SlimLog>,

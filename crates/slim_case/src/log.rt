@@ -1,7 +1,7 @@
 //! Logs whose records are gone.
 
 ghost use Rattle.std.specs.Prelude.{◌≡◌};
-ghost use Rattle.slim_case.specs.Used.{AreUsed};
+ghost use Rattle.slim_case.specs.Glue.{AreUsed};
 
 use crate::used::UsedConnections;
 use std::collections::BTreeSet;
@@ -27,7 +27,7 @@ impl Model for SlimLog {
 }
 
 impl SlimLog {
-    /// The log that was audited, with the connections that its records use. They must have been told the log's own records.
+    /// The log of a finding, with the connections that its records used: they must have been told just these records.
     pub fn new(finding: SlimFinding, used: UsedConnections) -> SlimLog
         requires { used ≡ finding.log.records }
         ensures { result ≡ finding }

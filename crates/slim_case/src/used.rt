@@ -1,9 +1,10 @@
 //! The connections that a log uses.
 
-ghost use Rattle.std.specs.Prelude.{◌≡◌, ◌∷◌, ◌++◌, [], Contains, IfOk, IfSome, List, OnErr, OnOk};
+ghost use Rattle.std.specs.Prelude.{◌≡◌, ◌∷◌, ◌++◌, [], Contains, IfErr, IfOk, IfSome, List, OnErr, OnOk};
 ghost use Rattle.vat_log.specs.declared.body.Body.{Body};
 ghost use Rattle.vat_log.specs.Passages.{used_by};
-ghost use Rattle.slim_case.specs.Used.{AreUsed};
+ghost use Rattle.slim_case.specs.Glue.{AreUsed};
+ghost use Rattle.slim_case.specs.Used.{UsesAnother};
 
 use erased::Erased;
 use std::alloc::{AllocError, Global};
@@ -23,13 +24,14 @@ pub struct UsedConnections {
 impl Model for UsedConnections {
     ghost use Rattle.std.specs.Prelude.{Contains, IfSome, List, reverse};
     ghost use Rattle.vat_log.specs.declared.body.Body.{Body};
-    ghost use Rattle.slim_case.specs.Used.{AreUsed};
+    ghost use Rattle.slim_case.specs.Glue.{AreUsed};
 
     ghost Value = { List Body };
 
     ghost view = { λ used. reverse used.records.items };
 
-    ghost invariant = { λ used. AreUsed (reverse used.records.items) used.set.keys × IfSome used.last (Contains used.set.keys) };
+    ghost invariant = { λ used. AreUsed (reverse used.records.items) used.set.keys
+        × IfSome used.last (Contains used.set.keys) };
 }
 
 /// The connection that a record uses.
@@ -42,14 +44,16 @@ fn used_by(body: &Body) -> Option<u32>
     }
 }
 
-/// Adds the connection that a record uses, if it uses one, to those of the records before it, of which one may be known.
-/// Answers one of them all.
+/// Adds the connection that a record uses, if it uses one, to those of the records before it, of which one may be known; one
+/// of them all, if there is one.
 fn add(set: &mut BTreeSet<u32>, known: Option<u32>, body: &Body) -> Result<Option<u32>, AllocError>
     requires { IfSome known (Contains set.old.keys) }
     ensures used { (records : List Body) → AreUsed records set.old.keys
         → OnOk result (AreUsed (records ++ body.now ∷ []) set.new.keys) }
     ensures known { IfOk result (λ known. IfSome known (Contains set.new.keys)) }
     ensures err { OnErr result (set.new.keys ≡ set.old.keys) }
+    ensures another { (records : List Body) → AreUsed records set.old.keys
+        → IfErr result (λ _. UsesAnother records body.now) }
 {
     let Some(connection) = used_by(body) else {
         return Ok(known);
@@ -76,10 +80,11 @@ impl UsedConnections {
     ///
     /// # Errors
     ///
-    /// Out of memory, and then they are as they were.
+    /// Out of memory, and then they are as they were: only a record that uses a connection for the first time takes memory.
     pub fn take(&mut self, body: &Body) -> Result<(), AllocError>
         ensures ok { OnOk result (self.new ≡ self.old ++ body.now ∷ []) }
         ensures err { OnErr result (self.new ≡ self.old) }
+        ensures another { IfErr result (λ _. UsesAnother self.old body.now) }
     {
         self.last = add(&mut self.set, self.last, body)?;
         self.records = self.records.with(body);

@@ -22,6 +22,7 @@ mod pointers;
 mod readers;
 mod refusals;
 mod rules;
+mod slim_cases;
 mod states;
 mod tables;
 mod taps;

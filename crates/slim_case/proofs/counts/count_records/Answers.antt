@@ -1,5 +1,5 @@
 use Rattle.std.proofs.Common.{ap, arith}
-use Rattle.std.proofs.lemmas.List.Sums.{sum_by_more, sum_by_more_le, sum_by-take-le}
+use Rattle.std.proofs.lemmas.List.Sums.{sum_by_more, sum_by_more_le}
 use Rattle.std.proofs.lemmas.Grind.{common_steps}
 use Rattle.slim_case.proofs.Counted.{records_of, all_counted}
 use Rattle.slim_case.proofs.counts.count_records.Goals as goal

@@ -1,5 +1,6 @@
 use Rattle.std.proofs.Common.{sym, ◌∙◌, rules}
-use Rattle.slim_case.proofs.Adding.{none_more, one_more, has_itself, has_put, is_known}
+use Rattle.std.proofs.lemmas.Result.{err_from_is_err_and}
+use Rattle.slim_case.proofs.Adding.{none_more, one_more, has_itself, has_put, is_known, first_use}
 use Rattle.slim_case.proofs.used.add.Goals as goal
 
 pub returns-in_default-clause-used : goal.returns-in_default-clause-used
@@ -19,3 +20,8 @@ pub returns-else-ne-clause-used : goal.returns-else-ne-clause-used
 returns-else-ne-clause-used c =
     λ records used. one_more records c.args.body.now c.in-Some.connection c.args.set.now.keys c.args.set.now.keys (sym c.used_by.ensures ∙ c.in-Some.is)
     (has_itself c.in-Some.connection c.args.set.now.keys (is_known c.args.known c.in-Some.connection c.args.set.now.keys c.requires (sym c.ne.ensures ∙ c.if-ne.false))) used
+
+pub returns-in_err-insert-clause-another : goal.returns-in_err-insert-clause-another
+returns-in_err-insert-clause-another c =
+    let p = err_from_is_err_and c.from_residual.result c.from_residual.ensures.1 in
+    λ records used. rw (p.1) (first_use records c.args.body.now c.in-Some.connection c.args.set.now (sym c.used_by.ensures ∙ c.in-Some.is) c.in_err-insert.ensures.absent used)

@@ -218,15 +218,24 @@ impl<P: Pieces> LogStream<P> {
         // Why there is no next one.
         ensures err { IfErr result (λ fault. (self.new.log ≡ self.old.log) × StreamStopsBy fault self.new) }
     {
-        match self.next_here(alloc) {
-            Ok(entry) => Ok(Some(entry)),
-            Err(Stop::Fault(fault)) => Err(fault),
-            Err(_) => self.next_behind(alloc),
+        if self.at >= self.window.len() {
+            return self.next_behind(alloc);
+        }
+        match Record::next(alloc, self.version, self.count, &self.window, self.at) {
+            Ok((entry, after)) => {
+                self.at = after;
+                self.count += 1;
+                self.given = self.given.with(entry.body());
+                Ok(Some(entry))
+            }
+            Err(fault) => match Stop::at(self.begin, fault) {
+                Stop::Fault(told) => Err(told),
+                _ => self.next_behind(alloc),
+            },
         }
     }
 
     /// The next record, where the window holds it whole.
-    #[inline]
     fn next_here(&mut self, alloc: Global) -> Result<Record, Stop>
         ensures ok { IfOk result (λ entry. self.new
             ≡ record self.old { log = with_record entry self.old.log }) }

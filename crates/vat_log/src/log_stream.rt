@@ -218,24 +218,21 @@ impl<P: Pieces> LogStream<P> {
         // Why there is no next one.
         ensures err { IfErr result (λ fault. (self.new.log ≡ self.old.log) × StreamStopsBy fault self.new) }
     {
-        if self.at >= self.window.len() {
-            return self.next_behind(alloc);
-        }
-        match Record::next(alloc, self.version, self.count, &self.window, self.at) {
-            Ok((entry, after)) => {
+        if self.at < self.window.len() {
+            let read = Record::next(alloc, self.version, self.count, &self.window, self.at);
+            if let Ok((entry, after)) = read {
                 self.at = after;
                 self.count += 1;
                 self.given = self.given.with(entry.body());
-                Ok(Some(entry))
+                return Ok(Some(entry));
             }
-            Err(fault) => match Stop::at(self.begin, fault) {
-                Stop::Fault(told) => Err(told),
-                _ => self.next_behind(alloc),
-            },
         }
+        self.next_behind(alloc)
     }
 
     /// The next record, where the window holds it whole.
+    #[cold]
+    #[inline(never)]
     fn next_here(&mut self, alloc: Global) -> Result<Record, Stop>
         ensures ok { IfOk result (λ entry. self.new
             ≡ record self.old { log = with_record entry self.old.log }) }
@@ -256,7 +253,9 @@ impl<P: Pieces> LogStream<P> {
         }
     }
 
-    /// The next record, of more pieces than the window has.
+    /// The next record, of as many pieces as it needs.
+    #[cold]
+    #[inline(never)]
     fn next_behind(&mut self, alloc: Global) -> Result<Option<Record>, ReadFault>
         ensures bytes { MayBeAll self.old.bytes self.old.is_over self.new.bytes }
         ensures over { self.old.is_over ≡ true → self.new.is_over ≡ true }
@@ -269,14 +268,14 @@ impl<P: Pieces> LogStream<P> {
     {
         let mut wanted = PIECE;
         loop {
-            let came = self.fill(alloc, wanted)?;
-            if came == 0 {
-                return self.last(alloc);
-            }
             match self.next_here(alloc) {
                 Ok(entry) => return Ok(Some(entry)),
                 Err(Stop::Fault(fault)) => return Err(fault),
                 Err(_) => {}
+            }
+            let came = self.fill(alloc, wanted)?;
+            if came == 0 {
+                return self.last(alloc);
             }
             if came >= wanted {
                 wanted = wanted.saturating_mul(2);

@@ -89,6 +89,10 @@ record_there version count bytes at x e =
     let room = allowed (ltb count record_limit) TooLong (fields_at version k.0 bytes (at + 1)) x k.2 in
     record { before_end = ltb-true _ _ lt.0; room = ltb-true _ _ room.0; kind = k.0; kind_there = k.1; fields = room.1 }
 
+pub record_found : (version : LogVersion) (count : ℕ) (bytes : List ℕ) (at : ℕ) (kind : RecordKind) (x : Body × ℕ) → at < length bytes → count < record_limit → kind_at bytes at ≡ Ok kind → fields_at version kind bytes (at + 1) ≡ Ok x → record_at version count bytes at ≡ Ok x
+unfolding record_at
+record_found version count bytes at kind x lt room k f = rw (lt-ltb at (length bytes) lt, k, lt-ltb count record_limit room) f
+
 -- why no record is read at a place in front of the end
 stops_at_record : (e : LogError) (bytes : List ℕ) (log : Log) (at : ℕ) → IsReadTo record_limit bytes log at → at < length bytes → record_at log.version (length log.records) bytes at ≡ Err e → StopsBy e (record { bytes = bytes; log = log })
 unfolding record_at

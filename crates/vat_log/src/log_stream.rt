@@ -12,6 +12,8 @@ use crate::body::Body;
 use crate::error::LogError;
 use crate::fields::u32_at;
 use crate::header::LogHeader;
+use crate::kind::read_kind;
+use crate::limits::MAX_RECORDS;
 use crate::read_fault::{ReadFault, Stop};
 use crate::record::Record;
 use crate::version::{LogVersion, read_version};
@@ -218,13 +220,15 @@ impl<P: Pieces> LogStream<P> {
         // Why there is no next one.
         ensures err { IfErr result (λ fault. (self.new.log ≡ self.old.log) × StreamStopsBy fault self.new) }
     {
-        if self.at < self.window.len() {
-            let read = Record::next(alloc, self.version, self.count, &self.window, self.at);
-            if let Ok((entry, after)) = read {
-                self.at = after;
-                self.count += 1;
-                self.given = self.given.with(entry.body());
-                return Ok(Some(entry));
+        if self.at < self.window.len() && self.count < MAX_RECORDS {
+            if let Ok(kind) = read_kind(self.window.as_slice(), self.at) {
+                let read = Record::read(alloc, self.version, kind, &self.window, self.at + 1);
+                if let Ok((entry, after)) = read {
+                    self.at = after;
+                    self.count += 1;
+                    self.given = self.given.with(entry.body());
+                    return Ok(Some(entry));
+                }
             }
         }
         self.next_behind(alloc)

@@ -22,7 +22,7 @@ use Rattle.vat_log.proofs.Loop.{with_records}
 use Rattle.vat_log.proofs.Moved.{Moves, around, record_moves}
 use Rattle.vat_log.proofs.ReadOn.{Keeps, fails_by, given_on, log_given}
 use Rattle.vat_log.proofs.Runs.{Text, first_end, first_of, limit_is, longest_at_the_end, more_spelled, next_at, nothing_before, stands, stops_at_fields, stops_at_kind, stops_at_limit}
-use Rattle.vat_log.proofs.Spans.{IsBytes-from_all, bind_ok, ok_is, Spans}
+use Rattle.vat_log.proofs.Spans.{IsBytes-from_all, bind_ok, Spans}
 
 -- ---- bytes that begin with a log were read to its end
 

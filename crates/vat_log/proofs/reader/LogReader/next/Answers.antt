@@ -1,4 +1,4 @@
-use Rattle.std.proofs.Common.{◌≡◌, ◌<◌, ◌≤◌, length, reverse, refl, arith}
+use Rattle.std.proofs.Common.{◌<◌, ◌≤◌, length, reverse, refl, arith}
 use Rattle.std.proofs.lemmas.List.{length-reverse}
 use Rattle.std.proofs.lemmas.Result.{err_from_is_err_and}
 use Rattle.vat_log.specs.Fits.{record_limit}

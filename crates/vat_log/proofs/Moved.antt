@@ -1,12 +1,11 @@
 -- What is read at a place in a part of some bytes is read in all of them, as many places further on as bytes stand in
 -- front of the part. A field that the part cuts is cut in all of them, too, where nothing stands behind the part.
-use Rattle.std.proofs.Common.{◌≡◌, ℕ, zero, suc, ◌+◌, ◌-◌, ◌<◌, ◌≤◌, Bool, true, false, cond, ltb, eqb, List, [], ◌∷◌, ◌++◌, length, get_or, take, drop, Option, Some, None, Result, Ok, Err, refl, sym, ap, subst, ◌∙◌, add_assoc, arith, inl, inr}
+use Rattle.std.proofs.Common.{◌≡◌, ℕ, zero, suc, ◌+◌, ◌-◌, ◌<◌, ◌≤◌, Bool, true, false, cond, ltb, eqb, List, [], ◌∷◌, ◌++◌, length, get_or, drop, Option, Some, None, Result, Ok, Err, refl, ap, ◌∙◌, arith, inl, inr}
 use Rattle.std.specs.List.{slice_range}
 use Rattle.std.specs.Int.{Width, w16, w32, w64, byte_len}
 use Rattle.std.proofs.lemmas.Bool.{cases_lt, lt-ltb, le-ltb}
 use Rattle.std.proofs.lemmas.List.{length-append, length-drop, take-append-le, drop-append-le, get_or_append_left, get_or-append-add}
 use Rattle.std.proofs.Math.Seq.{drop-append-add}
-use Rattle.vat_log.specs.declared.body.Body.{Body}
 use Rattle.vat_log.specs.declared.body.Body.TheVariants as body
 use Rattle.vat_log.specs.declared.error.LogError.{LogError}
 use Rattle.vat_log.specs.declared.error.LogError.TheVariants.{BadMagic, Short, BadKind, ZeroNumber, TooLong, OutOfMemory}
@@ -16,7 +15,7 @@ use Rattle.vat_log.specs.declared.version.LogVersion.{LogVersion}
 use Rattle.vat_log.specs.Fits.{count_limit, frame_limit, record_limit}
 use Rattle.vat_log.specs.Reading.{◌>>=◌, number_at, nonzero_at, count_at, many_at, list_at, path_at, answered_at, frame_at, passage_at, host_at, vow_at, fulfil_at, break_at, make_at, field_at, deliver_at, answer_at, fault_at, send_at, receive_at, answer_by_at, fields_at, kind_with, known_kind, kind_at}
 use Rattle.vat_log.specs.Spelling.{count_width}
-use Rattle.vat_log.specs.Windows.{counted_from, record_at}
+use Rattle.vat_log.specs.Windows.{record_at}
 
 -- the second reading is the first, so many places further on; where a field is cut it is so if this holds
 abbrev pub Moves : {A : Type 0} → ℕ → Type 0 → Result (A × ℕ) LogError → Result (A × ℕ) LogError → Type 0

@@ -17,7 +17,7 @@ use Rattle.vat_log.specs.Fits.{record_limit}
 use Rattle.vat_log.specs.Log.{Log}
 use Rattle.vat_log.specs.Reader.{IsReadTo}
 use Rattle.vat_log.specs.Reading.{◌>>=◌, Fails, number_at, version_at, header_of, log_within, log_of}
-use Rattle.vat_log.specs.Runs.{IsLongestRun, StopsBy, with_record}
+use Rattle.vat_log.specs.Runs.{IsLongestRun, StopsBy}
 use Rattle.vat_log.specs.Spelling.{log_magic, number_bytes, log_bytes}
 use Rattle.vat_log.specs.Streams.{MayBeAll, StreamStopsBy}
 use Rattle.vat_log.specs.Windows.{counted_from, record_at, FaultFrom, IsCut, IsOfBytes, StopFrom, StopsHere}

@@ -2,7 +2,7 @@
 use Rattle.std.proofs.Common.{◌≡◌, ℕ, zero, suc, ◌+◌, ◌-◌, ◌^◌, ◌<◌, ◌≤◌, Bool, true, false, cond, ltb, List, [], ◌∷◌, ◌++◌, length, take, drop, All, Result, Ok, Err, refl, sym, ap, subst, ◌∙◌, append_assoc, arith, inl, inr, ◌⊎◌}
 use Rattle.std.specs.List.{AllByRecursion}
 use Rattle.std.proofs.lemmas.Bool.{cases_lt, lt-ltb, le-ltb, ltb-true}
-use Rattle.std.proofs.lemmas.List.{append-nil, drop_at, drop_all, length-append, length-drop, length-take-le, take-append-drop}
+use Rattle.std.proofs.lemmas.List.{append-nil, drop_at, drop_all, length-append, length-drop, length-reverse, length-take-le, take-append-drop}
 use Rattle.std.proofs.lemmas.List.Elements.{All-push}
 use Rattle.vat_log.specs.declared.body.Body.{Body}
 use Rattle.vat_log.specs.declared.error.LogError.{LogError}
@@ -12,17 +12,17 @@ use Rattle.vat_log.specs.declared.version.LogVersion.{LogVersion}
 use Rattle.vat_log.specs.Fits.{record_limit, Fits, IsListed, IsWide, LogFits}
 use Rattle.vat_log.specs.Log.{Log}
 use Rattle.vat_log.specs.Reader.{IsReadTo}
-use Rattle.vat_log.specs.Reading.{◌>>=◌, kind_at, fields_at, records_at, log_of}
-use Rattle.vat_log.specs.Runs.{BeginsWith, IsLongestRun, StopsBy, with_record}
+use Rattle.vat_log.specs.Reading.{◌>>=◌, Fails, kind_at, fields_at, records_at, log_of}
+use Rattle.vat_log.specs.Runs.{BeginsWith, IsLongestRun, ReadSoFar, StopsBy, with_record}
 use Rattle.vat_log.specs.Spelling.{record_bytes, log_bytes}
-use Rattle.vat_log.specs.Windows.{counted_from, record_at, HoldsRest, FaultFrom, IsCut, IsOfBytes, StopFrom, StopsHere}
+use Rattle.vat_log.specs.Windows.{counted_from, record_at, HoldsRest, IsCut}
 use Rattle.vat_log.proofs.BodyLaws.{FitsWide}
 use Rattle.vat_log.proofs.LogLaws.{log_again, record_takes}
 use Rattle.vat_log.proofs.Loop.{with_records}
 use Rattle.vat_log.proofs.Moved.{Moves, around, record_moves}
-use Rattle.vat_log.proofs.ReadOn.{fails_by}
-use Rattle.vat_log.proofs.Runs.{Text, first_end, first_of, longest_at_the_end, more_spelled, next_at, nothing_before, stands, stops_at_fields, stops_at_kind, stops_at_limit}
-use Rattle.vat_log.proofs.Spans.{IsBytes-from_all, bind_ok, ok_is, Spans}
+use Rattle.vat_log.proofs.ReadOn.{Keeps, fails_by, given_on, log_given}
+use Rattle.vat_log.proofs.Runs.{Text, first_end, first_of, limit_is, longest_at_the_end, more_spelled, next_at, nothing_before, stands, stops_at_fields, stops_at_kind, stops_at_limit}
+use Rattle.vat_log.proofs.Spans.{IsBytes-from_all, bind_ok, Spans}
 
 -- ---- bytes that begin with a log were read to its end
 
@@ -89,6 +89,10 @@ record_there version count bytes at x e =
     let room = allowed (ltb count record_limit) TooLong (fields_at version k.0 bytes (at + 1)) x k.2 in
     record { before_end = ltb-true _ _ lt.0; room = ltb-true _ _ room.0; kind = k.0; kind_there = k.1; fields = room.1 }
 
+pub record_found : (version : LogVersion) (count : ℕ) (bytes : List ℕ) (at : ℕ) (kind : RecordKind) (x : Body × ℕ) → at < length bytes → count < record_limit → kind_at bytes at ≡ Ok kind → fields_at version kind bytes (at + 1) ≡ Ok x → record_at version count bytes at ≡ Ok x
+unfolding record_at
+record_found version count bytes at kind x lt room k f = rw (lt-ltb at (length bytes) lt, k, lt-ltb count record_limit room) f
+
 -- why no record is read at a place in front of the end
 stops_at_record : (e : LogError) (bytes : List ℕ) (log : Log) (at : ℕ) → IsReadTo record_limit bytes log at → at < length bytes → record_at log.version (length log.records) bytes at ≡ Err e → StopsBy e (record { bytes = bytes; log = log })
 unfolding record_at
@@ -104,6 +108,32 @@ stops_at_record e bytes log at r lt h =
             subst (λ (d : LogError). StopsBy d (record { bytes = bytes; log = log })) same (stops_at_limit bytes log at k.0 r lt full k.1)
       ]
     ]
+
+-- ---- bytes that are all there
+
+-- one more record was read
+pub given_next : (bytes : List ℕ) (version : LogVersion) (vat : ℕ) (given : List Body) (count at : ℕ) (x : Body) (after : ℕ) → Keeps bytes version vat given count at → record_at version count bytes at ≡ Ok (x, after)
+    → Keeps bytes version vat (x ∷ given) (count + 1) after
+given_next bytes version vat given count at x after kept e =
+    let is = record_there version count bytes at (x, after) e in
+    given_on bytes version vat given count at is.kind x after kept is.before_end (omega (arith, is.room, limit_is)) is.kind_there is.fields
+
+by_fails : {Y : Type 0} (e : LogError) (read : Result Y LogError) (so_far : ReadSoFar) → (read ≡ Err e → StopsBy e so_far) → Fails e read → StopsBy e so_far
+by_fails BadMagic read so_far k h = k h
+by_fails (Short at) read so_far k h = k h
+by_fails (BadKind at) read so_far k h = k h
+by_fails (ZeroNumber at) read so_far k h = k h
+by_fails TooLong read so_far k h = k h
+by_fails OutOfMemory read so_far k h = tt
+
+-- why none is read
+pub stops_next : (e : LogError) (bytes : List ℕ) (version : LogVersion) (vat : ℕ) (given : List Body) (count at : ℕ) → Keeps bytes version vat given count at → at < length bytes → Fails e (record_at version count bytes at)
+    → StopsBy e (record { bytes = bytes; log = log_given version vat given })
+stops_next e bytes version vat given count at kept lt failed =
+    let log = log_given version vat given in
+    let counted : count ≡ length log.records = omega (arith, kept.0, length-reverse given) in
+    by_fails e (record_at version count bytes at) (record { bytes = bytes; log = log }) (λ h.
+    stops_at_record e bytes log at kept.2 lt (subst (λ (n : ℕ). record_at version n bytes at ≡ Err e) counted h)) failed
 
 -- ---- a window
 

@@ -88,7 +88,7 @@ impl VatLog {
     /// How many records there are, 4,294,967,295 at most.
     pub fn len(&self) -> usize
         ensures value { result ≡ length self.now.records }
-        ensures bound { result ≤ record_limit }
+        ensures bound { result ≤ 4294967295 }
     {
         self.records.len()
     }

@@ -12,6 +12,8 @@ use crate::body::Body;
 use crate::error::LogError;
 use crate::fields::u32_at;
 use crate::header::LogHeader;
+use crate::kind::read_kind;
+use crate::limits::MAX_RECORDS;
 use crate::read_fault::{ReadFault, Stop};
 use crate::record::Record;
 use crate::version::{LogVersion, read_version};
@@ -218,15 +220,23 @@ impl<P: Pieces> LogStream<P> {
         // Why there is no next one.
         ensures err { IfErr result (λ fault. (self.new.log ≡ self.old.log) × StreamStopsBy fault self.new) }
     {
-        match self.next_here(alloc) {
-            Ok(entry) => Ok(Some(entry)),
-            Err(Stop::Fault(fault)) => Err(fault),
-            Err(_) => self.next_behind(alloc),
+        if self.at < self.window.len() && self.count < MAX_RECORDS {
+            if let Ok(kind) = read_kind(self.window.as_slice(), self.at) {
+                let read = Record::read(alloc, self.version, kind, &self.window, self.at + 1);
+                if let Ok((entry, after)) = read {
+                    self.at = after;
+                    self.count += 1;
+                    self.given = self.given.with(entry.body());
+                    return Ok(Some(entry));
+                }
+            }
         }
+        self.next_behind(alloc)
     }
 
     /// The next record, where the window holds it whole.
-    #[inline]
+    #[cold]
+    #[inline(never)]
     fn next_here(&mut self, alloc: Global) -> Result<Record, Stop>
         ensures ok { IfOk result (λ entry. self.new
             ≡ record self.old { log = with_record entry self.old.log }) }
@@ -247,7 +257,9 @@ impl<P: Pieces> LogStream<P> {
         }
     }
 
-    /// The next record, of more pieces than the window has.
+    /// The next record, of as many pieces as it needs.
+    #[cold]
+    #[inline(never)]
     fn next_behind(&mut self, alloc: Global) -> Result<Option<Record>, ReadFault>
         ensures bytes { MayBeAll self.old.bytes self.old.is_over self.new.bytes }
         ensures over { self.old.is_over ≡ true → self.new.is_over ≡ true }
@@ -260,14 +272,14 @@ impl<P: Pieces> LogStream<P> {
     {
         let mut wanted = PIECE;
         loop {
-            let came = self.fill(alloc, wanted)?;
-            if came == 0 {
-                return self.last(alloc);
-            }
             match self.next_here(alloc) {
                 Ok(entry) => return Ok(Some(entry)),
                 Err(Stop::Fault(fault)) => return Err(fault),
                 Err(_) => {}
+            }
+            let came = self.fill(alloc, wanted)?;
+            if came == 0 {
+                return self.last(alloc);
             }
             if came >= wanted {
                 wanted = wanted.saturating_mul(2);

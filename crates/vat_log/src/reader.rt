@@ -11,8 +11,6 @@ use crate::body::Body;
 use crate::error::LogError;
 use crate::fields::u32_at;
 use crate::header::LogHeader;
-use crate::kind::read_kind;
-use crate::limits::MAX_RECORDS;
 use crate::record::Record;
 use crate::spelled_log::SpelledLog;
 use crate::version::{LogVersion, read_version};
@@ -139,11 +137,7 @@ impl LogReader {
         if self.at >= self.bytes.len() {
             return Ok(None);
         }
-        let kind = read_kind(self.bytes.as_slice(), self.at)?;
-        if self.count >= MAX_RECORDS {
-            return Err(LogError::TooLong);
-        }
-        let (entry, after) = Record::read(alloc, self.version, kind, &self.bytes, self.at + 1)?;
+        let (entry, after) = Record::next(alloc, self.version, self.count, &self.bytes, self.at)?;
         self.at = after;
         self.count += 1;
         self.given = self.given.with(entry.body());

@@ -68,6 +68,7 @@ impl Record {
 
     /// The record that begins at this place, where so many stand in front of it, and the place after it.
     #[tactic(auto, unfolding(crate::specs::Windows::record_at, crate::specs::Fits::record_limit))]
+    #[inline]
     pub(crate) fn next(
         alloc: Global,
         version: LogVersion,
@@ -88,6 +89,7 @@ impl Record {
     }
 
     /// The record of this kind whose fields begin at this place, and the place after them.
+    #[inline(never)]
     pub(crate) fn read(
         alloc: Global,
         version: LogVersion,

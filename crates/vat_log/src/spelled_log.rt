@@ -1,7 +1,6 @@
 //! Logs of which the bytes alone are kept.
 
 ghost use Rattle.std.specs.Prelude.{◌≡◌, ◌≤◌, length};
-ghost use Rattle.vat_log.specs.Fits.{record_limit};
 ghost use Rattle.vat_log.specs.Spelling.{log_bytes};
 
 use crate::body::Body;
@@ -71,7 +70,7 @@ impl SpelledLog {
     /// How many records there are, 4,294,967,295 at most.
     pub fn len(&self) -> usize
         ensures value { result ≡ length self.now.records }
-        ensures bound { result ≤ record_limit }
+        ensures bound { result ≤ 4294967295 }
     {
         self.count
     }

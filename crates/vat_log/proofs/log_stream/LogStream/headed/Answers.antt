@@ -1,4 +1,4 @@
-use Rattle.std.proofs.Common.{◌≡◌, ◌<◌, ◌^◌, ℕ, List, [], All, Ok, Err, refl, sym, subst}
+use Rattle.std.proofs.Common.{◌≡◌, ◌<◌, ◌^◌, ℕ, List, All, Ok, Err, refl, sym, subst}
 use Rattle.vat_log.specs.Reading.{header_of}
 use Rattle.vat_log.proofs.Streams.{headed, holds_header, no_log_begins}
 use Rattle.vat_log.proofs.Windows.{Holds, begins_with}

@@ -3,12 +3,12 @@ use Rattle.vat_log.specs.Spelling.{log_bytes}
 use Rattle.vat_log.specs.Streams.{MayBeAll}
 use Rattle.vat_log.proofs.log_stream.LogStream.next_behind.Given as goal
 
-abbrev pub invariant-loop-came : goal.invariant-loop-came
-invariant-loop-came g l = record {
+abbrev pub invariant-loop-entry : goal.invariant-loop-entry
+invariant-loop-entry g l = record {
   log : l.self.log ≡ l.initial.self.log;
   bytes : MayBeAll l.initial.self.bytes l.initial.self.is_over l.self.bytes;
   over : l.initial.self.is_over ≡ true → l.self.is_over ≡ true;
 }
 
-abbrev pub decreases-loop-came : goal.decreases-loop-came
-decreases-loop-came g l = length (log_bytes l.self.log) + 2 ^ 63 - length l.self.bytes
+abbrev pub decreases-loop-entry : goal.decreases-loop-entry
+decreases-loop-entry g l = length (log_bytes l.self.log) + 2 ^ 63 - length l.self.bytes

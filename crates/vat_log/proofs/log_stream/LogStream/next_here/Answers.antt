@@ -1,4 +1,4 @@
-use Rattle.std.proofs.Common.{◌≡◌, ◌<◌, ◌≤◌, length, reverse, refl, arith}
+use Rattle.std.proofs.Common.{◌<◌, ◌≤◌, length, reverse, refl, arith}
 use Rattle.std.proofs.lemmas.List.{length-reverse}
 use Rattle.vat_log.specs.Fits.{record_limit}
 use Rattle.vat_log.proofs.ReadOn.{log_given}

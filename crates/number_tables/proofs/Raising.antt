@@ -6,7 +6,7 @@ use Rattle.std.proofs.lemmas.Bool.{cases_Bool, false≢true, ne_eqb, eqb-true, e
 use Rattle.std.proofs.lemmas.List.Sums.{sum_by-cons}
 use Rattle.number_tables.specs.declared.life.Life.{Life}
 use Rattle.decoded_records.specs.declared.origin.Origin.{Origin}
-use Rattle.decoded_records.specs.Types.{TableKey}
+use Rattle.number_tables.specs.Types.{TableKey}
 use Rattle.decoded_records.specs.Past.{same_id}
 use Rattle.number_tables.specs.Glue.LifeTables.{raised_origin}
 use Rattle.decoded_records.proofs.Naming.{same_id_is, same_id_self}

@@ -13,7 +13,7 @@ use Rattle.vat_view.specs.declared.tables.references.BoundReferences.{BoundRefer
 use Rattle.vat_view.specs.declared.tables.references.Shortcut.{Shortcut}
 use Rattle.vat_view.specs.declared.record.unsettled.Unsettled.{Unsettled}
 use Rattle.vat_view.specs.declared.record.unsettled.Unsettled.TheVariants.{Promise as PromiseToKeep, Results as ResultsOf, Import as ImportToResolve}
-use Rattle.decoded_records.specs.Types.{DecodedRecord, View, Object, Promise, FieldOf, Import}
+use Rattle.vat_view.specs.Types.{DecodedRecord, View, Object, Promise, FieldOf, Import}
 use Rattle.decoded_records.specs.Past.{Past}
 use Rattle.decoded_records.specs.Bindings.{Refers}
 use Rattle.vat_view.specs.Glue.Tables.{bound_at, AreBound}

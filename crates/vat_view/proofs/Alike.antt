@@ -9,7 +9,7 @@ use Rattle.vat_view.specs.declared.record.introduced.Introduced.{Introduced}
 use Rattle.vat_view.specs.declared.tables.references.BoundReferences.{BoundReferences}
 use Rattle.number_tables.specs.declared.calls.Calls.{Calls}
 use Rattle.vat_view.specs.declared.tables.turns.resolves.Resolves.{Resolves}
-use Rattle.decoded_records.specs.Types.{Descriptor, SenderHosted, SenderPromise, DecodedRecord, Wire, TableKey}
+use Rattle.vat_view.specs.Types.{Descriptor, SenderHosted, SenderPromise, DecodedRecord, Wire, TableKey}
 use Rattle.decoded_records.specs.Past.{Past}
 use Rattle.decoded_records.specs.Lives.{Birth, birth, gives_back, number_introduced, descriptors, is_resolved, is_of_kind, keeps_kind, KeepsKinds}
 use Rattle.number_tables.specs.Glue.LifeTables.{held_origin}

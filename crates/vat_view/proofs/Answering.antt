@@ -7,7 +7,7 @@ use Rattle.number_tables.specs.declared.exports_imports.ExportsImports.{ExportsI
 use Rattle.vat_view.specs.declared.record.introduced.Introduced.{Introduced}
 use Rattle.vat_view.specs.declared.tables.references.BoundReferences.{BoundReferences}
 use Rattle.number_tables.specs.declared.calls.Calls.{Calls}
-use Rattle.decoded_records.specs.Types.{Descriptor, Target, Imported, Promised, TakeFrom, Return, Finish, DecodedRecord, Wire, View, FieldOf, TableKey}
+use Rattle.vat_view.specs.Types.{Descriptor, Target, Imported, Promised, TakeFrom, Return, Finish, DecodedRecord, Wire, View, FieldOf, TableKey}
 use Rattle.decoded_records.specs.Past.{Past, Point, point, id, same_id, last_since, Each}
 use Rattle.decoded_records.specs.Questions.{opens, returns, finishes, releases, takes_results, opening, return_of, is_opened, is_returned, is_returned_lightly, is_finished, is_released, is_tail, is_taken, is_unfinished, is_unreturned, is_late, closes, call_at, call_of}
 use Rattle.decoded_records.specs.Lives.{introductions_at, gives_back, GivesBackHeld, descriptors}

@@ -10,7 +10,7 @@ use Rattle.number_tables.specs.declared.questions.Questions.{Questions}
 use Rattle.number_tables.specs.declared.exports_imports.ExportsImports.{ExportsImports}
 use Rattle.vat_view.specs.declared.record.introduced.Introduced.{Introduced}
 use Rattle.vat_view.specs.declared.tables.references.BoundReferences.{BoundReferences}
-use Rattle.decoded_records.specs.Types.{Descriptor, NoCap, SenderHosted, SenderPromise, ReceiverHosted, ReceiverAnswer, RpcMessage, DecodedRecord, Host, Vow, Field, Wire, View, Object, Promise, FieldOf, TableKey}
+use Rattle.vat_view.specs.Types.{Descriptor, NoCap, SenderHosted, SenderPromise, ReceiverHosted, ReceiverAnswer, RpcMessage, DecodedRecord, Host, Vow, Field, Wire, View, Object, Promise, FieldOf, TableKey}
 use Rattle.decoded_records.specs.Past.{Past}
 use Rattle.decoded_records.specs.Lives.{descriptors}
 use Rattle.decoded_records.specs.Views.{view_of_reference, descriptor_view, described_at, places_from, placed_references}

@@ -5,7 +5,7 @@ use Rattle.std.specs.List.{position_from, filter_map}
 use Rattle.std.specs.Option.{option_or}
 use Rattle.std.proofs.lemmas.Bool.{cases_Bool, false≢true, ltb-true, ltb-false}
 use Rattle.decoded_records.specs.declared.origin.Origin.{Origin}
-use Rattle.decoded_records.specs.Types.{DecodedRecord, TableKey}
+use Rattle.vat_view.specs.Types.{DecodedRecord, TableKey}
 use Rattle.decoded_records.specs.Past.{Past, point, same_id, names, last_answer}
 use Rattle.decoded_records.specs.Questions.{is_late}
 use Rattle.decoded_records.specs.Lives.{Birth, begins, descriptors, number_introduced, introduces, held, is_in_life}

@@ -16,7 +16,7 @@ use Rattle.vat_view.specs.declared.tables.turns.handovers.Handover.{Handover}
 use Rattle.vat_view.specs.declared.tables.turns.handovers.HandedCall.{HandedCall}
 use Rattle.vat_view.specs.declared.walks.landing.Landing.{Landing}
 use Rattle.vat_view.specs.declared.walks.landing.Landing.TheVariants.{Reference as ToReference, Call as ToCall}
-use Rattle.decoded_records.specs.Types.{View, Object, Promise, FieldOf, Import}
+use Rattle.vat_view.specs.Types.{View, Object, Promise, FieldOf, Import}
 use Rattle.vat_view.specs.Glue.Tables.{bound_at}
 use Rattle.decoded_records.specs.Glue.Parts.{field_path}
 use Rattle.vat_view.specs.Glue.TurnTables.{Turning, landing_of, landing_view, settled_at, handover_at, by_handover, handovers_len, call_behind_by, turning_by, landed_by, bound_len, most_turns, turns_of, after_turns}

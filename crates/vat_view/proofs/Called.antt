@@ -8,7 +8,7 @@ use Rattle.vat_view.specs.declared.tables.references.BoundReferences.{BoundRefer
 use Rattle.number_tables.specs.declared.calls.Calls.{Calls}
 use Rattle.number_tables.specs.declared.call_state.CallState.{CallState}
 use Rattle.vat_view.specs.Glue.CallTables.{CallEffect, Begins, call_state_of, effect_by, effect_of, after_effect}
-use Rattle.decoded_records.specs.Types.{DecodedRecord}
+use Rattle.vat_view.specs.Types.{DecodedRecord}
 use Rattle.decoded_records.specs.Past.{Past}
 use Rattle.decoded_records.specs.Questions.{is_late, call_at, opening}
 use Rattle.decoded_records.specs.Views.{view_of_reference, view_of_target}

@@ -8,7 +8,7 @@ use Rattle.number_tables.specs.declared.call_state.CallState.{CallState}
 use Rattle.number_tables.specs.declared.call_state.CallChange.{CallChange}
 use Rattle.number_tables.specs.declared.call_state.CallChange.TheVariants.{Left, Delivered, Faulted, Answered, Known}
 use Rattle.vat_view.specs.Glue.CallTables.{Nothing, Begins, call_state_of, arriving_call, bootstrap_call, change_of_call, sent_effect, received_effect, effect_from, effect_of, after_effect}
-use Rattle.decoded_records.specs.Types.{Bootstrap, Call, Return, Results, Exception, Canceled, TakeFrom, DecodedRecord, Make, Deliver, Answer, AnswerBy, Fault, Wire, View, Request, TableKey}
+use Rattle.vat_view.specs.Types.{Bootstrap, Call, Return, Results, Exception, Canceled, TakeFrom, DecodedRecord, Make, Deliver, Answer, AnswerBy, Fault, Wire, View, Request, TableKey}
 use Rattle.decoded_records.specs.Past.{Past, Point, point, id, is, last_answer, last_where, Each}
 use Rattle.decoded_records.specs.Questions.{opening, call_at, is_late}
 use Rattle.decoded_records.specs.Views.{view_of_reference, view_of_target}

@@ -1,6 +1,6 @@
 -- No more goes than came.
 use Rattle.std.proofs.Common.{◌≤◌, [], ◌∷◌, arith}
-use Rattle.decoded_records.specs.Types.{TableKey}
+use Rattle.vat_view.specs.Types.{TableKey}
 use Rattle.decoded_records.specs.Past.{Past, Each}
 use Rattle.decoded_records.specs.Lives.{introduced_count, released_count, GivesBackHeld}
 

@@ -10,7 +10,7 @@ use Rattle.number_tables.specs.declared.questions.Questions.{Questions}
 use Rattle.number_tables.specs.declared.exports_imports.ExportsImports.{ExportsImports}
 use Rattle.vat_view.specs.declared.record.introduced.Introduced.{Introduced}
 use Rattle.vat_view.specs.declared.tables.references.BoundReferences.{BoundReferences}
-use Rattle.decoded_records.specs.Types.{Descriptor, NoCap, SenderHosted, SenderPromise, ReceiverHosted, ReceiverAnswer, RpcMessage, Bootstrap, Call, Return, Finish, Release, DecodedRecord, Wire, View, FieldOf, TableKey}
+use Rattle.vat_view.specs.Types.{Descriptor, NoCap, SenderHosted, SenderPromise, ReceiverHosted, ReceiverAnswer, RpcMessage, Bootstrap, Call, Return, Finish, Release, DecodedRecord, Wire, View, FieldOf, TableKey}
 use Rattle.decoded_records.specs.Past.{Past, point, id, same_id, last_answer}
 use Rattle.decoded_records.specs.Questions.{opens, returns, opening, return_of, is_late}
 use Rattle.decoded_records.specs.Lives.{Birth, birth, begins, descriptors, number_introduced, introduces, introductions_at, gives_back, held, is_in_life}

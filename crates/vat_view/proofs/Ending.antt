@@ -6,7 +6,7 @@ use Rattle.vat_view.specs.declared.tables.turns.settlements.Settlements.{Settlem
 use Rattle.number_tables.specs.declared.questions.Questions.{Questions}
 use Rattle.number_tables.specs.declared.exports_imports.ExportsImports.{ExportsImports}
 use Rattle.vat_view.specs.declared.tables.references.BoundReferences.{BoundReferences}
-use Rattle.decoded_records.specs.Types.{View}
+use Rattle.vat_view.specs.Types.{View}
 use Rattle.decoded_records.specs.Past.{Past}
 use Rattle.vat_view.specs.Walks.{Next, stays, on_to, next, Leads, LeadsByTurns, IsEnd, turned_to}
 use Rattle.vat_view.specs.Glue.Tables.{bound_at, AreTabled}

@@ -4,7 +4,7 @@ use Rattle.std.specs.Option.{option_or}
 use Rattle.std.proofs.lemmas.Bool.{cases_Bool, eq-eqb, ne_eqb}
 use Rattle.vat_view.specs.declared.record.unsettled.Unsettled.TheVariants.{Results as ResultsOf}
 use Rattle.vat_view.specs.declared.tables.turns.handovers.Handover.{Handover}
-use Rattle.decoded_records.specs.Types.{Return, TakeFrom, DecodedRecord, AnswerBy, Wire}
+use Rattle.vat_view.specs.Types.{Return, TakeFrom, DecodedRecord, AnswerBy, Wire}
 use Rattle.decoded_records.specs.Past.{Past, Point, point, id, record_index}
 use Rattle.decoded_records.specs.Questions.{call_at, opening}
 use Rattle.decoded_records.specs.Calls.{answerer, answered_by, call_taken_from}

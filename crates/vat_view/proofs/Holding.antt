@@ -13,7 +13,7 @@ use Rattle.vat_view.specs.declared.tables.waits.queued_call.QueuedCall.{QueuedCa
 use Rattle.vat_view.specs.declared.tables.waits.waiting_calls.Receipt.{Receipt}
 use Rattle.vat_view.specs.declared.tables.waits.waiting_calls.WaitingCalls.{WaitingCalls}
 use Rattle.vat_view.specs.declared.tables.waits.loopbacks.Unechoed.{Unechoed}
-use Rattle.decoded_records.specs.Types.{View, Object, Promise, FieldOf, Import}
+use Rattle.vat_view.specs.Types.{View, Object, Promise, FieldOf, Import}
 use Rattle.number_tables.specs.Glue.CallStates.{call_state_at, goal_in, same_view, same_target}
 use Rattle.vat_view.specs.Glue.Queues.{goal_key_of, queued_at, queued_cmp, is_queued, from_first, up_to}
 use Rattle.vat_view.specs.Glue.LoopTables.{receipt_at, held_by, AreQueued, Holding}

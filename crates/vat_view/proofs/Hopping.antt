@@ -10,7 +10,7 @@ use Rattle.vat_view.specs.declared.tables.references.Binding.{Binding}
 use Rattle.vat_view.specs.declared.tables.references.Shortcut.{Shortcut}
 use Rattle.vat_view.specs.declared.walks.landing.Landing.{Landing}
 use Rattle.vat_view.specs.declared.walks.landing.Landing.TheVariants.{Reference as ToReference, Call as ToCall}
-use Rattle.decoded_records.specs.Types.{View, FieldOf}
+use Rattle.vat_view.specs.Types.{View, FieldOf}
 use Rattle.vat_view.specs.Glue.Tables.{bound_at}
 use Rattle.decoded_records.specs.Glue.Parts.{field_path}
 use Rattle.vat_view.specs.Glue.TurnTables.{Turning, landing_of, landing_view, landed_reference, landed_call, landed_by, reference_by, call_onward_by, call_ahead_in, IsOwnOrOldCall, IsCallAhead, AreCallsAhead, turning_by, settled_with, by_handover, number_in, handover_at, target_in, turned_in, turns_of, after_turns, Reaches, TurnsAndThen, TurnsOn, ReachesByTurns, own_leap, ahead_in, ahead_at, onward_by, IsOwnOrOld, IsAhead, AreAhead, HaveAhead}

@@ -5,7 +5,7 @@ use Rattle.std.specs.List.{list_any, position_from}
 use Rattle.std.specs.Option.{option_or}
 use Rattle.std.proofs.lemmas.Bool.{cases_Bool, false≢true, or_parts, eqb-true, ne_eqb}
 use Rattle.vat_view.specs.declared.tables.arrivals.Arrivals.{Arrivals}
-use Rattle.decoded_records.specs.Types.{Descriptor, NoCap, SenderHosted, SenderPromise, ReceiverHosted, ReceiverAnswer, RpcMessage, DecodedRecord, Wire, TableKey}
+use Rattle.vat_view.specs.Types.{Descriptor, NoCap, SenderHosted, SenderPromise, ReceiverHosted, ReceiverAnswer, RpcMessage, DecodedRecord, Wire, TableKey}
 use Rattle.decoded_records.specs.Past.{Past, record_at}
 use Rattle.decoded_records.specs.Lives.{descriptors, descriptors_of}
 use Rattle.vat_view.specs.Arrivals.{Arrival, brings, brought_at, arrived}

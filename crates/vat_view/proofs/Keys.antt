@@ -5,7 +5,7 @@ use Rattle.std.specs.declared.cmp.Ordering.TheVariants.{Less, Equal, Greater}
 use Rattle.std.specs.Ordering.{nat_cmp, bool_cmp, ordering_then, is_eq}
 use Rattle.std.specs.Cmp.{unsigned_ties}
 use Rattle.std.specs.Bool.{beq}
-use Rattle.decoded_records.specs.Types.{TableKey}
+use Rattle.vat_view.specs.Types.{TableKey}
 use Rattle.decoded_records.specs.Past.{same_id}
 use Rattle.decoded_records.specs.Glue.Parts.{id_cmp}
 use Rattle.decoded_records.proofs.Naming.{same_id_is}

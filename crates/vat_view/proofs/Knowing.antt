@@ -3,7 +3,7 @@ use Rattle.std.proofs.Common.{◌≡◌, refl, ◌∙◌, ap, true, not, Option,
 use Rattle.std.specs.Prelude.{is_some}
 use Rattle.std.proofs.lemmas.Bool.{and_parts, false≢true}
 use Rattle.number_tables.specs.declared.question.Question.{Question}
-use Rattle.decoded_records.specs.Types.{Return, Finish, DecodedRecord, Wire, TableKey}
+use Rattle.vat_view.specs.Types.{Return, Finish, DecodedRecord, Wire, TableKey}
 use Rattle.decoded_records.specs.Past.{Past, Point, id}
 use Rattle.decoded_records.specs.Questions.{asks_elsewhere, noted_call, opening, return_of, is_opened, is_returned, is_returned_lightly, is_finished, is_released, is_taken, is_unfinished, is_late, closes}
 use Rattle.decoded_records.specs.Lives.{introductions, introductions_at}

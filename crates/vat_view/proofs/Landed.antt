@@ -7,7 +7,7 @@ use Rattle.std.specs.Str.{bytes_eq as same_path}
 use Rattle.std.proofs.lemmas.List.Sums.{sum_by-cons}
 use Rattle.std.proofs.lemmas.Option.{slice_get_past}
 use Rattle.std.proofs.lemmas.Bool.{and_parts, or_left, or_right, or_parts, cases_Bool, not-true, eqb-true, eq-eqb, ne_eqb, both_ways}
-use Rattle.decoded_records.specs.Types.{Descriptor, NoCap, SenderHosted, SenderPromise, ReceiverHosted, ReceiverAnswer, RpcMessage, Outcome, Return, Resolve, Results, Exception, Canceled, Elsewhere, TakeFrom, DecodedRecord, Fulfil, Break, Answer, AnswerBy, Fault, Wire, View, Object, Promise, FieldOf, Import}
+use Rattle.vat_view.specs.Types.{Descriptor, NoCap, SenderHosted, SenderPromise, ReceiverHosted, ReceiverAnswer, RpcMessage, Outcome, Return, Resolve, Results, Exception, Canceled, Elsewhere, TakeFrom, DecodedRecord, Fulfil, Break, Answer, AnswerBy, Fault, Wire, View, Object, Promise, FieldOf, Import}
 use Rattle.decoded_records.specs.Past.{Past, Point, id, point, is, record_index, last_answer, last_where, Each}
 use Rattle.decoded_records.specs.Questions.{is_late, is_over, call_at, call_of, opening}
 use Rattle.decoded_records.specs.Calls.{call_taken_from}

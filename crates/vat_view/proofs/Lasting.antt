@@ -4,7 +4,7 @@ use Rattle.std.specs.Prelude.{find}
 use Rattle.std.specs.List.{list_all, zip}
 use Rattle.std.specs.Option.{option_or}
 use Rattle.std.proofs.lemmas.Bool.{and_parts, or_left, or_right, cases_Bool, false≢true, not-true, eqb-true, both_ways}
-use Rattle.decoded_records.specs.Types.{DecodedRecord, Host, Vow, Field, Wire, View, Object, Promise, FieldOf, TableKey}
+use Rattle.vat_view.specs.Types.{DecodedRecord, Host, Vow, Field, Wire, View, Object, Promise, FieldOf, TableKey}
 use Rattle.decoded_records.specs.Past.{Past, last_answer}
 use Rattle.decoded_records.specs.Questions.{is_late}
 use Rattle.decoded_records.specs.Lives.{Birth, birth, begins, is_in_life}

@@ -11,7 +11,7 @@ use Rattle.vat_view.specs.declared.record.introduced.Introduced.TheVariants.{Not
 use Rattle.decoded_records.specs.declared.origin.Origin.{Origin}
 use Rattle.number_tables.specs.declared.question.Question.{Question}
 use Rattle.vat_view.specs.declared.tables.references.BoundReferences.{BoundReferences}
-use Rattle.decoded_records.specs.Types.{DecodedRecord, Wire, View, TableKey}
+use Rattle.vat_view.specs.Types.{DecodedRecord, Wire, View, TableKey}
 use Rattle.decoded_records.specs.Past.{Past, same_id}
 use Rattle.decoded_records.specs.Uses.{UsesQuestions}
 use Rattle.decoded_records.specs.Questions.{question_opened, is_late}

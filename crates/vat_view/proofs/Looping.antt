@@ -11,7 +11,7 @@ use Rattle.vat_view.specs.declared.tables.waits.waiting_calls.WaitingCalls.{Wait
 use Rattle.number_tables.specs.declared.question.Question.{Question}
 use Rattle.vat_view.specs.declared.tables.waits.loopbacks.Unechoed.{Unechoed}
 use Rattle.vat_view.specs.declared.tables.waits.embargoes.Embargoes.{Embargoes}
-use Rattle.decoded_records.specs.Types.{Return, Exception, Canceled, Disembargo, Sender, DecodedRecord, Wire, View, TableKey}
+use Rattle.vat_view.specs.Types.{Return, Exception, Canceled, Disembargo, Sender, DecodedRecord, Wire, View, TableKey}
 use Rattle.decoded_records.specs.Past.{Past, Point, point, id, is, names, record_index}
 use Rattle.decoded_records.specs.Questions.{call_at, opening}
 use Rattle.decoded_records.specs.Views.{view_of_target}

@@ -4,7 +4,7 @@ use Rattle.std.specs.Prelude.{find, is_some}
 use Rattle.std.proofs.lemmas.Bool.{cases_Bool, ltb-true, ltb-false, eq-eqb}
 use Rattle.number_tables.specs.declared.questions.Questions.{Questions}
 use Rattle.number_tables.specs.declared.exports_imports.ExportsImports.{ExportsImports}
-use Rattle.decoded_records.specs.Types.{View, TableKey}
+use Rattle.vat_view.specs.Types.{View, TableKey}
 use Rattle.decoded_records.specs.Past.{Past, Point, last_answer}
 use Rattle.decoded_records.specs.Questions.{opening, is_returned, is_finished, call_at, call_of}
 use Rattle.decoded_records.specs.Lives.{Birth, birth, begins, held, is_in_life}

@@ -2,7 +2,7 @@
 use Rattle.std.proofs.Common.{◌≡◌, ◌≤◌, ◌+◌, refl, sym, subst, ℕ, [], ◌∷◌, Bool, true, false, not, Option, Some, None, if◌then◌else◌, IsTrue, arith}
 use Rattle.std.specs.Prelude.{is_some, IfSome}
 use Rattle.std.proofs.lemmas.Bool.{and_parts, false≢true, not-true}
-use Rattle.decoded_records.specs.Types.{Finish, DecodedRecord, Wire, TableKey}
+use Rattle.vat_view.specs.Types.{Finish, DecodedRecord, Wire, TableKey}
 use Rattle.decoded_records.specs.Past.{Past, Point, point, id, names, last_since, Each}
 use Rattle.decoded_records.specs.Questions.{question_returned, opens, returns, finishes, is_opened, is_returned, is_finished, is_unreturned, is_unfinished}
 use Rattle.decoded_records.specs.Uses.{UsesQuestions}

@@ -5,7 +5,7 @@ use Rattle.std.specs.List.{zip, cons_option, position_from}
 use Rattle.std.proofs.lemmas.Bool.{cases_Bool, false≢true, ne_eqb, eq-eqb}
 use Rattle.std.proofs.lemmas.List.Sums.{sum_by-cons}
 use Rattle.decoded_records.specs.declared.origin.Origin.{Origin}
-use Rattle.decoded_records.specs.Types.{Descriptor, NoCap, SenderHosted, SenderPromise, ReceiverHosted, ReceiverAnswer, DecodedRecord, Wire, TableKey}
+use Rattle.vat_view.specs.Types.{Descriptor, NoCap, SenderHosted, SenderPromise, ReceiverHosted, ReceiverAnswer, DecodedRecord, Wire, TableKey}
 use Rattle.decoded_records.specs.Past.{same_id, names}
 use Rattle.decoded_records.specs.Lives.{number_introduced, is_promised}
 use Rattle.decoded_records.specs.Views.{places_from, references}

@@ -1,7 +1,7 @@
 -- A record without a message: what it uses and gives back is nothing.
 use Rattle.std.proofs.Common.{◌≡◌, refl, sym, false, arith}
 use Rattle.std.proofs.lemmas.Bool.{false≢true}
-use Rattle.decoded_records.specs.Types.{DecodedRecord, Wire, TableKey}
+use Rattle.vat_view.specs.Types.{DecodedRecord, Wire, TableKey}
 use Rattle.decoded_records.specs.Past.{Past}
 use Rattle.decoded_records.specs.Lives.{gives_back, GivesBackHeld}
 use Rattle.decoded_records.specs.Uses.{UsesQuestions, UsesNumbers}

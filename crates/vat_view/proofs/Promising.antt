@@ -7,7 +7,7 @@ use Rattle.decoded_records.specs.declared.origin.Origin.{Origin}
 use Rattle.number_tables.specs.declared.questions.Questions.{Questions}
 use Rattle.number_tables.specs.declared.exports_imports.ExportsImports.{ExportsImports}
 use Rattle.vat_view.specs.declared.tables.turns.resolves.Resolves.{Resolves}
-use Rattle.decoded_records.specs.Types.{DecodedRecord, TableKey}
+use Rattle.vat_view.specs.Types.{DecodedRecord, TableKey}
 use Rattle.decoded_records.specs.Past.{Past, Point, point, names, record_index, last_answer, last_where, last_since}
 use Rattle.decoded_records.specs.Lives.{Birth, birth, begins, promise_resolved, is_resolved, is_in_life, began_promised}
 use Rattle.number_tables.specs.Glue.LifeTables.{held_origin}

@@ -5,7 +5,7 @@ use Rattle.std.specs.List.{list_all}
 use Rattle.std.specs.Option.{option_or}
 use Rattle.std.proofs.lemmas.Bool.{cases_Bool, and_parts, or_parts, false≢true, eqb-true, eq-eqb, not-true}
 use Rattle.vat_view.specs.declared.tables.waits.waiting_calls.Receipt.{Receipt}
-use Rattle.decoded_records.specs.Types.{Call, Return, Exception, Canceled, DecodedRecord, Make, Deliver, Fault, Wire, Request}
+use Rattle.vat_view.specs.Types.{Call, Return, Exception, Canceled, DecodedRecord, Make, Deliver, Fault, Wire, Request}
 use Rattle.decoded_records.specs.Past.{Past, Point, point, id, is, record_index, last_answer, last_where, last_since, Each}
 use Rattle.decoded_records.specs.Questions.{call_at, opening}
 use Rattle.decoded_records.specs.Views.{view_of_reference, view_of_target}

@@ -9,7 +9,7 @@ use Rattle.vat_view.specs.declared.tables.turns.settlements.Settling.{Settling}
 use Rattle.vat_view.specs.declared.tables.turns.turned.Turned.{Turned}
 use Rattle.vat_view.specs.declared.tables.turns.handovers.Handover.{Handover}
 use Rattle.vat_view.specs.declared.record.unsettled.Unsettled.TheVariants.{Promise as PromiseToKeep, Results as ResultsOf, Import as ImportToResolve}
-use Rattle.decoded_records.specs.Types.{Return, Resolve, DecodedRecord, Fulfil, Break, Answer, AnswerBy, Fault, Wire, View, Object, Promise, FieldOf, Import, TableKey}
+use Rattle.vat_view.specs.Types.{Return, Resolve, DecodedRecord, Fulfil, Break, Answer, AnswerBy, Fault, Wire, View, Object, Promise, FieldOf, Import, TableKey}
 use Rattle.std.specs.Option.{option_or}
 use Rattle.decoded_records.specs.Past.{Past, Point, id, point, record_index, last_answer}
 use Rattle.decoded_records.specs.Questions.{call_at, opening}

@@ -8,7 +8,7 @@ use Rattle.vat_view.specs.declared.tables.turns.settlements.Settlements.{Settlem
 use Rattle.vat_view.specs.declared.tables.turns.settlements.Settling.{Settling}
 use Rattle.vat_view.specs.declared.tables.turns.turned.Turned.TheVariants.{Nowhere}
 use Rattle.vat_view.specs.declared.tables.connections.Connections.{Connections}
-use Rattle.decoded_records.specs.Types.{Return, Resolve, DecodedRecord, Fulfil, Break, Answer, AnswerBy, Fault, Wire, View, Object, Promise, FieldOf, Import, TableKey}
+use Rattle.vat_view.specs.Types.{Return, Resolve, DecodedRecord, Fulfil, Break, Answer, AnswerBy, Fault, Wire, View, Object, Promise, FieldOf, Import, TableKey}
 use Rattle.decoded_records.specs.Lives.{promise_resolved}
 use Rattle.vat_view.specs.Glue.Asking.{taken_from_by}
 use Rattle.vat_view.specs.Glue.TurnTables.{may_turn, turn_target, settled_by, settled_at, settles, SaysSameTurns, IsNoted}

@@ -4,7 +4,7 @@ use Rattle.std.specs.Prelude.{is_some, Result, Ok, Err, OnOk, OnErr}
 use Rattle.number_tables.specs.declared.question.Question.{Question}
 use Rattle.number_tables.specs.declared.questions.Questions.{Questions}
 use Rattle.number_tables.specs.declared.exports_imports.ExportsImports.{ExportsImports}
-use Rattle.decoded_records.specs.Types.{Results, Exception, Canceled, Elsewhere, TakeFrom, Bootstrap, Call, Return, Finish, Release, DecodedRecord, Wire, TableKey}
+use Rattle.vat_view.specs.Types.{Results, Exception, Canceled, Elsewhere, TakeFrom, Bootstrap, Call, Return, Finish, Release, DecodedRecord, Wire, TableKey}
 use Rattle.decoded_records.specs.Past.{Past, Point, point, id, same_id, names, last_answer, last_since}
 use Rattle.decoded_records.specs.Questions.{question_opened, asks_elsewhere, noted_call, opens, returns_lightly, releases, takes_results, opening, return_of, finish_of, is_returned, is_returned_lightly, is_finished, is_released, is_taken, closes}
 use Rattle.decoded_records.specs.Lives.{begins, introductions, introductions_at, introduces, gives_back, introduced_count, released_count, held, is_in_life, GivesBackHeld}

@@ -2,7 +2,7 @@
 use Rattle.std.proofs.Common.{◌≡◌, ◌+◌, ◌<◌, ◌≤◌, inl, inr, sym, ◌∙◌, ap, subst, ℕ, List, [], ◌∷◌, ◌++◌, take, count_by, cond, if◌then◌else◌, arith}
 use Rattle.std.proofs.lemmas.Bool.{cases_Bool}
 use Rattle.std.proofs.lemmas.List.Sums.{sum_by-append, sum_by-cons, sum_by-take-le}
-use Rattle.decoded_records.specs.Types.{TableKey}
+use Rattle.vat_view.specs.Types.{TableKey}
 use Rattle.decoded_records.specs.Past.{same_id}
 use Rattle.decoded_records.proofs.Naming.{same_id_is, same_id_self}
 

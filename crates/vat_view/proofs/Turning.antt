@@ -2,7 +2,7 @@
 use Rattle.std.proofs.Common.{◌≡◌, ℕ, refl, sym, ◌∙◌, subst, List, [], ◌∷◌, ◌++◌, Option, Some, None, ap, Bool, true, false, if◌then◌else◌}
 use Rattle.std.specs.Prelude.{unwrap_or, IsSome}
 use Rattle.std.specs.Option.{option_or}
-use Rattle.decoded_records.specs.Types.{DecodedRecord, Fulfil, Break, View, Object, Promise, FieldOf, Import}
+use Rattle.vat_view.specs.Types.{DecodedRecord, Fulfil, Break, View, Object, Promise, FieldOf, Import}
 use Rattle.decoded_records.specs.Views.{view_of_reference}
 use Rattle.std.proofs.lemmas.Bool.{false≢true, eqb-true}
 use Rattle.decoded_records.specs.Past.{Past, last_answer}

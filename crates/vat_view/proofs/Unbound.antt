@@ -4,7 +4,7 @@ use Rattle.std.specs.Prelude.{is_some}
 use Rattle.std.specs.List.{list_all}
 use Rattle.std.specs.Option.{option_or}
 use Rattle.std.proofs.lemmas.Bool.{cases_Bool, and_parts, and_from, or_parts, or_left, or_right, false≢true, eqb-true}
-use Rattle.decoded_records.specs.Types.{Bootstrap, Call, Return, Results, Exception, Canceled, TakeFrom, DecodedRecord, Make, Deliver, Answer, AnswerBy, Fault, Wire, Request, TableKey}
+use Rattle.vat_view.specs.Types.{Bootstrap, Call, Return, Results, Exception, Canceled, TakeFrom, DecodedRecord, Make, Deliver, Answer, AnswerBy, Fault, Wire, Request, TableKey}
 use Rattle.decoded_records.specs.Past.{Past, point, id, is, last_answer, last_where, Each}
 use Rattle.decoded_records.specs.Questions.{opens, opening, call_at, is_late}
 use Rattle.decoded_records.specs.Views.{view_of_reference, view_of_target}

@@ -4,7 +4,7 @@ use Rattle.std.specs.Prelude.{is_some, unwrap_or, IsSome}
 use Rattle.std.specs.List.{position_from}
 use Rattle.std.specs.Option.{option_or}
 use Rattle.std.proofs.lemmas.Bool.{and_parts, cases_Bool, false≢true, eqb-true}
-use Rattle.decoded_records.specs.Types.{Descriptor, Resolution, Resolve, DecodedRecord, Wire, Object, Promise, FieldOf, Import, TableKey}
+use Rattle.vat_view.specs.Types.{Descriptor, Resolution, Resolve, DecodedRecord, Wire, Object, Promise, FieldOf, Import, TableKey}
 use Rattle.decoded_records.specs.Past.{Past, point, id, names, record_index, last_answer, last_since}
 use Rattle.decoded_records.specs.Lives.{Birth, birth, begins, promise_resolved, is_resolved, is_in_life, descriptors, number_introduced}
 use Rattle.vat_view.specs.Walks.{Next, stays, began_at, resolves, next, TurnsOnce}

@@ -5,7 +5,7 @@ use Rattle.std.specs.List.{cons_option, list_all, filter_map}
 use Rattle.std.proofs.lemmas.List.Folds.{list_all-append}
 use Rattle.std.proofs.lemmas.List.Sums.{sum_by-cons}
 use Rattle.std.proofs.lemmas.Bool.{and_parts, and_from, eqb-true, eq-eqb}
-use Rattle.decoded_records.specs.Types.{Descriptor, NoCap, SenderHosted, SenderPromise, ReceiverHosted, ReceiverAnswer, DecodedRecord, TableKey}
+use Rattle.vat_view.specs.Types.{Descriptor, NoCap, SenderHosted, SenderPromise, ReceiverHosted, ReceiverAnswer, DecodedRecord, TableKey}
 use Rattle.decoded_records.specs.Past.{Past}
 use Rattle.decoded_records.specs.Questions.{question_returned, question_taken, opening, is_tail, is_taken, is_unfinished, is_unreturned, is_late}
 use Rattle.decoded_records.specs.Uses.{questions_used, UsesQuestions}

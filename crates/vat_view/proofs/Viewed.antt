@@ -6,7 +6,7 @@ use Rattle.std.specs.Option.{option_or}
 use Rattle.std.proofs.lemmas.Bool.{and_parts, or_left, or_right, cases_Bool, false≢true, not-true, eqb-true, eq-eqb, lt-ltb}
 use Rattle.std.proofs.lemmas.List.Sums.{sum_by-cons}
 use Rattle.decoded_records.specs.declared.origin.Origin.{Origin}
-use Rattle.decoded_records.specs.Types.{Descriptor, NoCap, SenderHosted, SenderPromise, ReceiverHosted, ReceiverAnswer, RpcMessage, DecodedRecord, Host, Vow, Field, Wire, View, Object, Promise, FieldOf, Import, TableKey}
+use Rattle.vat_view.specs.Types.{Descriptor, NoCap, SenderHosted, SenderPromise, ReceiverHosted, ReceiverAnswer, RpcMessage, DecodedRecord, Host, Vow, Field, Wire, View, Object, Promise, FieldOf, Import, TableKey}
 use Rattle.decoded_records.specs.Past.{Past, point, id, same_id, names, last_answer, record_index, Each}
 use Rattle.decoded_records.specs.Questions.{question_finished, question_taken, is_late, is_opened, is_returned, is_finished, is_unfinished, opening, call_at, noted_call}
 use Rattle.decoded_records.specs.Lives.{Birth, birth, begins, number_introduced, introduces, held, descriptors, is_in_life, GivesBackHeld}

@@ -1,7 +1,7 @@
 -- Which imports came in, and as what (rpc.capnp, the comments of CapDescriptor).
 use Rattle.std.specs.Prelude.{ℕ, Bool, true, false, Option, Some, None, option_and_then, slice_get}
 use Rattle.std.specs.Option.{option_map_or}
-use Rattle.decoded_records.specs.Types.{Descriptor, SenderHosted, SenderPromise, DecodedRecord, Wire}
+use Rattle.vat_view.specs.Types.{Descriptor, SenderHosted, SenderPromise, DecodedRecord, Wire}
 use Rattle.decoded_records.specs.Past.{Past, record_at}
 use Rattle.decoded_records.specs.Lives.{descriptors}
 

@@ -1,7 +1,7 @@
 -- The connections over which views are reached, and those that were aborted (rpc.capnp, the comments of Disembargo and
 -- of Message.abort).
 use Rattle.std.specs.Prelude.{◌≡◌, ℕ, ◌==◌, Bool, true, false, not, ◌||◌, Option, Some, None, if◌then◌else◌, option_map, IsTrue}
-use Rattle.decoded_records.specs.Types.{Edition, First, Later, Bootstrap, Call, Abort, DecodedRecord, Wire, View, Object, Promise, FieldOf, Import}
+use Rattle.vat_view.specs.Types.{Edition, First, Later, Bootstrap, Call, Abort, DecodedRecord, Wire, View, Object, Promise, FieldOf, Import}
 use Rattle.decoded_records.specs.Past.{Past, is, last_answer}
 use Rattle.vat_view.specs.Arrivals.{arrived}
 use Rattle.decoded_records.specs.Calls.{has_passed}

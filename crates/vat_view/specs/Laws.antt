@@ -1,6 +1,6 @@
 -- Laws: what holds of every log whose records keep the rules that are named. `src/laws.rt` promises them.
 use Rattle.std.specs.Prelude.{ℕ, ◌+◌, List, [], ◌∷◌, ◌++◌, Bool, if◌then◌else◌, IsTrue, ⊤}
-use Rattle.decoded_records.specs.Types.{DecodedRecord, TableKey}
+use Rattle.vat_view.specs.Types.{DecodedRecord, TableKey}
 use Rattle.decoded_records.specs.Past.{Past}
 use Rattle.decoded_records.specs.Lives.{is_in_life}
 

@@ -1,3 +1,4 @@
+pub mod Types
 pub mod Walks
 pub mod Arrivals
 pub mod Connections

@@ -1,5 +1,5 @@
 -- The rules that the laws rest on.
-use Rattle.decoded_records.specs.Types.{DecodedRecord}
+use Rattle.vat_view.specs.Types.{DecodedRecord}
 use Rattle.decoded_records.specs.Past.{Past}
 use Rattle.decoded_records.specs.Lives.{GivesBackHeld}
 use Rattle.decoded_records.specs.Uses.{UsesQuestions, UsesNumbers}

@@ -1,7 +1,7 @@
 -- Where views turn, and where that leads (rpc.capnp, the comments of PromisedAnswer, Payload and Resolve).
 use Rattle.std.specs.Prelude.{◌≡◌, ℕ, ◌==◌, List, Bool, true, false, ◌&&◌, Option, Some, None, if◌then◌else◌, unwrap_or, option_and_then, find, IsSome}
 use Rattle.std.specs.Str.{bytes_eq as same_path}
-use Rattle.decoded_records.specs.Types.{Outcome, Results, Exception, Canceled, Elsewhere, TakeFrom, Bootstrap, Call, Return, Finish, Resolve, Release, Disembargo, Abort, DecodedRecord, Host, Vow, Fulfil, Break, Make, Field, Deliver, Answer, AnswerBy, Fault, Wire, View, Object, Promise, FieldOf, Import}
+use Rattle.vat_view.specs.Types.{Outcome, Results, Exception, Canceled, Elsewhere, TakeFrom, Bootstrap, Call, Return, Finish, Resolve, Release, Disembargo, Abort, DecodedRecord, Host, Vow, Fulfil, Break, Make, Field, Deliver, Answer, AnswerBy, Fault, Wire, View, Object, Promise, FieldOf, Import}
 use Rattle.decoded_records.specs.Past.{Past, id, is, record_index, last_answer}
 use Rattle.decoded_records.specs.Questions.{call_at, opening, is_late}
 use Rattle.decoded_records.specs.Lives.{Birth, birth}

@@ -1,7 +1,7 @@
 //! Laws of a log's records, which hold of every log and not of one call.
 
 ghost use Rattle.std.specs.Prelude.{◌≡◌, ◌⊎◌, ◌≤◌, ◌++◌, ℕ, List, Some, true, false, IsSome};
-ghost use Rattle.decoded_records.specs.Types.{DecodedRecord, Fulfil, Break, Wire, Resolution, Resolve, View, Object, Promise, FieldOf, TableKey};
+ghost use Rattle.vat_view.specs.Types.{DecodedRecord, Fulfil, Break, Wire, Resolution, Resolve, View, Object, Promise, FieldOf, TableKey};
 ghost use Rattle.decoded_records.specs.Past.{Past, Each, id};
 ghost use Rattle.decoded_records.specs.Questions.{opens, returns, finishes};
 ghost use Rattle.decoded_records.specs.Lives.{introduced_count, released_count, is_resolved, GivesBackHeld};

@@ -7,7 +7,7 @@ use Rattle.number_tables.specs.declared.call_state.CallState.{CallState}
 use Rattle.number_tables.specs.declared.call_state.CallEntry.{CallEntry}
 use Rattle.number_tables.specs.declared.call_state.CallChange.{CallChange}
 use Rattle.number_tables.specs.declared.call_state.CallChange.TheVariants.{Left, Delivered, Faulted, Answered, Known}
-use Rattle.decoded_records.specs.Types.{View, Object, Promise, FieldOf, Import, Request}
+use Rattle.number_tables.specs.Types.{View, Object, Promise, FieldOf, Import, Request}
 
 -- the goal that an entry has
 abbrev pub aim_in : CallEntry → Option View

@@ -4,7 +4,7 @@ use Rattle.std.specs.Option.{option_or}
 use Rattle.number_tables.specs.declared.exports_imports.ExportsImports.{ExportsImports}
 use Rattle.number_tables.specs.declared.life.Life.{Life}
 use Rattle.decoded_records.specs.declared.origin.Origin.{Origin}
-use Rattle.decoded_records.specs.Types.{TableKey}
+use Rattle.number_tables.specs.Types.{TableKey}
 use Rattle.decoded_records.specs.Past.{same_id}
 use Rattle.number_tables.specs.Glue.Sides.{value_at}
 

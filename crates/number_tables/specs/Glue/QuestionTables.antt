@@ -2,7 +2,7 @@
 use Rattle.std.specs.Prelude.{◌≡◌, ℕ, ◌&&◌, ◌||◌, List, [], Bool, true, false, not, Option, Some, None, if◌then◌else◌, option_map}
 use Rattle.number_tables.specs.declared.question.Question.{Question}
 use Rattle.number_tables.specs.declared.questions.Questions.{Questions}
-use Rattle.decoded_records.specs.Types.{Return, Finish, DecodedRecord, Wire, TableKey}
+use Rattle.number_tables.specs.Types.{Return, Finish, DecodedRecord, Wire, TableKey}
 use Rattle.decoded_records.specs.Past.{id, same_id}
 use Rattle.number_tables.specs.Glue.Sides.{value_at}
 

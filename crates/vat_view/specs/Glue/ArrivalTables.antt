@@ -5,7 +5,7 @@ use Rattle.rising_table.specs.Entries.{entry_at}
 use Rattle.vat_view.specs.declared.tables.arrivals.Arrivals.{Arrivals}
 use Rattle.vat_view.specs.declared.tables.arrivals.Brought.{Brought}
 use Rattle.vat_view.specs.declared.tables.arrivals.Brought.TheVariants as kept
-use Rattle.decoded_records.specs.Types.{Descriptor, SenderHosted, SenderPromise, DecodedRecord, Wire}
+use Rattle.vat_view.specs.Types.{Descriptor, SenderHosted, SenderPromise, DecodedRecord, Wire}
 use Rattle.decoded_records.specs.Past.{Past}
 use Rattle.decoded_records.specs.Lives.{descriptors}
 use Rattle.vat_view.specs.Arrivals.{Arrival, arrived}

@@ -5,7 +5,7 @@ use Rattle.std.specs.Option.{option_or}
 use Rattle.number_tables.specs.declared.question.Question.{Question}
 use Rattle.number_tables.specs.declared.exports_imports.ExportsImports.{ExportsImports}
 use Rattle.vat_view.specs.declared.preconditions.key_counts.KeyCounts.{KeyCounts}
-use Rattle.decoded_records.specs.Types.{Target, Imported, Promised, TakeFrom, Return, Release, DecodedRecord, AnswerBy, Wire, View, FieldOf, TableKey}
+use Rattle.vat_view.specs.Types.{Target, Imported, Promised, TakeFrom, Return, Release, DecodedRecord, AnswerBy, Wire, View, FieldOf, TableKey}
 use Rattle.decoded_records.specs.Past.{id, same_id}
 use Rattle.decoded_records.specs.Views.{target_of}
 use Rattle.decoded_records.specs.Glue.Parts.{id_cmp}

@@ -7,7 +7,7 @@ use Rattle.number_tables.specs.declared.calls.Calls.{Calls}
 use Rattle.number_tables.specs.declared.call_state.CallState.{CallState}
 use Rattle.number_tables.specs.declared.call_state.CallChange.{CallChange}
 use Rattle.number_tables.specs.declared.call_state.CallChange.TheVariants.{Left, Delivered, Faulted, Answered, Known}
-use Rattle.decoded_records.specs.Types.{Bootstrap, Call, Return, Results, Exception, Canceled, TakeFrom, DecodedRecord, Make, Deliver, Answer, AnswerBy, Fault, Wire, View, TableKey}
+use Rattle.vat_view.specs.Types.{Bootstrap, Call, Return, Results, Exception, Canceled, TakeFrom, DecodedRecord, Make, Deliver, Answer, AnswerBy, Fault, Wire, View, TableKey}
 use Rattle.decoded_records.specs.Past.{Past, id}
 use Rattle.decoded_records.specs.Questions.{is_late, call_at, opening}
 use Rattle.decoded_records.specs.Views.{view_of_reference, view_of_target}

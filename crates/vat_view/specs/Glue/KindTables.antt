@@ -7,7 +7,7 @@ use Rattle.number_tables.specs.declared.exports_imports.ExportsImports.{ExportsI
 use Rattle.vat_view.specs.declared.record.introduced.Introduced.{Introduced}
 use Rattle.decoded_records.specs.declared.origin.Origin.{Origin}
 use Rattle.vat_view.specs.declared.tables.turns.resolves.Resolves.{Resolves}
-use Rattle.decoded_records.specs.Types.{Descriptor, DecodedRecord, TableKey}
+use Rattle.vat_view.specs.Types.{Descriptor, DecodedRecord, TableKey}
 use Rattle.decoded_records.specs.Past.{Past, Point, names, record_index, last_where}
 use Rattle.decoded_records.specs.Lives.{number_introduced, is_promised, promise_resolved}
 use Rattle.decoded_records.specs.Glue.Parts.{id_cmp}

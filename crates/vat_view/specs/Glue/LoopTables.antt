@@ -11,7 +11,7 @@ use Rattle.vat_view.specs.declared.tables.waits.queued_call.QueuedCall.{QueuedCa
 use Rattle.vat_view.specs.declared.tables.waits.loopbacks.Unechoed.{Unechoed}
 use Rattle.vat_view.specs.declared.tables.waits.loopbacks.Loopbacks.{Loopbacks}
 use Rattle.vat_view.specs.declared.tables.waits.embargoes.Embargoes.{Embargoes}
-use Rattle.decoded_records.specs.Types.{Call, Return, Exception, Canceled, DecodedRecord, Deliver, Fault, Wire, View, TableKey}
+use Rattle.vat_view.specs.Types.{Call, Return, Exception, Canceled, DecodedRecord, Deliver, Fault, Wire, View, TableKey}
 use Rattle.decoded_records.specs.Past.{Past, Point, id, is, same_id, names, record_index, last_answer}
 use Rattle.decoded_records.specs.Views.{view_of_target}
 use Rattle.decoded_records.specs.Calls.{goal_of, is_at_vat}

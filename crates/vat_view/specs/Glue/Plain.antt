@@ -3,7 +3,7 @@ use Rattle.std.specs.Prelude.{◌≡◌, ℕ, List, [], ◌∷◌, true, false, 
 use Rattle.number_tables.specs.declared.question.Question.{Question}
 use Rattle.number_tables.specs.declared.exports_imports.ExportsImports.{ExportsImports}
 use Rattle.vat_view.specs.declared.record.introduced.Introduced.{Introduced}
-use Rattle.decoded_records.specs.Types.{DecodedRecord, Host, Vow, Field, Wire, View, Object, Promise, FieldOf, TableKey}
+use Rattle.vat_view.specs.Types.{DecodedRecord, Host, Vow, Field, Wire, View, Object, Promise, FieldOf, TableKey}
 use Rattle.decoded_records.specs.Questions.{question_opened, noted_call}
 use Rattle.decoded_records.specs.Lives.{descriptors}
 use Rattle.decoded_records.specs.Views.{references}

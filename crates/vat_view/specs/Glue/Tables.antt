@@ -11,8 +11,7 @@ use Rattle.vat_view.specs.declared.record.introduced.Introduced.{Introduced}
 use Rattle.vat_view.specs.declared.record.introduced.Introduced.TheVariants.{Nothing, Few, Many}
 use Rattle.vat_view.specs.declared.tables.references.BoundReferences.{BoundReferences}
 use Rattle.decoded_records.specs.declared.origin.Origin.{Origin}
-use Rattle.decoded_records.specs.contracts.table_key.TableKeyOrd.TheImpl as id_order
-use Rattle.decoded_records.specs.Types.{Descriptor, SenderHosted, SenderPromise, ReceiverHosted, ReceiverAnswer, Release, DecodedRecord, Host, Vow, Field, Wire, View, Object, Promise, FieldOf, Import, TableKey}
+use Rattle.vat_view.specs.Types.{Descriptor, SenderHosted, SenderPromise, ReceiverHosted, ReceiverAnswer, Release, DecodedRecord, Host, Vow, Field, Wire, View, Object, Promise, FieldOf, Import, TableKey}
 use Rattle.decoded_records.specs.Past.{Past, id, same_id, names, record_index, last_answer}
 use Rattle.decoded_records.specs.Questions.{is_late, question_returned, question_returned_lightly, question_finished, question_released, question_taken, asks_elsewhere, noted_call, opening, return_of, is_returned, is_returned_lightly, is_finished, is_released, is_taken}
 use Rattle.decoded_records.specs.Uses.{UsesQuestions}

@@ -26,7 +26,7 @@ use Rattle.vat_view.specs.declared.tables.turns.handovers.HandedCall.{HandedCall
 use Rattle.vat_view.specs.declared.walks.landing.Landing.{Landing}
 use Rattle.vat_view.specs.declared.walks.landing.Landing.TheVariants.{Reference as ToReference, Call as ToCall}
 use Rattle.vat_view.specs.contracts.record.unsettled.UnsettledOrd.TheImpl as pending_order
-use Rattle.decoded_records.specs.Types.{Outcome, Results, Elsewhere, Return, Resolve, DecodedRecord, Fulfil, Break, Answer, AnswerBy, Fault, Wire, View, Object, Promise, FieldOf, Import, TableKey}
+use Rattle.vat_view.specs.Types.{Outcome, Results, Elsewhere, Return, Resolve, DecodedRecord, Fulfil, Break, Answer, AnswerBy, Fault, Wire, View, Object, Promise, FieldOf, Import, TableKey}
 use Rattle.decoded_records.specs.Past.{Past, Point, id, record_index, last_answer, last_where, Each}
 use Rattle.decoded_records.specs.Questions.{call_at, opening}
 use Rattle.decoded_records.specs.Lives.{Birth, birth}

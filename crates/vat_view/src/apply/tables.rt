@@ -1,7 +1,7 @@
 //! What one record tells the tables.
 
 ghost use Rattle.std.specs.Prelude.{◌≡◌, ◌+◌, ◌-◌, ◌<◌, [], ◌∷◌, ℕ, true, length, count_by, OnOk, OnErr};
-ghost use Rattle.decoded_records.specs.Types.{TableKey};
+ghost use Rattle.vat_view.specs.Types.{TableKey};
 ghost use Rattle.decoded_records.specs.Past.{Past, same_id, names};
 ghost use Rattle.decoded_records.specs.Questions.{noted_call, asks_elsewhere, question_taken};
 ghost use Rattle.decoded_records.specs.Lives.{descriptors, GivesBackHeld};

@@ -1,7 +1,7 @@
 //! The headings of what targets stand for, by the tables. They take no memory.
 
 ghost use Rattle.std.specs.Prelude.{◌≡◌, option_map};
-ghost use Rattle.decoded_records.specs.Types.{FieldOf};
+ghost use Rattle.vat_view.specs.Types.{FieldOf};
 ghost use Rattle.vat_view.specs.Glue.Asking.{targeted_by};
 ghost use Rattle.vat_view.specs.Glue.Queues.{goal_key_of};
 ghost use Rattle.vat_view.specs.Glue.Tables.{bound_at, view_from, number_by};

@@ -1,7 +1,7 @@
 //! What numbers stand for, by the tables.
 
 ghost use Rattle.std.specs.Prelude.{◌≡◌, option_map, IfOk};
-ghost use Rattle.decoded_records.specs.Types.{FieldOf};
+ghost use Rattle.vat_view.specs.Types.{FieldOf};
 ghost use Rattle.vat_view.specs.Glue.Tables.{bound_at, view_from, number_by};
 ghost use Rattle.number_tables.specs.Glue.QuestionTables.{call_by, question_at};
 

@@ -2,7 +2,7 @@
 
 ghost use Rattle.std.specs.Prelude.{◌≡◌, ◌≤◌, ◌<◌, ◌∷◌, [], count_by, map, Decides, IfOk};
 ghost use Rattle.decoded_records.specs.Past.{same_id};
-ghost use Rattle.decoded_records.specs.Types.{TableKey};
+ghost use Rattle.vat_view.specs.Types.{TableKey};
 ghost use Rattle.decoded_records.specs.Lives.{descriptors};
 ghost use Rattle.number_tables.specs.Glue.QuestionTables.{question_at};
 ghost use Rattle.number_tables.specs.Glue.LifeTables.{count_at};

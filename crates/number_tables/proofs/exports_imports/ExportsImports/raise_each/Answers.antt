@@ -3,7 +3,7 @@ use Rattle.std.specs.Prelude.{is_err}
 use Rattle.std.proofs.lemmas.List.{take_more}
 use Rattle.std.proofs.lemmas.List.Sums.{sum_by-append}
 use Rattle.decoded_records.specs.declared.origin.Origin.{Origin}
-use Rattle.decoded_records.specs.Types.{TableKey}
+use Rattle.number_tables.specs.Types.{TableKey}
 use Rattle.decoded_records.specs.Past.{same_id}
 use Rattle.number_tables.specs.Glue.LifeTables.{count_at, origin_at, raised_origin}
 use Rattle.number_tables.proofs.Raising.{raised_more, ok_gives}

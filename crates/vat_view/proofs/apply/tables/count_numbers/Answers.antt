@@ -1,7 +1,7 @@
 use Rattle.std.proofs.Common.{Bool, ℕ, ◌≡◌, sym, ◌∙◌, ap, ap₂, [], length, if◌then◌else◌, List}
 use Rattle.std.specs.List.{filter_map}
 use Rattle.decoded_records.specs.declared.origin.Origin.{Origin}
-use Rattle.decoded_records.specs.Types.{DecodedRecord, TableKey}
+use Rattle.vat_view.specs.Types.{DecodedRecord, TableKey}
 use Rattle.decoded_records.specs.Past.{Past}
 use Rattle.decoded_records.specs.Lives.{descriptors, number_introduced, introductions}
 use Rattle.decoded_records.specs.Uses.{UsesQuestions}

@@ -1,7 +1,7 @@
 use Rattle.std.proofs.Common.{◌+◌, ◌<◌, ◌≤◌, ap, sym, ◌∙◌, ℕ, List, take, get_or, false, count_by, if◌then◌else◌, arith}
 use Rattle.std.proofs.lemmas.Bool.{false≢true}
 use Rattle.std.proofs.lemmas.List.{take_more}
-use Rattle.decoded_records.specs.Types.{TableKey}
+use Rattle.vat_view.specs.Types.{TableKey}
 use Rattle.decoded_records.specs.Past.{same_id}
 use Rattle.number_tables.specs.Glue.LifeTables.{count_at}
 use Rattle.vat_view.proofs.Tallying.{count_more, still_held, too_many}

@@ -1,5 +1,5 @@
 use Rattle.std.proofs.Common.{◌≡◌, ◌≤◌, count_by, take}
-use Rattle.decoded_records.specs.Types.{TableKey}
+use Rattle.vat_view.specs.Types.{TableKey}
 use Rattle.decoded_records.specs.Past.{same_id}
 use Rattle.number_tables.specs.Glue.LifeTables.{count_at}
 use Rattle.vat_view.specs.Glue.Asking.{tally_at}

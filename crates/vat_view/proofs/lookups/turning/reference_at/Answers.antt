@@ -1,6 +1,6 @@
 use Rattle.std.proofs.Common.{sym, ◌∙◌, ap, List, Some, arith}
 use Rattle.std.proofs.lemmas.Option.{slice_get-get_or}
-use Rattle.decoded_records.specs.Types.{Descriptor}
+use Rattle.vat_view.specs.Types.{Descriptor}
 use Rattle.vat_view.proofs.Landed.{reference_met, reference_unmet}
 use Rattle.vat_view.proofs.lookups.turning.reference_at.Goals as goal
 

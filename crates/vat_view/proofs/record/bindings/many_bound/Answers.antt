@@ -3,7 +3,7 @@ use Rattle.std.specs.Option.{option_to_list}
 use Rattle.std.proofs.lemmas.Grind.{common_steps}
 use Rattle.std.proofs.lemmas.List.{take_more}
 use Rattle.std.proofs.lemmas.List.Sums.{sum_by_push}
-use Rattle.decoded_records.specs.Types.{Descriptor, View}
+use Rattle.vat_view.specs.Types.{Descriptor, View}
 use Rattle.decoded_records.specs.Views.{references}
 use Rattle.decoded_records.specs.Glue.Origins.{is_cap}
 use Rattle.vat_view.specs.Glue.Tables.{bound_at, view_by, reference_by, bound_one, bound_from}

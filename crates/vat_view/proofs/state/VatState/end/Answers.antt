@@ -1,5 +1,5 @@
 use Rattle.std.proofs.Common.{◌≡◌, subst, MatchOption}
-use Rattle.decoded_records.specs.Types.{View}
+use Rattle.vat_view.specs.Types.{View}
 use Rattle.decoded_records.specs.Borrowed.{as_view}
 use Rattle.vat_view.specs.Walks.{Next, next, IsEnd}
 use Rattle.vat_view.specs.Glue.Tables.{bound_at}

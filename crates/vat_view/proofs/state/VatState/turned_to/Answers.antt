@@ -1,6 +1,6 @@
 use Rattle.std.proofs.Common.{◌≡◌, ◌∙◌, ap, subst}
 use Rattle.std.specs.Prelude.{option_map}
-use Rattle.decoded_records.specs.Types.{View}
+use Rattle.vat_view.specs.Types.{View}
 use Rattle.decoded_records.specs.Borrowed.{as_view}
 use Rattle.vat_view.specs.Walks.{Next, next, turned_to}
 use Rattle.vat_view.specs.Glue.Tables.{bound_at}

@@ -1,5 +1,5 @@
 use Rattle.std.proofs.Common.{◌≡◌, ◌∙◌, ◌+◌, ℕ, inl, Some, sym, refl, subst}
-use Rattle.decoded_records.specs.Types.{View}
+use Rattle.vat_view.specs.Types.{View}
 use Rattle.vat_view.specs.Glue.Tables.{bound_at}
 use Rattle.vat_view.specs.Glue.TurnTables.{turns_of, IsAhead}
 use Rattle.vat_view.proofs.Hopping.{turns_more, ahead_remembered, calls_carried, further_ahead, onward_kept}

@@ -1,5 +1,5 @@
 use Rattle.std.proofs.Common.{◌≡◌, ℕ, Some}
-use Rattle.decoded_records.specs.Types.{View}
+use Rattle.vat_view.specs.Types.{View}
 use Rattle.vat_view.specs.Glue.Tables.{bound_at}
 use Rattle.vat_view.specs.Glue.TurnTables.{turns_of}
 use Rattle.vat_view.proofs.Binding.{none_ahead}

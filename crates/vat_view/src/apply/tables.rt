@@ -15,7 +15,11 @@ ghost use Rattle.number_tables.specs.Glue.LifeTables.{count_at, origin_at, raise
 
 use crate::record::bindings::{introduced_by, received_bindings};
 use crate::tables::references::BoundReferences;
-use decoded_records::{DecodedRecord, Origin, TableKey, TableKeys, View, asks_elsewhere, descriptors, has_message, introductions, new_references, noted_call, origins, question_finished, question_opened, question_released, question_returned, question_returned_lightly, question_taken};
+use decoded_records::{
+    DecodedRecord, Origin, TableKey, TableKeys, View, asks_elsewhere, descriptors, has_message,
+    introductions, new_references, noted_call, origins, question_finished, question_opened,
+    question_released, question_returned, question_returned_lightly, question_taken,
+};
 use number_tables::{ExportsImports, Question, Questions, given_back_by, is_late};
 use rpc_view::RpcMessage;
 use std::alloc::{AllocError, Global};

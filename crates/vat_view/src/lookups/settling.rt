@@ -7,13 +7,12 @@ ghost use Rattle.number_tables.specs.Glue.LifeTables.{held_origin};
 ghost use Rattle.vat_view.specs.Glue.Asking.{question_taken_here, named_answerer, call_taken_here, taken_from_by};
 ghost use Rattle.vat_view.specs.Glue.TurnTables.{promise_of, results_by, import_by, settled_by, may_turn, IsTurned};
 
-use crate::lookups::meaning::call_of;
 use crate::lookups::turning::turned_by;
 use crate::record::unsettled::Unsettled;
 use crate::tables::references::BoundReferences;
 use crate::tables::turns::settlements::Settling;
 use decoded_records::{DecodedRecord, TableKey, View};
-use number_tables::{ExportsImports, Questions, is_late, opening_call};
+use number_tables::{ExportsImports, Questions, call_of, is_late, opening_call};
 use rpc_view::{Outcome, RpcMessage};
 use std::alloc::{AllocError, Global};
 

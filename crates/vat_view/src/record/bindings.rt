@@ -10,7 +10,9 @@ ghost use Rattle.number_tables.specs.Glue.QuestionTables.{question_at};
 use crate::lookups::meaning::{field_of, view_from, view_of_number};
 use crate::record::introduced::{FEW, Introduced};
 use crate::tables::references::BoundReferences;
-use decoded_records::{DecodedRecord, ShortList, TableKey, View, descriptors, is_cap, origins, references};
+use decoded_records::{
+    DecodedRecord, ShortList, TableKey, View, descriptors, is_cap, origins, references,
+};
 use number_tables::{ExportsImports, Questions};
 use rpc_view::Descriptor;
 use std::alloc::{AllocError, Global};
@@ -218,4 +220,3 @@ pub(crate) fn received_bindings(
         _ => Ok(ShortList::none()),
     }
 }
-

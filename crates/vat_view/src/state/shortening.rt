@@ -4,7 +4,9 @@ ghost use Rattle.std.specs.Prelude.{◌≡◌, ◌<◌};
 ghost use Rattle.decoded_records.specs.Loopbacks.{embargoed_view};
 
 use crate::state::VatState;
-use crate::walks::shortcuts::{WayOn, shorten, shorten_calls, view_of_number, way_after, way_from, way_from_reference};
+use crate::walks::shortcuts::{
+    WayOn, shorten, shorten_calls, view_of_number, way_after, way_from, way_from_reference,
+};
 use cap_frame::Path;
 use decoded_records::{BorrowedView, DecodedRecord, Number, TableKey};
 use rpc_view::{Loopback, Outcome, Payload, RpcMessage, Target};

@@ -15,6 +15,7 @@ use Rattle.decoded_records.specs.Calls.{request_of, is_at_vat, is_served, is_set
 use Rattle.decoded_records.specs.Bindings.{is_bound_call}
 use Rattle.number_tables.specs.Glue.QuestionTables.{late_by, opening_call_in}
 use Rattle.vat_view.specs.Glue.Asking.{targeted_by, taken_from_by}
+use Rattle.number_tables.specs.Glue.CallStates.{call_state_at, after_change}
 
 -- what looking back finds of a call that is bound
 abbrev pub call_state_of : ℕ → Past → Option CallState

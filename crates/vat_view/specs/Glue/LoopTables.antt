@@ -19,7 +19,7 @@ use Rattle.decoded_records.specs.Loopbacks.{sender_loopback, receiver_loopback, 
 use Rattle.decoded_records.specs.Glue.Parts.{id_cmp}
 use Rattle.number_tables.specs.Glue.QuestionTables.{opening_call_in}
 use Rattle.vat_view.specs.Glue.Asking.{targeted_by}
-use Rattle.number_tables.specs.Glue.CallStates.{call_state_at, goal_in}
+use Rattle.number_tables.specs.Glue.CallStates.{call_state_at, goal_in, same_target}
 use Rattle.vat_view.specs.Glue.Queues.{queued_at, is_queued, Stay, OthersStay}
 
 -- ---- loopbacks

@@ -9,6 +9,7 @@ use Rattle.decoded_records.specs.Lives.{descriptors}
 use Rattle.decoded_records.specs.Views.{references}
 use Rattle.decoded_records.specs.Bindings.{new_references, new_calls, named_references, named_calls, notes_call}
 use Rattle.vat_view.specs.Glue.Tables.{view_by, bound_from}
+use Rattle.decoded_records.specs.Glue.Parts.{has_message}
 
 -- this call is noted beside a message that opens no question, and no reference is
 abbrev pub IsNotedAlone : ℕ → DecodedRecord → Type 0

@@ -18,6 +18,9 @@ use Rattle.decoded_records.specs.Uses.{UsesQuestions}
 use Rattle.decoded_records.specs.Bindings.{Refers, NotesEach}
 use Rattle.decoded_records.specs.Views.{placed_references, references, view_of_reference}
 use Rattle.decoded_records.specs.Lives.{GivesBackHeld, Birth, begins, is_in_life, descriptors, began_promised, introductions, introductions_at, introduced_count, released_count, held}
+use Rattle.number_tables.specs.Glue.LifeTables.{count_at, origin_at, held_origin}
+use Rattle.number_tables.specs.Glue.QuestionTables.{question_at, with_return, with_light_return, with_finish, with_release, with_taken, call_by}
+use Rattle.decoded_records.specs.Glue.Origins.{is_cap, origins_from}
 
 -- what looking back finds of a question that was opened
 abbrev pub question_known : TableKey → Past → Option Question

@@ -37,6 +37,7 @@ use Rattle.decoded_records.specs.Bindings.{is_bound}
 use Rattle.vat_view.specs.Glue.FieldTargets.{target_among}
 use Rattle.vat_view.specs.Glue.Tables.{bound_at}
 use Rattle.number_tables.specs.Glue.LifeTables.{held_origin}
+use Rattle.decoded_records.specs.Glue.Parts.{field_path}
 
 -- ---- what records settle
 

@@ -236,7 +236,8 @@ fn several_introductions(alloc: Global, event: &DecodedRecord) -> Result<TableKe
     TableKeys::new(alloc, ids)
 }
 
-/// The numbers that a record introduces, in the order of their places; those of a late Return aren't counted.
+/// The numbers that a record introduces, in the order of their places; those of a late Return aren't counted. The only
+/// error is that memory ran out.
 pub fn introductions(
     alloc: Global,
     late: bool,
@@ -330,7 +331,7 @@ fn many_origins(
 }
 
 /// What a record of this number introduces, with the origins; a late Return's introductions aren't counted. Most records
-/// have one descriptor at most, and then it takes no memory.
+/// have one descriptor at most, and then it takes no memory. The only error is that memory ran out.
 pub fn origins(
     alloc: Global,
     late: bool,

@@ -3,12 +3,12 @@
 //! It stands on `rpc_view`, which reads the messages, on `vat_log`, and on `cap_frame` for its paths. Here stand the
 //! definitions by which `vat_view` answers, since they are said of such records. A point of a log is the list of the
 //! records before it, the newest first (`specs/Past.antt`). By it are said: when questions are opened, returned and
-//! finished, and which Returns are late (`specs/Questions.antt`); how often export and import numbers are held, and their
-//! lives (`specs/Lives.antt`); what references, numbers, descriptors and targets stand for (`specs/Views.antt`, and of a
-//! number as its vat names it `specs/Numbers.antt`); calls at the vat, and what is known of their results
+//! finished, and which Returns are late (`specs/Questions.antt`); how often export and import numbers are held, and
+//! their lives (`specs/Lives.antt`); what references, numbers, descriptors and targets stand for (`specs/Views.antt`,
+//! and of a number as its vat names it `specs/Numbers.antt`); calls at the vat, and what is known of their results
 //! (`specs/Calls.antt`); loopbacks (`specs/Loopbacks.antt`); and what a record uses (`specs/Uses.antt`) and binds
-//! (`specs/Bindings.antt`). How a record of a log is read is said in `specs/Decoding.antt`. `number_tables` and `vat_view`
-//! are rooms of the same house: they share the glue, and what they alone call of this is exported too.
+//! (`specs/Bindings.antt`). How a record of a log is read is said in `specs/Decoding.antt`. `number_tables` and
+//! `vat_view` are rooms of the same house: they share the glue, and what they alone call of this is exported too.
 #![tactic(auto)]
 
 mod borrowed_view;

@@ -53,7 +53,7 @@ impl TableKeys {
         }
     }
 
-    /// The list of these.
+    /// The list of these. The only error is that memory ran out.
     pub fn new(alloc: Global, items: Vec<TableKey>) -> Result<TableKeys, AllocError>
         ensures { IfOk result (λ ids. ids ≡ items.items) }
     {

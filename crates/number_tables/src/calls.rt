@@ -32,7 +32,7 @@ impl Calls {
         self.entries.has(call)
     }
 
-    /// What this call asked for when it came to the vat, if it came.
+    /// What this call asked for when it came to the vat, if it came. The only error is that memory ran out.
     pub fn request_of(&self, call: u64) -> Result<Option<Request>, AllocError>
         ensures { IfOk result (λ asked. asked ≡ request_in (call_state_at self.now call)) }
     {
@@ -62,7 +62,7 @@ impl Calls {
         }
     }
 
-    /// A copy of the goal of this call.
+    /// A copy of the goal of this call. The only error is that memory ran out.
     pub fn goal_of(&self, call: u64) -> Result<Option<View>, AllocError>
         ensures { IfOk result (λ goal. goal ≡ goal_in (call_state_at self.now call)) }
     {

@@ -1,11 +1,12 @@
 //! What the numbers of one log stand for, by looking back over its records.
 //!
-//! It stands on `decoded_records`, the records with their messages read, which has most of the definitions by which this
-//! crate answers; on `number_tables` and `rising_table` for its tables; and on `rpc_view`, `vat_log` and `cap_frame` for what
-//! a record has in it. A point of a log is the list of the records before it, the newest first. Here are said, by it: where
-//! views turn, and where that leads (`specs/Walks.antt`); which imports came in (`specs/Arrivals.antt`); and over which
-//! connections views are reached, and which were aborted (`specs/Connections.antt`). What holds of all logs by these
-//! definitions is promised by the functions of `src/laws.rt`, which do nothing.
+//! It stands on `decoded_records`, the records with their messages read, which has most of the definitions by which
+//! this crate answers; on `number_tables` and `rising_table` for its tables; and on `rpc_view`, `vat_log` and
+//! `cap_frame` for what a record has in it. A point of a log is the list of the records before it, the newest first.
+//! Here are said, by it: where views turn, and where that leads (`specs/Walks.antt`); which imports came in
+//! (`specs/Arrivals.antt`); and over which connections views are reached, and which were aborted
+//! (`specs/Connections.antt`). What holds of all logs by these definitions is promised by the functions of
+//! `src/laws.rt`, which do nothing.
 #![tactic(auto)]
 
 mod apply;

@@ -1,4 +1,4 @@
-//! What is asked of questions, numbers and records, by the tables.
+//! What is asked of numbers and records, by the tables.
 
 ghost use Rattle.std.specs.Prelude.{◌≡◌, ◌≤◌, ◌<◌, ◌∷◌, [], count_by, map, Decides, IfOk};
 ghost use Rattle.decoded_records.specs.Past.{same_id};

@@ -1,5 +1,5 @@
-//! The tables that are kept of a log beside those of `number_tables`: references, connections, what came in; what waits, and
-//! what turned. And all of them together.
+//! The tables that are kept of a log beside those of `number_tables`: references, connections, what came in; what
+//! waits, and what turned. And all of them together.
 
 pub(crate) mod all_tables;
 pub(crate) mod arrivals;

@@ -13,7 +13,7 @@ use Rattle.turn_taking.specs.Turns.{Turns}
 use Rattle.vat_log.specs.declared.body.Body.{Body}
 use Rattle.vat_rules.specs.Judged.{IsGood}
 use Rattle.vat_rules.specs.declared.rule.Rule.TheVariants as rule
-use Rattle.vat_view.specs.Past.{Each}
+use Rattle.decoded_records.specs.Past.{Each}
 use Rattle.call_order.specs.Glue.Counts.{count_of, turns_counted}
 use Rattle.call_order.specs.Glue.Deeds.{deed_of}
 use Rattle.call_order.specs.Glue.Names.{name_come, AreNamed}

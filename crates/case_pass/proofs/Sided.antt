@@ -110,31 +110,31 @@ module _ (lanes : List (Option LaneSoFar)) (i : ℕ) (lane after : LaneSoFar) (t
         | inr apart ↦ (one, set_other lanes i j (Some after) apart ∙ is, refl)
       ]
 
-  module _ (so : AreInStep lanes taken.in_order) where
-    own_records : after.read.log.records ≡ records_of v more.in_order ++ after.ahead
+  module _ (so : AreInStep lanes taken.all) where
+    own_records : after.read.log.records ≡ records_of v more.all ++ after.ahead
     own_records =
-        ap (λ (r : StreamSoFar). r.log.records) took.read ∙ so.each i lane there ∙ ap (λ (l : List Body). records_of v taken.in_order ++ l) took.ahead
-        ∙ sym (append_assoc (records_of v taken.in_order) took.records after.ahead)
-        ∙ ap (λ (l : List Body). l ++ after.ahead) (sym (records_with_own v took.records taken.in_order) ∙ ap (records_of v) (sym took.in_turn))
+        ap (λ (r : StreamSoFar). r.log.records) took.read ∙ so.each i lane there ∙ ap (λ (l : List Body). records_of v taken.all ++ l) took.ahead
+        ∙ sym (append_assoc (records_of v taken.all) took.records after.ahead)
+        ∙ ap (λ (l : List Body). l ++ after.ahead) (sym (records_with_own v took.records taken.all) ∙ ap (records_of v) (sym took.all))
 
-    each_now : (j : ℕ) (one : LaneSoFar) → IsLaneAt later j one → one.read.log.records ≡ records_of (vat_of one) more.in_order ++ one.ahead
+    each_now : (j : ℕ) (one : LaneSoFar) → IsLaneAt later j one → one.read.log.records ≡ records_of (vat_of one) more.all ++ one.ahead
     each_now j one is =
         elim (at_place j one is) [
-          | inl own ↦ subst (λ (l : LaneSoFar). l.read.log.records ≡ records_of (vat_of l) more.in_order ++ l.ahead) own.1
-              (own_records ∙ ap (λ (w : ℕ). records_of w more.in_order ++ after.ahead) (sym same_vat))
+          | inl own ↦ subst (λ (l : LaneSoFar). l.read.log.records ≡ records_of (vat_of l) more.all ++ l.ahead) own.1
+              (own_records ∙ ap (λ (w : ℕ). records_of w more.all ++ after.ahead) (sym same_vat))
           | inr other ↦
               let apart : v ≢ vat_of one = λ e. other.0 (so.apart i j lane one there other.1 e) in
-              so.each j one other.1 ∙ ap (λ (l : List Body). l ++ one.ahead) (sym (ap (records_of (vat_of one)) took.in_turn ∙ records_with_other v (vat_of one) took.records taken.in_order apart))
+              so.each j one other.1 ∙ ap (λ (l : List Body). l ++ one.ahead) (sym (ap (records_of (vat_of one)) took.all ∙ records_with_other v (vat_of one) took.records taken.all apart))
         ]
 
-    known_now : (turn : ℕ × Body) → Contains more.in_order turn → (j : ℕ) × (one : LaneSoFar) × IsLaneAt later j one × (vat_of one ≡ turn.0)
+    known_now : (turn : ℕ × Body) → Contains more.all turn → (j : ℕ) × (one : LaneSoFar) × IsLaneAt later j one × (vat_of one ≡ turn.0)
     known_now turn has =
-        elim (turn_of v took.records taken.in_order turn (subst (λ (t : Turns). Contains t turn) took.in_turn has)) [
+        elim (turn_of v took.records taken.all turn (subst (λ (t : Turns). Contains t turn) took.all has)) [
           | inl own ↦ let now = later_at i lane there in (i, now.0, now.1, now.2 ∙ own)
           | inr old ↦ let at = so.known turn old in let now = later_at at.0 at.1 at.2 in (at.0, now.0, now.1, now.2 ∙ at.3)
         ]
 
-    pub in_step_now : AreInStep later more.in_order
+    pub in_step_now : AreInStep later more.all
     in_step_now = record {
       each = each_now;
       apart = λ j k one other is is_too same. (
@@ -153,13 +153,15 @@ mapped_at f xs i d lt = slice_get-map f xs i ∙ ap (option_map f) (slice_get-ge
 -- the lanes up to a place took their turns
 pub record RoundSoFar (lanes now : List (Option LaneSoFar)) (taken more : Taken) (some : Bool) (place : ℕ) : Type 0 where
   pub there : AreThere now
-  pub in_step : AreInStep lanes taken.in_order → AreInStep now more.in_order
+  pub in_step : AreInStep lanes taken.all → AreInStep now more.all
   pub in_order : AreInOrder taken.in_order → AreInOrder more.in_order
   pub links : more.links ≡ taken.links
-  pub alike : taken.all ≡ taken.in_order → more.all ≡ more.in_order
+  pub phase : more.is_stuck ≡ taken.is_stuck
+  pub kept : taken.is_stuck ≡ true → more.in_order ≡ taken.in_order
+  pub alike : taken.is_stuck ≡ false → taken.all ≡ taken.in_order → more.all ≡ more.in_order
   pub reads : (i : ℕ) (lane : LaneSoFar) → IsLaneAt now i lane → (before : LaneSoFar) × IsLaneAt lanes i before × (lane.read ≡ before.read) × (lane.ending ≡ before.ending)
   pub same : some ≡ false → (i : ℕ) (lane : LaneSoFar) → IsLaneAt now i lane → IsLaneAt lanes i lane
-  pub still : some ≡ false → (i : ℕ) (lane : LaneSoFar) → i < place → IsLaneAt now i lane → IsHeldUp more.in_order lane
+  pub still : some ≡ false → (i : ℕ) (lane : LaneSoFar) → i < place → IsLaneAt now i lane → IsHeldUp more lane
 
 pub round_begins : (lanes : List (Option LaneSoFar)) (taken : Taken) → AreThere lanes → RoundSoFar lanes lanes taken taken false 0
 round_begins lanes taken there = record {
@@ -167,7 +169,9 @@ round_begins lanes taken there = record {
   in_step = λ so. so;
   in_order = λ so. so;
   links = refl;
-  alike = λ same. same;
+  phase = refl;
+  kept = λ stuck. refl;
+  alike = λ free same. same;
   reads = λ i lane is. (lane, is, refl, refl);
   same = λ none i lane is. is;
   still = λ none i lane lt. absurd (omega arith);
@@ -192,6 +196,23 @@ no_turns_taken : (v : ℕ) (records : List Body) (turns : Turns) → length reco
 no_turns_taken v [] turns none = refl
 no_turns_taken v (b ∷ records) turns none = absurd (omega (arith, none))
 
+in_order_same : (stuck : Bool) (before after : Turns) (v : ℕ) (records : List Body) → length records ≡ 0 → (stuck ≡ false → after ≡ turns_with v records ++ before) → (stuck ≡ true → after ≡ before) → after ≡ before
+in_order_same true before after v records none free stuck = stuck refl
+in_order_same false before after v records none free stuck = free refl ∙ no_turns_taken v records before none
+
+same_turns : (a b : Taken) → a.links ≡ b.links → a.in_order ≡ b.in_order → a.all ≡ b.all → a.is_stuck ≡ b.is_stuck → a ≡ b
+same_turns a b links in_order all phase =
+    ap (λ (x : List ℕ). let t : Taken = record { links = x; in_order = a.in_order; all = a.all; is_stuck = a.is_stuck } in t) links
+    ∙ ap (λ (x : Turns). let t : Taken = record { links = b.links; in_order = x; all = a.all; is_stuck = a.is_stuck } in t) in_order
+    ∙ ap (λ (x : Turns). let t : Taken = record { links = b.links; in_order = b.in_order; all = x; is_stuck = a.is_stuck } in t) all
+    ∙ ap (λ (x : Bool). let t : Taken = record { links = b.links; in_order = b.in_order; all = b.all; is_stuck = x } in t) phase
+
+-- where no record was taken, no turn was
+unchanged_turns : (more next : Taken) (v : ℕ) (records : List Body) → length records ≡ 0 → next.links ≡ more.links → next.is_stuck ≡ more.is_stuck → next.all ≡ turns_with v records ++ more.all
+    → (more.is_stuck ≡ false → next.in_order ≡ turns_with v records ++ more.in_order) → (more.is_stuck ≡ true → next.in_order ≡ more.in_order) → next ≡ more
+unchanged_turns more next v records none links phase all free stuck =
+    same_turns next more links (in_order_same more.is_stuck more.in_order next.in_order v records none free stuck) (all ∙ no_turns_taken v records more.all none) phase
+
 module _ (lanes now : List (Option LaneSoFar)) (taken more : Taken) (some : Bool) (place : ℕ) (so : RoundSoFar lanes now taken more some place) (lane after : LaneSoFar)
     (at : IsLaneAt now place lane) (next : Taken) (took : ℕ) (turned : TookTurns lane after more next took) where
   abbrev here : List (Option LaneSoFar)
@@ -209,13 +230,16 @@ module _ (lanes now : List (Option LaneSoFar)) (taken more : Taken) (some : Bool
       let first = so.reads i b.0 b.1 in
       (first.0, first.1, b.2 ∙ first.2, b.3 ∙ first.3)
 
-  pub goes_on : (now_some : Bool) → (now_some ≡ false → (some ≡ false) × (took ≡ 0)) → (took ≡ 0 → IsHeldUp next.in_order after) → RoundSoFar lanes here taken next now_some (place + 1)
+  pub goes_on : (now_some : Bool) → (now_some ≡ false → (some ≡ false) × (took ≡ 0)) → (took ≡ 0 → IsHeldUp next after) → RoundSoFar lanes here taken next now_some (place + 1)
   goes_on now_some none held = record {
     there = there_now;
     in_step = λ begun. in_step_now now place lane after at more next took turned (so.in_step begun);
     in_order = λ begun. turned.in_order (so.in_order begun);
     links = turned.links ∙ so.links;
-    alike = λ same. turned.all ∙ ap (λ (t : Turns). turns_with (vat_of lane) turned.records ++ t) (so.alike same) ∙ sym turned.in_turn;
+    phase = turned.phase ∙ so.phase;
+    kept = λ stuck. turned.kept (so.phase ∙ stuck) ∙ so.kept stuck;
+    alike = λ free same.
+        turned.all ∙ ap (λ (t : Turns). turns_with (vat_of lane) turned.records ++ t) (so.alike free same) ∙ sym (turned.in_turn (so.phase ∙ free));
     reads = reads_now;
     same = λ nothing i one is. (
         let both = none nothing in
@@ -229,10 +253,10 @@ module _ (lanes now : List (Option LaneSoFar)) (taken more : Taken) (some : Bool
     still = λ nothing i one lt is. (
         let both = none nothing in
         elim (at_place now place lane after at more next took turned i one is) [
-          | inl own ↦ subst (IsHeldUp next.in_order) own.1 (held both.1)
+          | inl own ↦ subst (IsHeldUp next) own.1 (held both.1)
           | inr other ↦
-              let same : next.in_order ≡ more.in_order = turned.in_turn ∙ no_turns_taken (vat_of lane) turned.records more.in_order (turned.counted ∙ both.1) in
-              subst (λ (t : Turns). IsHeldUp t one) (sym same) (so.still both.0 i one (let apart = λ (e : place ≡ i). other.0 e in before_place i lt apart) other.1)
+              subst (λ (t : Taken). IsHeldUp t one) (sym (unchanged_turns more next (vat_of lane) turned.records (turned.counted ∙ both.1) turned.links turned.phase turned.all turned.in_turn turned.kept))
+              (so.still both.0 i one (let apart = λ (e : place ≡ i). other.0 e in before_place i lt apart) other.1)
         ]
         );
   }
@@ -251,9 +275,11 @@ round_ends lanes now taken more some place so le = (
     in_step = so.in_step;
     in_order = so.in_order;
     links = so.links;
+    phase = so.phase;
+    kept = so.kept;
     alike = so.alike;
     reads = so.reads;
-      same = so.same;
+    same = so.same;
     still = λ none i lane is. so.still none i lane (let lt = within now i (Some lane) is in omega (arith, lt, le)) is;
   },
 )

@@ -1,12 +1,12 @@
 -- Lanes are read ahead, and then their vats take turns, again and again.
 use Rattle.std.proofs.Common.{◌≡◌, ℕ, suc, zero, ◌<◌, Bool, true, false, ◌||◌, List, [], ◌∷◌, ◌++◌, length, map, get_or, Option, Some, None, refl, sym, ap, subst, ◌∙◌, arith}
-use Rattle.std.specs.Prelude.{IfSome, is_none, slice_get}
+use Rattle.std.specs.Prelude.{IfSome, is_none, is_some, slice_get}
 use Rattle.std.specs.List.{list_any}
-use Rattle.std.proofs.lemmas.List.{append_assoc, length-map}
+use Rattle.std.proofs.lemmas.List.{append_assoc, append-nil, length-map}
 use Rattle.vat_log.specs.declared.body.Body.{Body}
 use Rattle.turn_taking.specs.Turns.{Turns, records_of, AreInOrder}
-use Rattle.case_pass.specs.Fake.{LaneSoFar, Taken, GoesOn, HasNext}
-use Rattle.case_pass.specs.Pass.{vat_of, IsLaneAt, AreThere, AreInStep, AreFilled, AreHeldUp, IsHeldUp, IsPass, IsRound}
+use Rattle.case_pass.specs.Fake.{LaneSoFar, StreamSoFar, Taken, GoesOn, HasNext}
+use Rattle.case_pass.specs.Pass.{vat_of, IsLaneAt, AreThere, AreInStep, AreFilled, AreHeldUp, IsHeldUp, IsPass, IsRound, IsFurther, AreFurther}
 use Rattle.case_pass.proofs.Sided.{mapped_at, within, lane_there}
 
 or_first : (a b : Bool) → (a || b) ≡ false → a ≡ false
@@ -91,12 +91,43 @@ pub round_keeps : (lanes longer after : List (Option LaneSoFar)) (taken more : T
     → IsPass after more
 round_keeps lanes longer after taken more some so grown there there_now round = record {
   there = there_now;
-  in_step = round.in_step (stays_in_step lanes longer grown so.there taken.in_order so.in_step there);
+  in_step = round.in_step (stays_in_step lanes longer grown so.there taken.all so.in_step there);
   in_order = round.in_order so.in_order;
-  alike = round.alike so.alike;
+  alike = λ free. round.alike (sym round.phase ∙ free) (so.alike (sym round.phase ∙ free));
 }
 
 pub round_held : (lanes longer after : List (Option LaneSoFar)) (taken more : Taken) (some : Bool) → IsPass lanes taken → AreFilled lanes longer → IsRound longer after taken more some → some ≡ false
-    → AreHeldUp after more.in_order
+    → AreHeldUp after more
 round_held lanes longer after taken more some so grown round none i lane is =
-    (round.still none i lane is, has_next lanes longer grown so.there taken.in_order so.in_step i lane (round.same none i lane is))
+    (round.still none i lane is, has_next lanes longer grown so.there taken.all so.in_step i lane (round.same none i lane is))
+
+-- ---- lanes go on
+
+pub as_far : (lanes : List (Option LaneSoFar)) → AreFurther lanes lanes
+as_far lanes i one is = (one, is, record { vat = refl; more = []; records = sym (append-nil one.read.log.records); over = λ ended. (refl, refl) })
+
+joined : (one two three : LaneSoFar) → IsFurther one two → IsFurther two three → IsFurther one three
+joined one two three first then = record {
+  vat = then.vat ∙ first.vat;
+  more = first.more ++ then.more;
+  records = then.records ∙ ap (λ (l : List Body). l ++ then.more) first.records ∙ append_assoc one.read.log.records first.more then.more;
+  over = λ ended. (
+      let own = first.over ended in
+      let own_too = then.over (ap (λ (o : Option Bool). is_some o) own.1 ∙ ended) in
+      (ap (λ (l : List Body). l ++ then.more) own.0 ∙ own_too.0, own_too.1 ∙ own.1)
+      );
+}
+
+pub round_further : (first lanes longer after : List (Option LaneSoFar)) (taken more : Taken) (some : Bool) → AreFurther first lanes → IsPass lanes taken → AreFilled lanes longer → IsRound longer after taken more some
+    → AreFurther first after
+round_further first lanes longer after taken more some so pass grown round i one is =
+    let read = round.reads i one is in
+    let b = before lanes longer grown pass.there taken.all pass.in_step i read.0 read.1 in
+    let old = so i b.0 b.1 in
+    let further : IsFurther b.0 one = record {
+      vat = ap (λ (r : StreamSoFar). r.log.vat) read.2 ∙ b.2.vat;
+      more = b.2.more;
+      records = ap (λ (r : StreamSoFar). r.log.records) read.2 ∙ b.2.records;
+      over = λ ended. (let over = b.2.over ended in (over.0, read.3 ∙ over.1));
+    } in
+    (old.0, old.1, joined old.0 b.0 one old.2 further)

@@ -1,8 +1,10 @@
 -- The lanes of a case that are read side by side, and the turns that their vats took.
-use Rattle.std.specs.Prelude.{◌≡◌, ℕ, ◌<◌, Bool, false, List, [], ◌∷◌, ◌++◌, length, map, reverse, Option, Some, None, Contains, slice_get}
+use Rattle.std.specs.Prelude.{◌≡◌, ℕ, ◌<◌, Bool, true, false, List, [], ◌∷◌, ◌++◌, length, map, reverse, Option, Some, None, Contains, is_some, option_map, slice_get}
+use Rattle.std.specs.List.{filter_map}
+use Rattle.vat_log.specs.Log.{Log}
 use Rattle.vat_log.specs.declared.body.Body.{Body}
-use Rattle.turn_taking.specs.Turns.{Turns, records_of, may_follow, AreInOrder}
-use Rattle.case_pass.specs.Fake.{LaneSoFar, Taken, GoesOn, HasNext}
+use Rattle.turn_taking.specs.Turns.{Turns, records_of, AreInOrder}
+use Rattle.case_pass.specs.Fake.{LaneSoFar, Taken, may_come, GoesOn, HasNext}
 
 -- the vat whose log a lane reads
 abbrev pub vat_of : LaneSoFar → ℕ
@@ -24,8 +26,8 @@ pub record AreInStep (lanes : List (Option LaneSoFar)) (turns : Turns) : Type 0 
   pub known : (turn : ℕ × Body) → Contains turns turn → (i : ℕ) × (lane : LaneSoFar) × IsLaneAt lanes i lane × (vat_of lane ≡ turn.0)
 
 -- the first record ahead, if there is one, may not come next
-abbrev pub IsHeldUp : Turns → LaneSoFar → Type 0
-IsHeldUp turns lane = (next : Body) → slice_get lane.ahead 0 ≡ Some next → may_follow turns (vat_of lane) next ≡ false
+abbrev pub IsHeldUp : Taken → LaneSoFar → Type 0
+IsHeldUp taken lane = (next : Body) → slice_get lane.ahead 0 ≡ Some next → may_come taken (vat_of lane) next ≡ false
 
 -- a vat's turns with these records, the newest first
 abbrev pub turns_with : ℕ → List Body → Turns
@@ -39,19 +41,23 @@ pub record TookTurns (lane after : LaneSoFar) (taken more : Taken) (count : ℕ)
   pub counted : length records ≡ count
   pub ahead : lane.ahead ≡ records ++ after.ahead
   pub links : more.links ≡ taken.links
-  pub in_turn : more.in_order ≡ turns_with (vat_of lane) records ++ taken.in_order
+  pub phase : more.is_stuck ≡ taken.is_stuck
+  pub in_turn : taken.is_stuck ≡ false → more.in_order ≡ turns_with (vat_of lane) records ++ taken.in_order
+  pub kept : taken.is_stuck ≡ true → more.in_order ≡ taken.in_order
   pub all : more.all ≡ turns_with (vat_of lane) records ++ taken.all
   pub in_order : AreInOrder taken.in_order → AreInOrder more.in_order
 
 -- each lane took its turns as far as these lanes, and whether any took one
 pub record IsRound (lanes after : List (Option LaneSoFar)) (taken more : Taken) (some : Bool) : Type 0 where
-  pub in_step : AreInStep lanes taken.in_order → AreInStep after more.in_order
+  pub in_step : AreInStep lanes taken.all → AreInStep after more.all
   pub in_order : AreInOrder taken.in_order → AreInOrder more.in_order
   pub links : more.links ≡ taken.links
-  pub alike : taken.all ≡ taken.in_order → more.all ≡ more.in_order
+  pub phase : more.is_stuck ≡ taken.is_stuck
+  pub kept : taken.is_stuck ≡ true → more.in_order ≡ taken.in_order
+  pub alike : taken.is_stuck ≡ false → taken.all ≡ taken.in_order → more.all ≡ more.in_order
   pub reads : (i : ℕ) (lane : LaneSoFar) → IsLaneAt after i lane → (before : LaneSoFar) × IsLaneAt lanes i before × (lane.read ≡ before.read) × (lane.ending ≡ before.ending)
   pub same : some ≡ false → (i : ℕ) (lane : LaneSoFar) → IsLaneAt after i lane → IsLaneAt lanes i lane
-  pub still : some ≡ false → (i : ℕ) (lane : LaneSoFar) → IsLaneAt after i lane → IsHeldUp more.in_order lane
+  pub still : some ≡ false → (i : ℕ) (lane : LaneSoFar) → IsLaneAt after i lane → IsHeldUp more lane
 
 -- more was read ahead in each lane, unless memory was refused
 pub record AreFilled (lanes longer : List (Option LaneSoFar)) : Type 0 where
@@ -61,10 +67,29 @@ pub record AreFilled (lanes longer : List (Option LaneSoFar)) : Type 0 where
 -- the turns were taken in order, all of them, and each lane goes on behind them
 pub record IsPass (lanes : List (Option LaneSoFar)) (taken : Taken) : Type 0 where
   pub there : AreThere lanes
-  pub in_step : AreInStep lanes taken.in_order
+  pub in_step : AreInStep lanes taken.all
   pub in_order : AreInOrder taken.in_order
-  pub alike : taken.all ≡ taken.in_order
+  pub alike : taken.is_stuck ≡ false → taken.all ≡ taken.in_order
 
 -- no lane has a record that may come next: it has none ahead and no more is read, or its first is held up
-abbrev pub AreHeldUp : List (Option LaneSoFar) → Turns → Type 0
-AreHeldUp lanes turns = (i : ℕ) (lane : LaneSoFar) → IsLaneAt lanes i lane → IsHeldUp turns lane × HasNext lane
+abbrev pub AreHeldUp : List (Option LaneSoFar) → Taken → Type 0
+AreHeldUp lanes taken = (i : ℕ) (lane : LaneSoFar) → IsLaneAt lanes i lane → IsHeldUp taken lane × HasNext lane
+
+-- a lane is as far as another, or further: its log goes on, unless it had ended
+pub record IsFurther (lane longer : LaneSoFar) : Type 0 where
+  pub vat : longer.read.log.vat ≡ lane.read.log.vat
+  pub more : List Body
+  pub records : longer.read.log.records ≡ lane.read.log.records ++ more
+  pub over : is_some lane.ending ≡ true → (more ≡ []) × (longer.ending ≡ lane.ending)
+
+-- each lane is as far as it was, or further
+abbrev pub AreFurther : List (Option LaneSoFar) → List (Option LaneSoFar) → Type 0
+AreFurther lanes longer = (i : ℕ) (one : LaneSoFar) → IsLaneAt longer i one → (lane : LaneSoFar) × IsLaneAt lanes i lane × IsFurther lane one
+
+-- the logs of lanes, as far as they were read
+abbrev pub logs_of : List (Option LaneSoFar) → List Log
+logs_of lanes = filter_map (λ lane. option_map (λ l. l.read.log) lane) lanes
+
+-- no record is ahead in any lane
+abbrev pub AreEmpty : List (Option LaneSoFar) → Type 0
+AreEmpty lanes = (i : ℕ) (lane : LaneSoFar) → IsLaneAt lanes i lane → lane.ahead ≡ []

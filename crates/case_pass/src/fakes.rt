@@ -2,8 +2,7 @@
 
 ghost use Rattle.std.specs.Prelude.{◌≡◌, Some, None, drop, IfSome, OnOk, OnErr, option_map, is_none, slice_get, true, false};
 ghost use Rattle.std.specs.Option.{option_copied};
-ghost use Rattle.turn_taking.specs.Turns.{may_follow};
-ghost use Rattle.case_pass.specs.Fake.{LaneSoFar, with_taken, with_passed, without_first, GoesOn, HasNext};
+ghost use Rattle.case_pass.specs.Fake.{LaneSoFar, with_turn, may_come, without_first, GoesOn, HasNext};
 
 use std::alloc::{AllocError, Global};
 use vat_log::{Body, Record};
@@ -47,11 +46,11 @@ pub trait Turns {
     ghost taken: { Self → Option Taken };
 
     /// Whether this may be the next record of the vat.
-    fn may_follow(&self, vat: u32, body: &Body) -> bool
-        ensures { IfSome (taken self.now) (λ taken. result ≡ may_follow taken.in_order vat body.now) };
+    fn may_come(&self, vat: u32, body: &Body) -> bool
+        ensures { IfSome (taken self.now) (λ taken. result ≡ may_come taken vat body.now) };
 
     /// A vat takes its turn with this record.
     fn take(&mut self, vat: u32, body: &Body) -> Result<(), AllocError>
-        ensures ok { OnOk result (taken self.new ≡ option_map (with_taken (vat, body.now)) (taken self.old)) }
+        ensures ok { OnOk result (taken self.new ≡ option_map (with_turn (vat, body.now)) (taken self.old)) }
         ensures err { OnErr result (taken self.new ≡ None) };
 }

@@ -2,11 +2,13 @@
 #![tactic(auto)]
 
 mod fakes;
+mod laws;
 mod rounds;
 mod steps;
 mod taking;
 
 pub use fakes::{Lane, Turns};
+pub use laws::{empty_lanes_took_all, held_lanes_are_stuck};
 pub use rounds::take_round;
 pub use steps::take_in_step;
 pub use taking::take_from;

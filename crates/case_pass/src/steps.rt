@@ -1,9 +1,9 @@
 //! Lanes in step.
 
-ghost use Rattle.std.specs.Prelude.{◌≡◌, ◌<◌, ℕ, Some, OnOk, IfSome, is_none, length, map, slice_index_or};
+ghost use Rattle.std.specs.Prelude.{◌≡◌, ◌<◌, ℕ, Some, OnOk, IfSome, true, is_none, length, map, slice_index_or};
 ghost use Rattle.std.specs.List.{list_any};
 ghost use Rattle.case_pass.specs.Fake.{LaneSoFar, Taken, GoesOn, HasNext};
-ghost use Rattle.case_pass.specs.Pass.{AreHeldUp, IsPass};
+ghost use Rattle.case_pass.specs.Pass.{AreFurther, AreHeldUp, IsPass};
 
 use crate::fakes::{Lane, Turns};
 use crate::rounds::take_round;
@@ -61,8 +61,11 @@ pub fn take_in_step<R: Threads + Sync, L: Lane + Send, T: Turns>(
     requires { 0 < workers }
     ensures { OnOk result ((taken : Taken) → T.taken turns.old ≡ Some taken
         → IsPass (map L.so_far lanes.old) taken → (more : Taken) × (T.taken turns.new ≡ Some more)
-        × (more.links ≡ taken.links) × IsPass (map L.so_far lanes.new) more
-        × AreHeldUp (map L.so_far lanes.new) more.in_order) }
+        × (more.links ≡ taken.links) × (more.is_stuck ≡ taken.is_stuck)
+        × (taken.is_stuck ≡ true → more.in_order ≡ taken.in_order)
+        × AreFurther (map L.so_far lanes.old) (map L.so_far lanes.new)
+        × IsPass (map L.so_far lanes.new) more
+        × AreHeldUp (map L.so_far lanes.new) more) }
 {
     for _ in 0..u64::MAX {
         fill_round(rt, alloc, lanes, workers);

@@ -19,7 +19,7 @@ pub fn take_from<L: Lane, T: Turns>(
         → T.taken turns.old ≡ Some taken
         → (after : LaneSoFar) × (more : Taken) × (L.so_far lane.new ≡ Some after)
         × (T.taken turns.new ≡ Some more) × TookTurns before after taken more count
-        × (count ≡ 0 → IsHeldUp more.in_order after)) }
+        × (count ≡ 0 → IsHeldUp more after)) }
 {
     let vat = lane.vat();
     let mut count = 0;
@@ -27,7 +27,7 @@ pub fn take_from<L: Lane, T: Turns>(
         let Some(record) = lane.first() else {
             break;
         };
-        if !turns.may_follow(vat, record.body()) {
+        if !turns.may_come(vat, record.body()) {
             break;
         }
         turns.take(vat, record.body())?;

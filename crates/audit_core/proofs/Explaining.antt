@@ -6,7 +6,7 @@ use Rattle.std.proofs.lemmas.List.{length-map}
 use Rattle.std.proofs.lemmas.List.Sums.{length-filter, count_by-le-length, sum_by-cons}
 use Rattle.cap_reader.specs.declared.limits.Limits.{Limits}
 use Rattle.vat_log.specs.Log.{Log}
-use Rattle.vat_view.specs.Past.{Each}
+use Rattle.decoded_records.specs.Past.{Each}
 use Rattle.vat_rules.specs.Audit.{Found, reads_within}
 use Rattle.vat_rules.specs.Events.{past_at}
 use Rattle.merge_order.specs.Fits.{Part, begin, after, FitsFrom, IsFitting}

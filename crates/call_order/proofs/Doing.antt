@@ -19,10 +19,10 @@ use Rattle.vat_rules.proofs.Once.{clash}
 use Rattle.vat_rules.specs.Judged.{IsGood}
 use Rattle.vat_rules.specs.OfCalls.{distinct_paths}
 use Rattle.vat_rules.specs.declared.rule.Rule.TheVariants as rule
-use Rattle.vat_view.specs.Bindings.{contains, new_calls}
-use Rattle.vat_view.specs.Calls.{moves, is_at_vat, is_served, is_settled}
-use Rattle.vat_view.specs.Past.{Past, Each, last_answer}
-use Rattle.vat_view.specs.Views.{view_of_reference}
+use Rattle.decoded_records.specs.Bindings.{contains, new_calls}
+use Rattle.decoded_records.specs.Calls.{moves, is_at_vat, is_served, is_settled}
+use Rattle.decoded_records.specs.Past.{Past, Each, last_answer}
+use Rattle.decoded_records.specs.Views.{view_of_reference}
 use Rattle.call_order.specs.Glue.Names.{name_come, name_in, IsCome, IsLeft, AreNamed}
 use Rattle.call_order.specs.Glue.Lines.{one_with, IsSent, AreLines}
 use Rattle.call_order.specs.Glue.Told.{told_of}

@@ -26,7 +26,7 @@ use Rattle.vat_log.specs.Log.{Log}
 use Rattle.vat_rules.specs.Audit.{Found, reads_within}
 use Rattle.vat_rules.specs.Judged.{IsGood}
 use Rattle.vat_rules.specs.declared.rule.Rule.TheVariants as rule
-use Rattle.vat_view.specs.Past.{Each}
+use Rattle.decoded_records.specs.Past.{Each}
 use Rattle.call_order.specs.Glue.Deeds.{deed_of}
 use Rattle.call_order.specs.Glue.Cursors.{log_kept, next_in, one_further}
 use Rattle.call_order.specs.Glue.Names.{name_come, AreNamed}

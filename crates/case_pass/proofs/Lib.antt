@@ -1,4 +1,0 @@
-pub mod Turned
-pub mod Sided
-pub mod Stepping
-pub mod Ends

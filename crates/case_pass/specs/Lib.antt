@@ -1,2 +1,0 @@
-pub mod Fake
-pub mod Pass

@@ -8,9 +8,9 @@ use Rattle.lock_step.specs.Links.{LinkTurns}
 use Rattle.lock_step.specs.Taking.{Taken, count_turns, delivers}
 
 -- what was taken, unless memory was refused
-abbrev pub taken_unless : Bool → Turns → LinkTurns → Option Taken
-taken_unless true in_order states = None
-taken_unless false in_order states = Some (record { links = states.links; in_order = in_order; all = states.turns })
+abbrev pub taken_unless : Bool → Bool → Turns → LinkTurns → Option Taken
+taken_unless true is_stuck in_order states = None
+taken_unless false is_stuck in_order states = Some (record { links = states.links; in_order = in_order; all = states.turns; is_stuck = is_stuck })
 
 -- all records are counted
 pub record AreCounted (turns : Turns) (counts : Counts) : Type 0 where

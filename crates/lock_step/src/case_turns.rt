@@ -1,10 +1,11 @@
 //! The turns of a whole case.
 
-ghost use Rattle.std.specs.Prelude.{◌≡◌, ◌-◌, [], List, Option, Some, None, IfOk, IfSome, is_some, length, option_map, OnOk, OnErr};
+ghost use Rattle.std.specs.Prelude.{◌≡◌, ◌-◌, [], List, Option, Some, None, false, IfOk, IfSome, is_some, length, option_map, OnOk, OnErr};
 ghost use Rattle.call_order.specs.Fault.{IsFaultBy};
 ghost use Rattle.lock_step.specs.Links.{IsFoundOn, link_on};
-ghost use Rattle.lock_step.specs.Taking.{count_turns, delivers, with_passed, with_taken};
-ghost use Rattle.turn_taking.specs.Turns.{AreAll, may_follow, order_of};
+ghost use Rattle.lock_step.specs.Taking.{count_turns, delivers, given_up, turned, with_turn};
+ghost use Rattle.turn_taking.specs.Turns.{AreAll, order_of};
+ghost use Rattle.case_pass.specs.Turned.{may_come};
 ghost use Rattle.vat_log.specs.Log.{Log};
 ghost use Rattle.vat_log.specs.Passages.{receives, sends};
 
@@ -12,6 +13,7 @@ use crate::counts::Counts;
 use crate::link_states::LinkStates;
 use call_order::CallOrder;
 use case_book::Link;
+use case_pass::Turns;
 use link_check::LinkOutcome;
 use std::alloc::{AllocError, Global};
 use std::marker::Model;
@@ -19,14 +21,16 @@ use turn_taking::TurnsTaken;
 use vat_log::Body;
 
 /// A case while the records of its logs are taken one by one, each with its vat. As long as they come in an order, each is a
-/// turn. Where none of those that are left may come next, they only pass, so that links are still compared to their ends.
-/// Contracts see the links of the case, the turns, and all records, the newest first; none of this, once memory was refused.
+/// turn. Where none of those that are left may come next, it gives up the order, and takes the rest as it comes, so that links are still
+/// compared to their ends. Contracts see the links of the case, the turns in order, all turns, the newest first, and whether it
+/// gave up; none of this, once memory was refused.
 #[derive(Drop)]
 pub struct CaseTurns {
     turns: TurnsTaken,
     calls: CallOrder,
     states: LinkStates,
     counts: Counts,
+    is_stuck: bool,
     is_refused: bool,
 }
 
@@ -37,7 +41,7 @@ impl Model for CaseTurns {
 
     ghost Value = { Option Taken };
 
-    ghost view = { λ case. taken_unless case.is_refused case.turns case.states };
+    ghost view = { λ case. taken_unless case.is_refused case.is_stuck case.turns case.states };
 
     ghost invariant = { λ case. case.is_refused ≡ false → AreTied case.turns case.calls case.states case.counts };
 }
@@ -45,61 +49,38 @@ impl Model for CaseTurns {
 impl CaseTurns {
     /// A case with these links, before any turn. The only error is that memory ran out.
     pub fn new(alloc: Global, links: &[Link]) -> Result<CaseTurns, AllocError>
-        ensures { IfOk result (λ case. case ≡ Some (record { links = links.now; in_order = []; all = [] })) }
+        ensures { IfOk result (λ case. case ≡ Some (record { links = links.now; in_order = []; all = []; is_stuck = false })) }
     {
         Ok(CaseTurns {
             turns: TurnsTaken::new(alloc),
             calls: CallOrder::new(alloc),
             states: LinkStates::new(alloc, links)?,
             counts: Counts::new(),
+            is_stuck: false,
             is_refused: false,
         })
     }
 
-    /// Whether this may be the next record of the vat: a RECV where a frame is under way to it on the connection, any other
-    /// record always.
-    pub fn may_follow(&self, vat: u32, body: &Body) -> bool
-        ensures { IfSome self.now (λ taken. result ≡ may_follow taken.in_order vat body.now) }
+    /// No order of the records that are left fits those that were taken: from here on each is taken as it comes.
+    pub fn give_up(&mut self)
+        ensures { self.new ≡ option_map given_up self.old }
     {
-        self.turns.may_follow(vat, body)
+        self.is_stuck = true;
     }
 
-    /// A vat takes its turn with this record, the next of its log.
-    ///
-    /// # Errors
-    ///
-    /// Out of memory, now or at an earlier record: once one is refused, so is each after it. A vat's record behind
-    /// 4,294,967,295 others is refused too.
-    pub fn take(&mut self, vat: u32, body: &Body) -> Result<(), AllocError>
-        ensures ok { OnOk result (self.new ≡ option_map (with_taken (vat, body.now)) self.old) }
+    /// Takes a record, unless memory was refused before. Where it is refused now, no more is said of the parts.
+    fn take_all(&mut self, vat: u32, body: &Body) -> Result<(), AllocError>
+        ensures ok { OnOk result (self.new ≡ option_map (with_turn (vat, body.now)) self.old) }
         ensures err { OnErr result (self.new ≡ None) }
     {
         if self.is_refused {
             return Err(AllocError);
         }
         self.is_refused = true;
-        self.turns.take(vat, body)?;
-        self.calls.take(vat, body)?;
-        self.states.take(vat, body)?;
-        self.counts.add(body)?;
-        self.is_refused = false;
-        Ok(())
-    }
-
-    /// A record of a vat, the next of its log, only passes: it is counted, and its frame is compared, but it is no turn. The
-    /// records go so that are left where no order fits any more.
-    ///
-    /// # Errors
-    ///
-    /// Those of [`CaseTurns::take`].
-    pub fn pass(&mut self, vat: u32, body: &Body) -> Result<(), AllocError>
-        ensures ok { OnOk result (self.new ≡ option_map (with_passed (vat, body.now)) self.old) }
-        ensures err { OnErr result (self.new ≡ None) }
-    {
-        if self.is_refused {
-            return Err(AllocError);
+        if !self.is_stuck {
+            self.turns.take(vat, body)?;
+            self.calls.take(vat, body)?;
         }
-        self.is_refused = true;
         self.states.take(vat, body)?;
         self.counts.add(body)?;
         self.is_refused = false;
@@ -144,5 +125,26 @@ impl CaseTurns {
         ensures { IfSome self.now (λ taken. result ≡ count_turns sends taken.all - count_turns receives taken.all) }
     {
         self.counts.sent.saturating_sub(self.counts.received)
+    }
+}
+
+impl Turns for CaseTurns {
+    ghost use Rattle.std.specs.Option.{option_map};
+    ghost use Rattle.lock_step.specs.Taking.{turned};
+
+    ghost taken = { λ case. option_map turned case };
+
+    fn may_come(&self, vat: u32, body: &Body) -> bool {
+        self.is_stuck || self.turns.may_follow(vat, body)
+    }
+
+    /// A vat takes its turn with this record, the next of its log.
+    ///
+    /// # Errors
+    ///
+    /// Out of memory, now or at an earlier record: once one is refused, so is each after it. A vat's record behind
+    /// 4,294,967,295 others is refused too.
+    fn take(&mut self, vat: u32, body: &Body) -> Result<(), AllocError> {
+        self.take_all(vat, body)
     }
 }

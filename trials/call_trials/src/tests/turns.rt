@@ -1,6 +1,7 @@
 //! Cases whose records are taken in turns, one after another.
 
 use case_book::Link;
+use case_pass::Turns;
 use link_check::{LinkOutcome, check_link};
 use lock_step::CaseTurns;
 use std::alloc::Global;
@@ -19,7 +20,7 @@ fn turn(turns: &mut CaseTurns, lane: &mut Lane) -> Result<bool, NoAnswer> {
     let Some(record) = log.get(*taken) else {
         return Ok(false);
     };
-    if !turns.may_follow(log.vat(), record.body()) {
+    if !turns.may_come(log.vat(), record.body()) {
         return Ok(false);
     }
     turns.take(log.vat(), record.body())?;
@@ -41,11 +42,12 @@ fn go_round(turns: &mut CaseTurns, lanes: &mut Vec<Lane>) -> Result<(), NoAnswer
 
 /// Has the records pass that are left.
 fn pass_rest(turns: &mut CaseTurns, lanes: &Vec<Lane>) -> Result<u64, NoAnswer> {
+    turns.give_up();
     let mut passed: u64 = 0;
     for (log, taken) in lanes {
         let mut next = *taken;
         while let Some(record) = log.get(next) {
-            turns.pass(log.vat(), record.body())?;
+            turns.take(log.vat(), record.body())?;
             passed = passed.saturating_add(1);
             next = next.saturating_add(1);
         }

@@ -1,0 +1,4 @@
+pub mod Turned
+pub mod Sided
+pub mod Stepping
+pub mod Ends

@@ -1,0 +1,14 @@
+//! One pass over the logs of a case.
+#![tactic(auto)]
+
+mod lane;
+mod laws;
+mod rounds;
+mod steps;
+mod taking;
+
+pub use lane::{Lane, Turns};
+pub use laws::{empty_lanes_took_all, held_lanes_are_stuck};
+pub use rounds::take_round;
+pub use steps::take_in_step;
+pub use taking::take_from;

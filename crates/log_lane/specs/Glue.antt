@@ -4,11 +4,11 @@ use Rattle.cap_reader.specs.Defaults.{default_limits}
 use Rattle.vat_log.specs.Streams.{StreamSoFar}
 use Rattle.vat_log.specs.declared.body.Body.{Body}
 use Rattle.vat_rules.specs.Audited.{Audited}
-use Rattle.log_lane.specs.Lanes.{LaneSoFar, EndsSo}
+use Rattle.log_lane.specs.Lanes.{ReadAhead, EndsSo}
 use Rattle.log_lane.specs.declared.ending.Ending.{Ending}
 
 -- what was read, unless memory was refused
-abbrev pub lane_unless : Bool → StreamSoFar → List Body → Option Ending → Option LaneSoFar
+abbrev pub lane_unless : Bool → StreamSoFar → List Body → Option Ending → Option ReadAhead
 lane_unless true read ahead ending = None
 lane_unless false read ahead ending = Some (record { read = read; ahead = ahead; ending = ending })
 

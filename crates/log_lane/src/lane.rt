@@ -1,11 +1,11 @@
 //! A log that is read ahead.
 
-ghost use Rattle.std.specs.Prelude.{◌≡◌, ◌<◌, false, true, [], Some, None, Ok, drop, IfOk, IfErr, IfSome, OnOk, OnErr, option_map, slice_get};
-ghost use Rattle.std.specs.Option.{option_copied};
+ghost use Rattle.std.specs.Prelude.{◌≡◌, ◌<◌, false, true, [], Some, None, Ok, IfOk, IfErr, IfSome, OnOk, OnErr, option_map};
 ghost use Rattle.cap_reader.specs.Defaults.{default_limits};
 ghost use Rattle.vat_log.specs.Reading.{log_of};
 ghost use Rattle.vat_log.specs.Streams.{StreamStopsBy};
-ghost use Rattle.log_lane.specs.Lanes.{LaneSoFar, GoesOn, HasNext};
+ghost use Rattle.case_pass.specs.Lanes.{GoesOn, HasNext};
+ghost use Rattle.log_lane.specs.Lanes.{ReadAhead, as_lane};
 
 use crate::ending::Ending;
 use byte_pieces::Pieces;
@@ -34,10 +34,10 @@ pub struct Lane<P: Pieces> {
 
 impl<P: Pieces> Model for Lane<P> {
     ghost use Rattle.std.specs.Prelude.{◌≡◌, false, Option};
-    ghost use Rattle.log_lane.specs.Lanes.{LaneSoFar};
+    ghost use Rattle.log_lane.specs.Lanes.{ReadAhead};
     ghost use Rattle.log_lane.specs.Glue.{lane_unless, AreOfOne};
 
-    ghost Value = { Option LaneSoFar };
+    ghost Value = { Option ReadAhead };
 
     ghost view = { λ lane. lane_unless lane.is_refused lane.stream lane.ahead.items lane.ending };
 
@@ -62,21 +62,6 @@ impl<P: Pieces> Lane<P> {
         }
     }
 
-    /// The vat whose log it is.
-    pub fn vat(&self) -> u32
-        ensures { IfSome self.now (λ lane. result ≡ lane.read.log.vat) }
-    {
-        self.stream.vat()
-    }
-
-    /// Whether memory was refused, so that nothing more is known.
-    pub fn is_refused(&self) -> bool
-        ensures yes { result ≡ true → self.now ≡ None }
-        ensures no { result ≡ false → (lane : LaneSoFar) × (self.now ≡ Some lane) }
-    {
-        self.is_refused
-    }
-
     /// Why no more is read, if none is.
     pub fn ending(&self) -> Option<Ending>
         ensures { IfSome self.now (λ lane. result ≡ lane.ending) }
@@ -84,25 +69,11 @@ impl<P: Pieces> Lane<P> {
         self.ending
     }
 
-    /// The first record that isn't taken.
-    pub fn first(&self) -> Option<&Record>
-        ensures { IfSome self.now (λ lane. option_copied result ≡ slice_get lane.ahead 0) }
-    {
-        self.ahead.front()
-    }
-
-    /// The first record is taken.
-    pub fn leave(&mut self)
-        ensures { self.new ≡ option_map (λ lane. record lane { ahead = drop 1 lane.ahead }) self.old }
-    {
-        let _ = self.ahead.pop_front();
-    }
-
-    /// Reads one record ahead, or sees that there is none.
+    /// Reads one record ahead, or sees that there is none, where more may come.
     fn read_next(&mut self, alloc: Global) -> Result<(), AllocError>
-        ensures ok { OnOk result ((lane : LaneSoFar) → self.old ≡ Some lane
-            → IfSome self.new (λ longer. GoesOn lane longer × HasNext longer)) }
-        ensures there { OnOk result ((lane : LaneSoFar) × (self.new ≡ Some lane)) }
+        ensures ok { OnOk result ((lane : ReadAhead) → self.old ≡ Some lane → lane.ending ≡ None
+            → IfSome self.new (λ longer. GoesOn (as_lane lane) (as_lane longer) × HasNext (as_lane longer))) }
+        ensures there { OnOk result ((lane : ReadAhead) × (self.new ≡ Some lane)) }
         ensures err { OnErr result (self.new ≡ None) }
     {
         if self.is_refused {
@@ -123,26 +94,11 @@ impl<P: Pieces> Lane<P> {
         Ok(())
     }
 
-    /// Reads some records ahead, where none are.
-    pub fn fill(&mut self, alloc: Global)
-        ensures { (lane : LaneSoFar) → self.old ≡ Some lane
-            → IfSome self.new (λ longer. GoesOn lane longer × HasNext longer) }
-    {
-        if !self.ahead.is_empty() {
-            return;
-        }
-        for _ in 0..MOST_AHEAD {
-            if self.ending.is_some() || self.read_next(alloc).is_err() {
-                return;
-            }
-        }
-    }
-
     /// What is left of a log that was read whole; or why it wasn't, if that is known.
     pub fn finish(self) -> Result<SlimLog, Option<ReadFault>>
-        ensures whole { IfOk result (λ log. (lane : LaneSoFar) → self ≡ Some lane
+        ensures whole { IfOk result (λ log. (lane : ReadAhead) → self ≡ Some lane
             → (log.log ≡ lane.read.log) × (log.limits ≡ default_limits) × (log_of lane.read.bytes ≡ Ok lane.read.log)) }
-        ensures fault { IfErr result (λ why. IfSome why (λ fault. (lane : LaneSoFar) → self ≡ Some lane
+        ensures fault { IfErr result (λ why. IfSome why (λ fault. (lane : ReadAhead) → self ≡ Some lane
             → StreamStopsBy fault lane.read)) }
     {
         let Lane {
@@ -156,6 +112,41 @@ impl<P: Pieces> Lane<P> {
             Some(Ending::Whole) if !is_refused => Ok(SlimLog::new(audit.finish(), used)),
             Some(Ending::Fault(fault)) => Err(Some(fault)),
             _ => Err(None),
+        }
+    }
+}
+
+impl<P: Pieces> case_pass::Lane for Lane<P> {
+    ghost use Rattle.std.specs.Option.{option_map};
+    ghost use Rattle.log_lane.specs.Lanes.{as_lane};
+
+    ghost so_far = { λ lane. option_map as_lane lane };
+
+    fn vat(&self) -> u32 {
+        self.stream.vat()
+    }
+
+    fn first(&self) -> Option<&Record> {
+        self.ahead.front()
+    }
+
+    fn leave(&mut self) {
+        let _ = self.ahead.pop_front();
+    }
+
+    fn is_refused(&self) -> bool {
+        self.is_refused
+    }
+
+    /// At most 256 records.
+    fn fill(&mut self, alloc: Global) {
+        if !self.ahead.is_empty() {
+            return;
+        }
+        for _ in 0..MOST_AHEAD {
+            if self.ending.is_some() || self.read_next(alloc).is_err() {
+                return;
+            }
         }
     }
 }

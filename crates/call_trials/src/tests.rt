@@ -21,6 +21,7 @@ mod pointers;
 mod readers;
 mod rules;
 mod states;
+mod streams;
 mod tables;
 mod taps;
 mod workers;

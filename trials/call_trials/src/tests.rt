@@ -24,6 +24,7 @@ mod refusals;
 mod rules;
 mod slim_cases;
 mod states;
+mod streams;
 mod tables;
 mod taps;
 mod turns;

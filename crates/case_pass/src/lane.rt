@@ -50,6 +50,9 @@ pub trait Turns {
     fn may_come(&self, vat: u32, body: &Body) -> bool
         ensures { IfSome (taken self.now) (λ taken. result ≡ may_come taken vat body.now) };
 
+    /// Whether so many frames are under way that who sent one had better wait until some are received. No order depends on it.
+    fn is_crowded(&self) -> bool;
+
     /// A vat takes its turn with this record.
     fn take(&mut self, vat: u32, body: &Body) -> Result<(), AllocError>
         ensures ok { OnOk result (taken self.new ≡ option_map (with_turn (vat, body.now)) (taken self.old)) }

@@ -7,9 +7,10 @@ ghost use Rattle.case_pass.specs.Pass.{TookTurns, IsHeldUp};
 
 use crate::lane::{Lane, Turns};
 use std::alloc::AllocError;
+use vat_log::Body;
 
-/// The vat of a lane takes its turns with the records that are ahead, as long as they may come and for so many at most. How
-/// many it took.
+/// The vat of a lane takes its turns with the records that are ahead, as long as they may come and for so many at most; where too
+/// many frames are under way, it ends behind one that it sends. How many it took.
 pub fn take_from<L: Lane, T: Turns>(
     lane: &mut L,
     turns: &mut T,
@@ -28,12 +29,17 @@ pub fn take_from<L: Lane, T: Turns>(
         let Some(record) = lane.first() else {
             break;
         };
-        if !turns.may_come(vat, record.body()) {
+        let body = record.body();
+        if !turns.may_come(vat, body) {
             break;
         }
-        turns.take(vat, record.body())?;
+        let sends = matches!(body, Body::Send { .. });
+        turns.take(vat, body)?;
         lane.leave();
         count += 1;
+        if sends && turns.is_crowded() {
+            break;
+        }
     }
     Ok(count)
 }

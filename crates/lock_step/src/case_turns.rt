@@ -20,6 +20,9 @@ use std::marker::Model;
 use turn_taking::TurnsTaken;
 use vat_log::Body;
 
+/// How many frames may be under way before a vat that sent one waits for its next turn.
+const CROWD: u64 = 4096;
+
 /// A case while the records of its logs are taken one by one, each with its vat. As long as they come in an order, each is a
 /// turn. Where none of those that are left may come next, it gives up the order, and takes the rest as it comes, so that links are still
 /// compared to their ends. Contracts see the links of the case, the turns in order, all turns, the newest first, and whether it
@@ -136,6 +139,10 @@ impl Turns for CaseTurns {
 
     fn may_come(&self, vat: u32, body: &Body) -> bool {
         self.is_stuck || self.turns.may_follow(vat, body)
+    }
+
+    fn is_crowded(&self) -> bool {
+        self.counts.sent.saturating_sub(self.counts.received) > CROWD
     }
 
     /// A vat takes its turn with this record, the next of its log.

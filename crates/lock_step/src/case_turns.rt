@@ -142,7 +142,7 @@ impl Turns for CaseTurns {
     }
 
     fn is_crowded(&self) -> bool {
-        self.counts.sent.saturating_sub(self.counts.received) > CROWD
+        self.under_way() > CROWD
     }
 
     /// A vat takes its turn with this record, the next of its log.

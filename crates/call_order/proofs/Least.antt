@@ -5,15 +5,16 @@ use Rattle.std.specs.Cmp.{nat_cmp_total}
 use Rattle.std.specs.List.{AllByRecursion}
 use Rattle.std.specs.Map.{lookup, values_of}
 use Rattle.std.specs.Ordering.{nat_cmp}
-use Rattle.std.specs.Prelude.{nat_lt, unwrap_or}
-use Rattle.std.proofs.lemmas.Bool.{cases_eq, eq-eqb, false≢true, ltb-true, ltb-false}
+use Rattle.std.specs.Prelude.{nat_lt, nat_le, unwrap_or}
+use Rattle.std.proofs.lemmas.Bool.{cases_eq, eq-eqb, false≢true, ltb-true, ltb-false, leb-true, leb-false}
 use Rattle.std.proofs.lemmas.List.{append-nil}
 use Rattle.std.proofs.lemmas.List.Elements.{recursion_from_All}
 use Rattle.std.proofs.lemmas.Map.Views.{All-found}
-use Rattle.run_model.specs.Early.{IsAtMost}
+use Rattle.run_model.specs.Early.{IsAtMost, IsLeastOf}
 use Rattle.run_model.specs.Steps.{OneOf}
+use Rattle.undelivered.specs.Places.{is_at_most, lesser}
 use Rattle.undelivered.specs.Order.{PastCalls, AreOnce, IsFault, early}
-use Rattle.call_order.specs.Glue.Told.{is_less, lesser, told_of, AreAllOnce, IsEarlyIn, IsFaultIn}
+use Rattle.call_order.specs.Glue.Told.{told_of, AreAllOnce, IsEarlyIn, IsFaultIn}
 use Rattle.call_order.specs.declared.told.Told.{Told}
 
 abbrev pub Place : Type 0
@@ -30,17 +31,19 @@ at_most_trans a b c (inl h) (inr g) = inl (omega (arith, h, g.0))
 at_most_trans a b c (inr h) (inl g) = inl (omega (arith, h.0, g))
 at_most_trans a b c (inr h) (inr g) = inr (h.0 ∙ g.0, omega (arith, h.1, g.1))
 
-less_means : (a b : Place) → is_less a b ≡ true → IsAtMost a b
-less_means a b h = at (nat_lt a.0 b.0) (a.0 == b.0) (nat_lt a.1 b.1) refl refl refl h
+at_most_means : (a b : Place) → is_at_most a b ≡ true → IsAtMost a b
+unfolding is_at_most
+at_most_means a b h = at (nat_lt a.0 b.0) (a.0 == b.0) (nat_le a.1 b.1) refl refl refl h
   where
-    at : (x y z : Bool) → nat_lt a.0 b.0 ≡ x → (a.0 == b.0) ≡ y → nat_lt a.1 b.1 ≡ z → (x || (y && z)) ≡ true → IsAtMost a b
-    at true y z lt eq gt h = inl (ltb-true _ _ lt)
-    at false true true lt eq gt h = let less : a.1 < b.1 = ltb-true _ _ gt in inr (eqb-true a.0 b.0 eq, omega (arith, less))
-    at false true false lt eq gt h = absurd (let no : ⊥ = cc in no)
-    at false false z lt eq gt h = absurd (let no : ⊥ = cc in no)
+    at : (x y z : Bool) → nat_lt a.0 b.0 ≡ x → (a.0 == b.0) ≡ y → nat_le a.1 b.1 ≡ z → (x || (y && z)) ≡ true → IsAtMost a b
+    at true y z lt eq le h = inl (ltb-true _ _ lt)
+    at false true true lt eq le h = inr (eqb-true a.0 b.0 eq, leb-true _ _ le)
+    at false true false lt eq le h = absurd (let no : ⊥ = cc in no)
+    at false false z lt eq le h = absurd (let no : ⊥ = cc in no)
 
-not_less_means : (a b : Place) → is_less a b ≡ false → IsAtMost b a
-not_less_means a b h = at (nat_lt a.0 b.0) (a.0 == b.0) (nat_lt a.1 b.1) refl refl refl h
+above_means : (a b : Place) → is_at_most a b ≡ false → IsAtMost b a
+unfolding is_at_most
+above_means a b h = at (nat_lt a.0 b.0) (a.0 == b.0) (nat_le a.1 b.1) refl refl refl h
   where
     above : nat_lt a.0 b.0 ≡ false → (a.0 == b.0) ≡ false → b.0 < a.0
     above lt eq = let le : b.0 ≤ a.0 = ltb-false _ _ lt in elim (cases_eq a.0 b.0) [
@@ -48,11 +51,11 @@ not_less_means a b h = at (nat_lt a.0 b.0) (a.0 == b.0) (nat_lt a.1 b.1) refl re
       | inr apart ↦ omega (arith, le, apart)
     ]
 
-    at : (x y z : Bool) → nat_lt a.0 b.0 ≡ x → (a.0 == b.0) ≡ y → nat_lt a.1 b.1 ≡ z → (x || (y && z)) ≡ false → IsAtMost b a
-    at true y z lt eq gt h = absurd (let no : ⊥ = cc in no)
-    at false true true lt eq gt h = absurd (let no : ⊥ = cc in no)
-    at false true false lt eq gt h = inr (sym (eqb-true a.0 b.0 eq), ltb-false _ _ gt)
-    at false false z lt eq gt h = inl (above lt eq)
+    at : (x y z : Bool) → nat_lt a.0 b.0 ≡ x → (a.0 == b.0) ≡ y → nat_le a.1 b.1 ≡ z → (x || (y && z)) ≡ false → IsAtMost b a
+    at true y z lt eq le h = absurd (let no : ⊥ = cc in no)
+    at false true true lt eq le h = absurd (let no : ⊥ = cc in no)
+    at false true false lt eq le h = let less : b.1 < a.1 = leb-false _ _ le in inr (sym (eqb-true a.0 b.0 eq), omega (arith, less))
+    at false false z lt eq le h = inl (above lt eq)
 
 -- ---- lists of places
 
@@ -86,20 +89,15 @@ all_with : (a : Place) (xs ys : List Place) → AllByRecursion (IsAtMost a) xs �
 all_with a [] ys h g = g
 all_with a (x ∷ xs) ys h g = (h.0, all_with a xs ys h.1 g)
 
--- there is none of these places, or this is the least
-abbrev pub IsLeastIn : List Place → Option Place → Type 0
-IsLeastIn places None = places ≡ []
-IsLeastIn places (Some place) = In place places × AllByRecursion (IsAtMost place) places
-
 -- the lesser of the least of these and of the least of those is the least of all
-least_with : (xs ys : List Place) (a b : Option Place) → IsLeastIn xs a → IsLeastIn ys b → IsLeastIn (xs ++ ys) (lesser a b)
-least_with xs ys None b h g = subst (λ l. IsLeastIn (l ++ ys) b) (sym h) g
-least_with xs ys (Some a) None h g = subst (λ l. IsLeastIn (xs ++ l) (Some a)) (sym g) (subst (λ l. IsLeastIn l (Some a)) (sym (append-nil xs)) h)
-least_with xs ys (Some a) (Some b) h g = at (is_less b a) refl
+least_with : (xs ys : List Place) (a b : Option Place) → IsLeastOf xs a → IsLeastOf ys b → IsLeastOf (xs ++ ys) (lesser a b)
+least_with xs ys None b h g = subst (λ l. IsLeastOf (l ++ ys) b) (sym h) g
+least_with xs ys (Some a) None h g = subst (λ l. IsLeastOf (xs ++ l) (Some a)) (sym g) (subst (λ l. IsLeastOf l (Some a)) (sym (append-nil xs)) h)
+least_with xs ys (Some a) (Some b) h g = at (is_at_most a b) refl
   where
-    at : (x : Bool) → is_less b a ≡ x → IsLeastIn (xs ++ ys) (if x then Some b else Some a)
-    at true less = (in_right b xs ys g.0, all_with b xs ys (all_below b a xs (less_means b a less) h.1) g.1)
-    at false not_less = (in_left a xs ys h.0, all_with a xs ys h.1 (all_below a b ys (not_less_means b a not_less) g.1))
+    at : (x : Bool) → is_at_most a b ≡ x → IsLeastOf (xs ++ ys) (if x then Some a else Some b)
+    at true most = (in_left a xs ys h.0, all_with a xs ys h.1 (all_below a b ys (at_most_means a b most) g.1))
+    at false above = (in_right b xs ys g.0, all_with b xs ys (all_below b a xs (above_means a b above) h.1) g.1)
 
 -- ---- where calls of several vats are delivered too early
 
@@ -107,18 +105,14 @@ abbrev pub early_of : List PastCalls → List Place
 early_of [] = []
 early_of (past ∷ pasts) = early past ++ early_of pasts
 
-fault_least : (past : PastCalls) (found : Option Place) → IsFault past found → IsLeastIn (early past) found
-fault_least past None h = h
-fault_least past (Some p) h = h
-
 early_last : (pasts : List PastCalls) (past : PastCalls) → early_of (pasts ++ past ∷ []) ≡ early_of pasts ++ early past
 early_last [] past = append-nil (early past)
 early_last (first ∷ pasts) past = ap (λ l. early first ++ l) (early_last pasts past) ∙ sym (append_assoc (early first) (early_of pasts) (early past))
 
 -- one vat more
-pub least_more : (pasts : List PastCalls) (past : PastCalls) (known found : Option Place) → IsLeastIn (early_of pasts) known → IsFault past found → IsLeastIn (early_of (pasts ++ past ∷ [])) (lesser known found)
+pub least_more : (pasts : List PastCalls) (past : PastCalls) (known found : Option Place) → IsLeastOf (early_of pasts) known → IsFault past found → IsLeastOf (early_of (pasts ++ past ∷ [])) (lesser known found)
 least_more pasts past known found h g =
-    subst (λ l. IsLeastIn l (lesser known found)) (sym (early_last pasts past)) (least_with (early_of pasts) (early past) known found h (fault_least past found g))
+    subst (λ l. IsLeastOf l (lesser known found)) (sym (early_last pasts past)) (least_with (early_of pasts) (early past) known found h g)
 
 -- ---- those of a table
 
@@ -164,7 +158,7 @@ module _ (told : Told) where
     pub values_once : AreAllOnce told → AllByRecursion AreOnce (values told.vats)
     values_once once = all_once told.vats.entries found_all once
 
-    pub fault_in : (found : Option Place) → IsLeastIn (early_of (values told.vats)) found → IsFaultIn told found
+    pub fault_in : (found : Option Place) → IsLeastOf (early_of (values told.vats)) found → IsFaultIn told found
     fault_in None least = λ q h. absurd (subst (In q) least (early_among q h))
     fault_in (Some p) least = (is_early p told.vats.entries found_all least.0, λ q h. one_in (IsAtMost p) q (early_of (values told.vats)) least.1 (early_among q h))
 
@@ -174,7 +168,7 @@ module _ (told : Told) where
 pub record IsLeastSoFar (told : Told) (known : Option Place) (rest : List PastCalls) : Type 0 where
   pub pasts : List PastCalls
   pub all : values told.vats ≡ pasts ++ rest
-  pub least : AreAllOnce told → IsLeastIn (early_of pasts) known
+  pub least : AreAllOnce told → IsLeastOf (early_of pasts) known
 
 one_once : (xs : List PastCalls) (x : PastCalls) (ys : List PastCalls) → AllByRecursion AreOnce (xs ++ x ∷ ys) → AreOnce x
 one_once [] x ys all = all.0
@@ -194,4 +188,4 @@ least_next told ordered known found past rest now so_far is fault =
 
 pub least_end : (told : Told) → IsOrdered nat_cmp told.vats → (found : Option Place) (rest : List PastCalls) → IsLeastSoFar told found rest → rest ≡ [] → AreAllOnce told → IsFaultIn told found
 least_end told ordered found rest so_far none once =
-    fault_in told ordered found (subst (λ l. IsLeastIn (early_of l) found) (sym (so_far.all ∙ ap (λ l. so_far.pasts ++ l) none ∙ append-nil so_far.pasts)) (so_far.least once))
+    fault_in told ordered found (subst (λ l. IsLeastOf (early_of l) found) (sym (so_far.all ∙ ap (λ l. so_far.pasts ++ l) none ∙ append-nil so_far.pasts)) (so_far.least once))

@@ -17,7 +17,7 @@ use Rattle.decoded_records.specs.Past.{Each}
 use Rattle.call_order.specs.Glue.Counts.{count_of, turns_counted}
 use Rattle.call_order.specs.Glue.Deeds.{deed_of}
 use Rattle.call_order.specs.Glue.Names.{name_come, AreNamed}
-use Rattle.call_order.specs.Glue.Lines.{one_of, calls_to}
+use Rattle.call_order.specs.Glue.UnderWay.{one_of, calls_to}
 use Rattle.call_order.specs.Glue.Told.{told_of}
 use Rattle.call_order.specs.Glue.Tables.{IsDone}
 use Rattle.call_order.specs.Glue.Reached.{AreRead, AreKept, AreTablesOf, IsReached}
@@ -68,7 +68,7 @@ module _ (turns : Turns) (v : ℕ) (body : Body) (tables new : Tables) (number :
       says = next.says;
       linked = (next.linked, next.rest.linked);
       named = before.named v;
-      lines = before.lines;
+      under_way = before.under_way;
       told = before.told;
       counted = taken ∙ as_many_steps v next.before row turns next.rest.by_row read.2;
       done = subst (λ d. IsDone v number d tables new) (deed_is read.1.0 body e read.1.1 (good.1 rule.Ref).noted) done;
@@ -91,7 +91,7 @@ module _ (turns : Turns) (v : ℕ) (body : Body) (tables new : Tables) (number :
     ]
 
     kept_now : AreKept ((v, e) ∷ row) more new
-    kept_now = subst (λ steps. AreKept ((v, e) ∷ row) steps new) (sym next.all) (record { named = named_now; lines = now.lines; told = now.told })
+    kept_now = subst (λ steps. AreKept ((v, e) ∷ row) steps new) (sym next.all) (record { named = named_now; under_way = now.under_way; told = now.told })
 
   tables_more : AreTablesOf ((v, body) ∷ turns) new
   tables_more [] more read runs named = absurd read
@@ -115,13 +115,13 @@ empty_steps : (before : List Step) → map vat_of before ≡ [] → before ≡ [
 empty_steps [] h = refl
 empty_steps (s ∷ before) h = absurd (let no : ⊥ = cc in no)
 
-module _ (tables : Tables) (names : (v c : ℕ) → name_come tables.names v c ≡ None) (ones : (k : ℕ) → one_of tables.lines k ≡ None) (calls : (v k : ℕ) → calls_to tables.lines v k ≡ []) (told : (v : ℕ) → told_of tables.told v ≡ []) where
+module _ (tables : Tables) (names : (v c : ℕ) → name_come tables.names v c ≡ None) (ones : (k : ℕ) → one_of tables.under_way k ≡ None) (calls : (v k : ℕ) → calls_to tables.under_way v k ≡ []) (told : (v : ℕ) → told_of tables.told v ≡ []) where
   tables_begin : AreTablesOf [] tables
   tables_begin (r ∷ row) before read runs named = absurd read
   tables_begin [] before read runs named =
       subst (λ steps. AreKept [] steps tables) (sym (empty_steps before named.by_row)) (record {
         named = λ v. record { here = λ c h. absurd (false≢true h); unbound = λ c h. names v c };
-        lines = record { users = λ k one v is apart. absurd (let none : ◌≡◌ {A = Option ℕ} None (Some one) = sym (ones k) ∙ is in let no : ⊥ = cc in no); calls = λ v k end. calls v k };
+        under_way = record { users = λ k one v is apart. absurd (let none : ◌≡◌ {A = Option ℕ} None (Some one) = sym (ones k) ∙ is in let no : ⊥ = cc in no); calls = λ v k end. calls v k };
         told = told;
       })
 

@@ -15,10 +15,10 @@ mod cursors;
 mod deeds;
 mod fault;
 mod laws;
-mod lines;
 mod names;
 mod tables;
 mod told;
+mod under_way;
 
 pub use call_order::CallOrder;
 pub use fault::call_order_fault;

@@ -1,28 +1,11 @@
 //! What was told of the calls of each vat.
 
 ghost use Rattle.std.specs.Prelude.{◌≡◌, ℕ, [], OnOk};
-ghost use Rattle.call_order.specs.Glue.Told.{told_of, IsTold, lesser, AreAllOnce, IsFaultIn};
+ghost use Rattle.call_order.specs.Glue.Told.{told_of, IsTold, AreAllOnce, IsFaultIn};
 
 use std::alloc::{AllocError, Global};
 use std::collections::BTreeMap;
-use undelivered::{Moment, Undelivered};
-
-/// The lesser of two places, by vat and then by number, where there are any.
-fn lesser(known: Option<(u32, u32)>, found: Option<(u32, u32)>) -> Option<(u32, u32)>
-    ensures { result ≡ lesser known found }
-{
-    match (known, found) {
-        (None, place) => place,
-        (Some(least), None) => Some(least),
-        (Some(least), Some(place)) => {
-            if place.0 < least.0 || (place.0 == least.0 && place.1 < least.1) {
-                Some(place)
-            } else {
-                Some(least)
-            }
-        }
-    }
-}
+use undelivered::{Moment, Undelivered, lesser};
 
 /// What was told of the calls that each vat made.
 #[derive(Drop)]

@@ -3,7 +3,7 @@ use Rattle.std.specs.List.{zip}
 use Rattle.std.specs.Prelude.{◌≡◌, ℕ, List, [], ◌∷◌, Bool, ⊤, Option, Some, None, Ok, if◌then◌else◌}
 use Rattle.agree.specs.Rows.{Row, log_of_vat}
 use Rattle.call_order.specs.Glue.Counts.{count_of, turns_counted}
-use Rattle.call_order.specs.Glue.Lines.{AreLines}
+use Rattle.call_order.specs.Glue.UnderWay.{AreUnderWay}
 use Rattle.call_order.specs.Glue.Names.{AreNamed}
 use Rattle.call_order.specs.Glue.Told.{told_of}
 use Rattle.call_order.specs.declared.counts.Counts.{Counts}
@@ -28,7 +28,7 @@ AreRead _ _ = ⊥
 -- the tables are those of the steps that a row of records takes
 pub record AreKept (row : Row) (before : List Step) (tables : Tables) : Type 0 where
   pub named : (v : ℕ) → AreNamed v (log_of_vat v row) (steps_by v before) tables.names
-  pub lines : AreLines before tables.lines
+  pub under_way : AreUnderWay before tables.under_way
   pub told : (v : ℕ) → told_of tables.told v ≡ moments_of v before
 
 -- the tables are those of the steps of these turns' records, where these have any

@@ -2,7 +2,7 @@
 -- one of the vats tells of a break.
 use Rattle.std.specs.BTreeMap.{get}
 use Rattle.std.specs.Ordering.{nat_cmp}
-use Rattle.std.specs.Prelude.{◌≡◌, ◌==◌, ◌∷◌, ◌&&◌, ◌||◌, ℕ, [], Bool, Option, Some, None, if◌then◌else◌, nat_lt, unwrap_or}
+use Rattle.std.specs.Prelude.{◌≡◌, ◌==◌, ◌∷◌, ℕ, [], Option, Some, None, if◌then◌else◌, unwrap_or}
 use Rattle.call_order.specs.declared.told.Told.{Told}
 use Rattle.run_model.specs.Early.{IsAtMost}
 use Rattle.run_model.specs.Steps.{OneOf}
@@ -29,13 +29,3 @@ IsEarlyIn told place = (v : ℕ) × OneOf (λ p. p ≡ place) (early (told_of to
 abbrev pub IsFaultIn : Told → Option (ℕ × ℕ) → Type 0
 IsFaultIn told None = (place : ℕ × ℕ) → IsEarlyIn told place → ⊥
 IsFaultIn told (Some place) = IsEarlyIn told place × ((other : ℕ × ℕ) → IsEarlyIn told other → IsAtMost place other)
-
--- by vat, then by number
-abbrev pub is_less : ℕ × ℕ → ℕ × ℕ → Bool
-is_less a b = nat_lt a.0 b.0 || ((a.0 == b.0) && nat_lt a.1 b.1)
-
--- the lesser of two places, where there are any
-abbrev pub lesser : Option (ℕ × ℕ) → Option (ℕ × ℕ) → Option (ℕ × ℕ)
-lesser None found = found
-lesser (Some least) None = Some least
-lesser (Some least) (Some place) = if is_less place least then Some place else Some least

@@ -1,7 +1,7 @@
 //! The calls that are under way on connections.
 
 ghost use Rattle.std.specs.Prelude.{◌≡◌, ◌==◌, ◌++◌, ◌∷◌, ℕ, [], None, OnOk, drop, if◌then◌else◌, slice_get};
-ghost use Rattle.call_order.specs.Glue.Lines.{are_ends, calls_to, calls_to_on, one_of, one_with, IsSent, IsReceived};
+ghost use Rattle.call_order.specs.Glue.UnderWay.{are_ends, calls_to, calls_to_on, one_of, one_with, IsSent, IsReceived};
 ghost use Rattle.std.specs.Prelude.{Some};
 ghost use Rattle.std.specs.Bool.{beq};
 
@@ -11,20 +11,20 @@ use std::collections::{BTreeMap, VecDeque};
 
 /// The calls that are under way on a connection, which has two ends: the first sent first.
 #[derive(Drop)]
-pub(crate) struct Line {
+pub(crate) struct ConnectionCalls {
     /// The vat that sent a call there first.
     one: u32,
     from_one: VecDeque<Name>,
     from_others: VecDeque<Name>,
 }
 
-impl Line {
+impl ConnectionCalls {
     /// Before this vat sends the first call.
-    fn new(alloc: Global, vat: u32) -> Line
+    fn new(alloc: Global, vat: u32) -> ConnectionCalls
         ensures one { result.one ≡ vat }
         ensures calls { (v : ℕ) → calls_to_on result v ≡ [] }
     {
-        Line {
+        ConnectionCalls {
             one: vat,
             from_one: VecDeque::new(alloc),
             from_others: VecDeque::new(alloc),
@@ -62,18 +62,18 @@ impl Line {
 
 /// The calls that are under way on each connection.
 #[derive(Drop)]
-pub(crate) struct Lines {
+pub(crate) struct CallsUnderWay {
     alloc: Global,
-    connections: BTreeMap<u32, Line>,
+    connections: BTreeMap<u32, ConnectionCalls>,
 }
 
-impl Lines {
+impl CallsUnderWay {
     /// Before any call is sent.
-    pub(crate) fn new(alloc: Global) -> Lines
+    pub(crate) fn new(alloc: Global) -> CallsUnderWay
         ensures ones { (k : ℕ) → one_of result k ≡ None }
         ensures calls { (v k : ℕ) → calls_to result v k ≡ [] }
     {
-        Lines {
+        CallsUnderWay {
             alloc,
             connections: BTreeMap::new(alloc),
         }
@@ -84,11 +84,11 @@ impl Lines {
         ensures { OnOk result (IsSent connection vat name (one_with self.old connection vat) self.old self.new) }
     {
         match self.connections.get_mut(&connection) {
-            Some(line) => line.send(vat, name),
+            Some(calls) => calls.send(vat, name),
             None => {
-                let mut line = Line::new(self.alloc, vat);
-                line.send(vat, name)?;
-                self.connections.insert(connection, line)?;
+                let mut calls = ConnectionCalls::new(self.alloc, vat);
+                calls.send(vat, name)?;
+                self.connections.insert(connection, calls)?;
                 Ok(())
             }
         }
@@ -99,7 +99,7 @@ impl Lines {
         ensures { IsReceived connection vat result self.old self.new }
     {
         match self.connections.get_mut(&connection) {
-            Some(line) => line.receive(vat),
+            Some(calls) => calls.receive(vat),
             None => None,
         }
     }

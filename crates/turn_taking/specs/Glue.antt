@@ -5,8 +5,8 @@ use Rattle.std.specs.Ordering.{nat_cmp}
 use Rattle.vat_log.specs.Passages.{sends_frame, receives_frame}
 use Rattle.vat_log.specs.declared.body.Body.{Body}
 use Rattle.turn_taking.specs.declared.counts.Counts.{Counts}
-use Rattle.turn_taking.specs.declared.line.End.{End}
-use Rattle.turn_taking.specs.declared.line.Line.{Line}
+use Rattle.turn_taking.specs.declared.frame_counts.End.{End}
+use Rattle.turn_taking.specs.declared.frame_counts.FrameCounts.{FrameCounts}
 use Rattle.turn_taking.specs.declared.tables.Tables.{Tables}
 use Rattle.turn_taking.specs.Turns.{Turns, records_of}
 
@@ -28,7 +28,7 @@ IsRaised vat old new = (v : ℕ) → count_of new v ≡ count_of old v + (if vat
 abbrev pub HaveSameCounts : Counts → Counts → Type 0
 HaveSameCounts old new = (v : ℕ) → count_of new v ≡ count_of old v
 
--- ---- lines
+-- ---- connections
 
 -- how many frames a vat sent or received at an end
 abbrev pub passed_at : End → ℕ → ℕ
@@ -39,47 +39,47 @@ abbrev pub passed_if : Option End → ℕ → ℕ
 passed_if None v = 0
 passed_if (Some end) v = passed_at end v
 
--- how many frames a vat sent or received on a line
-abbrev pub passed_of : Line → ℕ → ℕ
-passed_of line v = passed_at line.first v + passed_if line.second v + count_of line.others v
+-- how many frames of a connection a vat sent or received
+abbrev pub passed_of : FrameCounts → ℕ → ℕ
+passed_of frames v = passed_at frames.first v + passed_if frames.second v + count_of frames.others v
 
--- a line says what it said
-pub record IsSameLine (old new : Line) : Type 0 where
+-- the counts of a connection say what they said
+pub record IsSameFrames (old new : FrameCounts) : Type 0 where
   pub passed : (v : ℕ) → passed_of new v ≡ passed_of old v
   pub sent : new.sent ≡ old.sent
 
 -- a vat passed one frame more
-pub record IsRaisedLine (vat : ℕ) (old new : Line) : Type 0 where
+pub record IsRaisedFrames (vat : ℕ) (old new : FrameCounts) : Type 0 where
   pub passed : (v : ℕ) → passed_of new v ≡ passed_of old v + (if vat == v then 1 else 0)
   pub sent : new.sent ≡ old.sent
 
 -- a vat sent a frame, or received one
-pub record IsPassedLine (vat : ℕ) (sends : Bool) (old new : Line) : Type 0 where
+pub record IsPassedFrames (vat : ℕ) (sends : Bool) (old new : FrameCounts) : Type 0 where
   pub passed : (v : ℕ) → passed_of new v ≡ passed_of old v + (if vat == v then 1 else 0)
   pub sent : new.sent ≡ old.sent + (if sends then 1 else 0)
 
 -- the same of the first frame
-pub record IsBegun (vat : ℕ) (sends : Bool) (line : Line) : Type 0 where
-  pub passed : (v : ℕ) → passed_of line v ≡ (if vat == v then 1 else 0)
-  pub sent : line.sent ≡ (if sends then 1 else 0)
+pub record IsBegun (vat : ℕ) (sends : Bool) (frames : FrameCounts) : Type 0 where
+  pub passed : (v : ℕ) → passed_of frames v ≡ (if vat == v then 1 else 0)
+  pub sent : frames.sent ≡ (if sends then 1 else 0)
 
 -- ---- tables
 
--- how many frames a vat sent or received on a line, and how many all vats sent, where there is a line
-abbrev pub passed_in : Option Line → ℕ → ℕ
+-- how many frames of a connection a vat sent or received, and how many all vats sent, where it has counts
+abbrev pub passed_in : Option FrameCounts → ℕ → ℕ
 passed_in None v = 0
-passed_in (Some line) v = passed_of line v
+passed_in (Some frames) v = passed_of frames v
 
-abbrev pub sent_in : Option Line → ℕ
+abbrev pub sent_in : Option FrameCounts → ℕ
 sent_in None = 0
-sent_in (Some line) = line.sent
+sent_in (Some frames) = frames.sent
 
 -- the same on a connection
 abbrev pub passed_on : Tables → ℕ → ℕ → ℕ
-passed_on tables v k = passed_in (get nat_cmp tables.lines k) v
+passed_on tables v k = passed_in (get nat_cmp tables.connections k) v
 
 abbrev pub sent_on : Tables → ℕ → ℕ
-sent_on tables k = sent_in (get nat_cmp tables.lines k)
+sent_on tables k = sent_in (get nat_cmp tables.connections k)
 
 -- every count is as it was
 pub record AreSameTables (old new : Tables) : Type 0 where

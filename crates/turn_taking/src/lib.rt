@@ -7,8 +7,8 @@
 #![tactic(auto)]
 
 mod counts;
+mod frame_counts;
 mod laws;
-mod line;
 mod tables;
 mod turns_taken;
 

@@ -4,7 +4,7 @@ ghost use Rattle.std.specs.Prelude.{◌≡◌, ◌-◌, ◌+◌, ◌<◌, ◌^�
 ghost use Rattle.turn_taking.specs.Glue.{count_of, sent_on, passed_on, AreEmpty, AreRoomy, IsPassed, IsNoted, IsTaken, AreSameTables};
 
 use crate::counts::Counts;
-use crate::line::Line;
+use crate::frame_counts::FrameCounts;
 use std::alloc::{AllocError, Global};
 use std::collections::BTreeMap;
 use vat_log::Body;
@@ -14,7 +14,7 @@ use vat_log::Body;
 pub(crate) struct Tables {
     alloc: Global,
     records: Counts,
-    lines: BTreeMap<u32, Line>,
+    connections: BTreeMap<u32, FrameCounts>,
 }
 
 impl Tables {
@@ -25,7 +25,7 @@ impl Tables {
         Tables {
             alloc,
             records: Counts::new(alloc),
-            lines: BTreeMap::new(alloc),
+            connections: BTreeMap::new(alloc),
         }
     }
 
@@ -41,8 +41,8 @@ impl Tables {
         requires { passed_on self.now vat connection < 2 ^ 64 }
         ensures { result ≡ sent_on self.now connection - passed_on self.now vat connection }
     {
-        match self.lines.get(&connection) {
-            Some(line) => line.sent().saturating_sub(line.passed(vat)),
+        match self.connections.get(&connection) {
+            Some(frames) => frames.sent().saturating_sub(frames.passed(vat)),
             None => 0,
         }
     }
@@ -57,8 +57,8 @@ impl Tables {
         ensures ok { OnOk result (IsPassed vat connection sends self.old self.new) }
         ensures err { OnErr result (AreSameTables self.old self.new) }
     {
-        let line = Line::begin(self.alloc, vat, sends);
-        self.lines.insert(connection, line)?;
+        let frames = FrameCounts::begin(self.alloc, vat, sends);
+        self.connections.insert(connection, frames)?;
         Ok(())
     }
 
@@ -69,8 +69,8 @@ impl Tables {
         ensures ok { OnOk result (IsPassed vat connection sends self.old self.new) }
         ensures err { OnErr result (AreSameTables self.old self.new) }
     {
-        match self.lines.get_mut(&connection) {
-            Some(line) => line.pass(vat, sends),
+        match self.connections.get_mut(&connection) {
+            Some(frames) => frames.pass(vat, sends),
             None => self.begin(vat, connection, sends),
         }
     }

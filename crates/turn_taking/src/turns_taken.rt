@@ -53,6 +53,13 @@ impl TurnsTaken {
         }
     }
 
+    /// How many turns were taken.
+    pub fn count(&self) -> u64
+        ensures { result ≡ length self.now }
+    {
+        self.count
+    }
+
     /// How many frames the other vats sent on the connection beyond those that the vat received there.
     pub fn under_way(&self, vat: u32, connection: u32) -> u64
         ensures { result ≡ under_way vat connection self.now }

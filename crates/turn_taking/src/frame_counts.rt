@@ -1,7 +1,7 @@
 //! What passed on a connection.
 
 ghost use Rattle.std.specs.Prelude.{◌≡◌, ◌+◌, ◌<◌, ◌^◌, ℕ, OnOk, OnErr};
-ghost use Rattle.turn_taking.specs.Glue.{passed_at, passed_of, IsBegun, IsRaisedLine, IsPassedLine, IsSameLine};
+ghost use Rattle.turn_taking.specs.Glue.{passed_at, passed_of, IsBegun, IsRaisedFrames, IsPassedFrames, IsSameFrames};
 
 use crate::counts::Counts;
 use std::alloc::{AllocError, Global};
@@ -24,7 +24,7 @@ impl End {
 
 /// What passed on a connection, of which vats mostly are at two ends.
 #[derive(Drop)]
-pub(crate) struct Line {
+pub(crate) struct FrameCounts {
     /// How many frames were sent, by whichever vat.
     sent: u64,
     first: End,
@@ -32,12 +32,12 @@ pub(crate) struct Line {
     others: Counts,
 }
 
-impl Line {
+impl FrameCounts {
     /// A vat sends the first frame, or receives it. It takes no memory.
-    pub(crate) fn begin(alloc: Global, vat: u32, sends: bool) -> Line
+    pub(crate) fn begin(alloc: Global, vat: u32, sends: bool) -> FrameCounts
         ensures { IsBegun vat sends result }
     {
-        Line {
+        FrameCounts {
             sent: u64::from(sends),
             first: End { vat, passed: 1 },
             second: None,
@@ -68,8 +68,8 @@ impl Line {
     /// changes.
     fn raise(&mut self, vat: u32) -> Result<(), AllocError>
         requires { passed_of self.old vat + 1 < 2 ^ 64 }
-        ensures ok { OnOk result (IsRaisedLine vat self.old self.new) }
-        ensures err { OnErr result (IsSameLine self.old self.new) }
+        ensures ok { OnOk result (IsRaisedFrames vat self.old self.new) }
+        ensures err { OnErr result (IsSameFrames self.old self.new) }
     {
         if self.first.vat == vat {
             self.first.passed += 1;
@@ -88,8 +88,8 @@ impl Line {
     pub(crate) fn pass(&mut self, vat: u32, sends: bool) -> Result<(), AllocError>
         requires room { passed_of self.old vat + 1 < 2 ^ 64 }
         requires few { self.old.sent + 1 < 2 ^ 64 }
-        ensures ok { OnOk result (IsPassedLine vat sends self.old self.new) }
-        ensures err { OnErr result (IsSameLine self.old self.new) }
+        ensures ok { OnOk result (IsPassedFrames vat sends self.old self.new) }
+        ensures err { OnErr result (IsSameFrames self.old self.new) }
     {
         self.raise(vat)?;
         if sends {

@@ -34,7 +34,7 @@ pub use laws::{
 };
 pub use outcome::{Outcome, Why};
 pub use rule::Rule;
-pub use slim::audit::{audit_bytes, audit_slim, audit_stream};
+pub use slim::audit::{audit_bytes, audit_slim};
 pub use slim::finding::{SlimFinding, SlimOutcome};
 pub use slim::story::SlimStory;
 pub use slim::vat_audit::VatAudit;

@@ -1,18 +1,16 @@
 //! The audit of one log that keeps no record.
 
-ghost use Rattle.std.specs.Prelude.{◌≡◌, [], Ok, Err, IfErr, IfOk, OnOk, true};
+ghost use Rattle.std.specs.Prelude.{◌≡◌, Err, IfErr, IfOk};
 ghost use Rattle.vat_log.specs.declared.error.LogError.{LogError};
 ghost use Rattle.vat_log.specs.Reading.{GivesInMemory, header_of, log_of};
-ghost use Rattle.vat_log.specs.Streams.{StreamStopsBy};
 ghost use Rattle.vat_rules.specs.Audit.{IsTrueOf};
 
 use crate::slim::finding::SlimFinding;
 use crate::slim::vat_audit::VatAudit;
-use byte_pieces::Pieces;
 use bytes::Bytes;
 use rpc_view::Limits;
 use std::alloc::{AllocError, Global};
-use vat_log::{LogError, LogReader, LogStream, ReadFault, VatLog};
+use vat_log::{LogError, LogReader, VatLog};
 
 /// The audit of a log, as [`audit_vat`](crate::audit_vat) makes it, that keeps none of the log's records: where all are
 /// good, it says how many they are and how many deliver a call.
@@ -52,33 +50,6 @@ pub fn audit_bytes(alloc: Global, bytes: Bytes, limits: Limits) -> Result<SlimFi
     let mut audit = VatAudit::new(alloc, reader.header(), limits);
     while let Some(stored) = reader.next(alloc)? {
         audit.take(alloc, stored.body())?;
-    }
-    Ok(audit.finish())
-}
-
-/// The audit of a log that comes in pieces, as [`audit_slim`] makes it, from its first record on. Each record is judged as soon as
-/// it is read, and then let go; behind one that isn't good the log is read to its end.
-///
-/// # Errors
-///
-/// The first fault of the log's bytes, or that they can't be read, or that memory was refused.
-pub fn audit_stream<P: Pieces>(
-    alloc: Global,
-    stream: &mut LogStream<P>,
-    limits: Limits,
-) -> Result<SlimFinding, ReadFault>
-    requires { stream.old.log.records ≡ [] }
-    ensures log { IfOk result (λ finding. log_of stream.new.bytes ≡ Ok finding.log) }
-    ensures over { OnOk result (stream.new.is_over ≡ true) }
-    ensures err { IfErr result (λ fault. StreamStopsBy fault stream.new) }
-    ensures limits { IfOk result (λ finding. finding.limits ≡ limits) }
-    ensures outcome { IfOk result (λ finding. IsTrueOf finding.log finding.limits finding.outcome) }
-{
-    let mut audit = VatAudit::new(alloc, stream.header(), limits);
-    while let Some(stored) = stream.next(alloc)? {
-        if audit.take(alloc, stored.body()).is_err() {
-            return Err(ReadFault::OutOfMemory);
-        }
     }
     Ok(audit.finish())
 }

@@ -206,12 +206,35 @@ pub record AreEnds (ends : Ends) (state : LinkState) : Type 0 where
   pub second : ends.second.vat ≡ state.second
   pub passed : between ends ≡ state.queues
 
-pub ends_are : (table : LinkTable) (kept : LinkTurns) (k : ℕ) (state : LinkState) → AreStates kept.links kept.turns table → Some state ≡ state_on table k → (logs : List Log) (link : Link) (ends : Ends)
-    → link_on kept.links k ≡ Some link → AreAll logs kept.turns → IsComparisonOf logs link ends → AreEnds ends state
-ends_are table kept k state are there logs link ends found all is =
-    let same = sym (state_is kept.links kept.turns table k link state are there found) in
+-- the link of a connection is on it
+on_its_connection : (links : List Link) (k : ℕ) (link : Link) → link_on links k ≡ Some link → link.connection ≡ k
+on_its_connection [] k link found = absurd (let no : ⊥ = cc in no)
+on_its_connection (one ∷ links) k link found = at (one.connection == k) (one.a == one.b) refl found (on_its_connection links k link)
+  where
+    at : (here same : Bool) → (one.connection == k) ≡ here → cond (here && not same) (Some one) (link_on links k) ≡ Some link → (link_on links k ≡ Some link → link.connection ≡ k) → link.connection ≡ k
+    at true false here found rest = let is : one ≡ link = cc in ap (λ (l : Link). l.connection) (sym is) ∙ eqb-true one.connection k here
+    at true true here found rest = rest found
+    at false same here found rest = rest found
+
+-- what is kept of a connection is of a link there
+kept_of : (links : List Link) (turns : Turns) (table : LinkTable) (k : ℕ) (state : LinkState) → AreStates links turns table → Some state ≡ state_on table k → (link : Link) × (link.connection ≡ k) × (state ≡ state_of turns link)
+kept_of links turns table k state are kept = at (link_on links k) refl
+  where
+    at : (found : Option Link) → link_on links k ≡ found → (link : Link) × (link.connection ≡ k) × (state ≡ state_of turns link)
+    at None none = absurd (let same = kept ∙ are k ∙ ap (option_map (state_of turns)) none in let no : ⊥ = cc in no)
+    at (Some link) found = (link, on_its_connection links k link found, state_is links turns table k link state are kept found)
+
+pub ends_are : (table : LinkTable) (kept : LinkTurns) (link : Link) (state : LinkState) → AreStates kept.links kept.turns table → Some state ≡ state_on table link.connection
+    → state.first ≡ min link.a link.b → state.second ≡ max link.a link.b → (logs : List Log) (ends : Ends) → AreAll logs kept.turns → IsComparisonOf logs link ends → AreEnds ends state
+ends_are table kept link state are there first second logs ends all is =
+    let other = kept_of kept.links kept.turns table link.connection state are there in
+    let same = other.2 in
+    let first_is : min other.0.a other.0.b ≡ min link.a link.b = sym (ap (λ (s : LinkState). s.first) same) ∙ first in
+    let second_is : max other.0.a other.0.b ≡ max link.a link.b = sym (ap (λ (s : LinkState). s.second) same) ∙ second in
     record {
-      first = is.smaller ∙ ap (λ (s : LinkState). s.first) same;
-      second = is.greater ∙ ap (λ (s : LinkState). s.second) same;
-      passed = ends_passed logs kept.turns link ends all is ∙ ap (λ (s : LinkState). s.queues) same;
+      first = is.smaller ∙ sym first;
+      second = is.greater ∙ sym second;
+      passed = ends_passed logs kept.turns link ends all is ∙ ap (λ (k : ℕ). ways_of k (min link.a link.b) (max link.a link.b) kept.turns) (sym other.1)
+          ∙ ap (λ (f : ℕ). ways_of other.0.connection f (max link.a link.b) kept.turns) (sym first_is) ∙ ap (λ (g : ℕ). ways_of other.0.connection (min other.0.a other.0.b) g kept.turns) (sym second_is)
+          ∙ ap (λ (s : LinkState). s.queues) (sym same);
     }

@@ -1,5 +1,5 @@
 -- The links of a case, as far as turns were taken.
-use Rattle.std.specs.Prelude.{◌≡◌, ℕ, ◌==◌, ◌&&◌, not, List, Option, Some, find}
+use Rattle.std.specs.Prelude.{◌≡◌, ℕ, ◌==◌, ◌&&◌, not, List, Option, find}
 use Rattle.std.specs.List.{filter_map}
 use Rattle.vat_log.specs.Log.{Log}
 use Rattle.vat_log.specs.Passages.{frame_sent, frame_received}
@@ -26,7 +26,7 @@ ways_of k first second turns = record {
   to_second = record { sent = filter_map (frame_sent k) (records_of first turns); received = filter_map (frame_received k) (records_of second turns) };
 }
 
--- what is found of the link of a connection, whatever logs these turns are all records of; and nothing else is
-pub record IsFoundOn (links : List Link) (turns : Turns) (k : ℕ) (outcome : LinkOutcome) : Type 0 where
-  pub found : (logs : List Log) (link : Link) (ends : Ends) → link_on links k ≡ Some link → AreAll logs turns → IsComparisonOf logs link ends → IsOutcome ends outcome
-  pub only : (logs : List Log) (link : Link) (ends : Ends) (other : LinkOutcome) → link_on links k ≡ Some link → AreAll logs turns → IsComparisonOf logs link ends → IsOutcome ends other → other ≡ outcome
+-- what is found of a link, whatever logs these turns are all records of; and nothing else is
+pub record IsFoundOf (link : Link) (turns : Turns) (outcome : LinkOutcome) : Type 0 where
+  pub found : (logs : List Log) (ends : Ends) → AreAll logs turns → IsComparisonOf logs link ends → IsOutcome ends outcome
+  pub only : (logs : List Log) (ends : Ends) (other : LinkOutcome) → AreAll logs turns → IsComparisonOf logs link ends → IsOutcome ends other → other ≡ outcome

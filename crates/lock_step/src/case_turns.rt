@@ -1,9 +1,9 @@
 //! The turns of a whole case.
 
-ghost use Rattle.std.specs.Prelude.{◌≡◌, ◌-◌, [], List, Option, Some, None, false, IfOk, IfSome, is_some, length, option_map, OnOk, OnErr};
+ghost use Rattle.std.specs.Prelude.{◌≡◌, ◌-◌, [], List, Option, Some, None, false, true, IfOk, IfSome, is_some, length, option_map, OnOk, OnErr};
 ghost use Rattle.call_order.specs.Fault.{IsFaultBy};
-ghost use Rattle.lock_step.specs.Links.{IsFoundOn, link_on};
-ghost use Rattle.lock_step.specs.Taking.{count_turns, delivers, given_up, turned, with_turn};
+ghost use Rattle.lock_step.specs.Links.{IsFoundOf, link_on};
+ghost use Rattle.lock_step.specs.Taking.{count_turns, delivers, turned, with_turn};
 ghost use Rattle.turn_taking.specs.Turns.{AreAll, order_of};
 ghost use Rattle.case_pass.specs.Turned.{may_come};
 ghost use Rattle.vat_log.specs.Log.{Log};
@@ -64,13 +64,6 @@ impl CaseTurns {
         })
     }
 
-    /// No order of the records that are left fits those that were taken: from here on each is taken as it comes.
-    pub fn give_up(&mut self)
-        ensures { self.new ≡ option_map given_up self.old }
-    {
-        self.is_stuck = true;
-    }
-
     /// Takes a record, unless memory was refused before. Where it is refused now, no more is said of the parts.
     fn take_all(&mut self, vat: u32, body: &Body) -> Result<(), AllocError>
         ensures ok { OnOk result (self.new ≡ option_map (with_turn (vat, body.now)) self.old) }
@@ -99,14 +92,20 @@ impl CaseTurns {
         self.calls.fault()
     }
 
-    /// What is found of the link of a connection, if these were all records, as [`LinkStates::outcome`] says; none where no
-    /// link of the connection has two vats as its ends.
-    pub fn outcome(&self, connection: u32) -> Option<LinkOutcome>
-        ensures some { IfSome self.now (λ taken. is_some result ≡ is_some (link_on taken.links connection)) }
-        ensures found { IfSome self.now (λ taken. IfSome result
-            (λ outcome. IsFoundOn taken.links taken.all connection outcome)) }
+    /// What is found of a link, if these were all records, as [`LinkStates::outcome`] says.
+    pub fn outcome(&self, link: &Link) -> Option<LinkOutcome>
+        ensures some { IfSome self.now (λ taken. link_on taken.links link.now.connection ≡ Some link.now
+            → is_some result ≡ true) }
+        ensures found { IfSome self.now (λ taken. IfSome result (IsFoundOf link.now taken.all)) }
     {
-        self.states.outcome(connection)
+        self.states.outcome(link)
+    }
+
+    /// How many turns were taken in order.
+    pub fn in_order(&self) -> u64
+        ensures { IfSome self.now (λ taken. result ≡ length taken.in_order) }
+    {
+        self.turns.count()
     }
 
     /// How many records were taken, those that only passed among them.
@@ -143,6 +142,10 @@ impl Turns for CaseTurns {
 
     fn is_crowded(&self) -> bool {
         self.under_way() > CROWD
+    }
+
+    fn give_up(&mut self) {
+        self.is_stuck = true;
     }
 
     /// A vat takes its turn with this record, the next of its log.

@@ -1,6 +1,6 @@
 //! A link while turns are taken.
 
-ghost use Rattle.std.specs.Prelude.{◌≡◌, [], OnOk, OnErr};
+ghost use Rattle.std.specs.Prelude.{◌≡◌, [], true, min, max, OnOk, OnErr};
 ghost use Rattle.frame_queue.specs.Directions.{between};
 ghost use Rattle.link_check.specs.Prefix.{Ends, IsOutcome};
 ghost use Rattle.link_check.specs.declared.link_outcome.LinkOutcome.{LinkOutcome};
@@ -32,6 +32,14 @@ impl LinkState {
             second: link.a.max(link.b),
             queues: LinkQueues::new(alloc),
         }
+    }
+
+    /// Whether the ends of a link are these two vats.
+    pub(crate) fn is_between(&self, link: &Link) -> bool
+        ensures is { result ≡ true → (self.now.first ≡ min link.now.a link.now.b) × (self.now.second ≡ max link.now.a link.now.b) }
+        ensures isnt { self.now.first ≡ min link.now.a link.now.b → self.now.second ≡ max link.now.a link.now.b → result ≡ true }
+    {
+        self.first == link.a.min(link.b) && self.second == link.a.max(link.b)
     }
 
     /// The end at which the vat is.

@@ -1,7 +1,7 @@
 //! The links of a case, as vats take turns.
 
-ghost use Rattle.std.specs.Prelude.{◌≡◌, [], ◌∷◌, IfOk, IfSome, is_some, OnOk, OnErr};
-ghost use Rattle.lock_step.specs.Links.{IsFoundOn, link_on};
+ghost use Rattle.std.specs.Prelude.{◌≡◌, [], ◌∷◌, Some, true, IfOk, IfSome, is_some, OnOk, OnErr};
+ghost use Rattle.lock_step.specs.Links.{IsFoundOf, link_on};
 
 use crate::link_table::LinkTable;
 use case_book::Link;
@@ -71,13 +71,17 @@ impl LinkStates {
         Ok(())
     }
 
-    /// What is found of the link of a connection, if these were all turns; none where no link of the connection has two vats
-    /// as its ends. Where the turns are all records of some logs, it is what [`link_check::check_link`] finds of the ends that
-    /// the link has among them.
-    pub fn outcome(&self, connection: u32) -> Option<LinkOutcome>
-        ensures some { is_some result ≡ is_some (link_on self.now.links connection) }
-        ensures found { IfSome result (λ outcome. IsFoundOn self.now.links self.now.turns connection outcome) }
+    /// What is found of a link, if these were all turns. Where the turns are all records of some logs, it is what
+    /// [`link_check::check_link`] finds of the ends that the link has among them. None where the first link of its connection
+    /// that has two vats as its ends has others, or there is none.
+    pub fn outcome(&self, link: &Link) -> Option<LinkOutcome>
+        ensures some { link_on self.now.links link.now.connection ≡ Some link.now → is_some result ≡ true }
+        ensures found { IfSome result (IsFoundOf link.now self.now.turns) }
     {
-        Some(self.table.on(connection)?.outcome())
+        let state = self.table.on(link.connection)?;
+        if !state.is_between(link) {
+            return None;
+        }
+        Some(state.outcome())
     }
 }

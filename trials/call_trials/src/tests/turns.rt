@@ -90,7 +90,7 @@ fn are_compared(
             log_of(logs, link.a)?,
             log_of(logs, link.b)?,
         )?;
-        if turns.outcome(link.connection) != Some(found.outcome()) {
+        if turns.outcome(link) != Some(found.outcome()) {
             return Ok(false);
         }
     }
@@ -155,6 +155,25 @@ const STUCK: [(End, End, LinkOutcome, u64); 3] = [
     ),
 ];
 
+/// Of these the case has none: nobody, or others, are its ends.
+const OTHERS: [Link; 3] = [
+    Link {
+        connection: 1,
+        a: 1,
+        b: 2,
+    },
+    Link {
+        connection: 0,
+        a: 1,
+        b: 3,
+    },
+    Link {
+        connection: 0,
+        a: 0,
+        b: 2,
+    },
+];
+
 /// Whether records are left where none may come next, and the link is compared nonetheless.
 fn is_stuck(
     alloc: Global,
@@ -169,8 +188,8 @@ fn is_stuck(
     let (turns, passed) = in_turns(alloc, &logs, &[LINK])?;
     Ok(passed > 0
         && turns.under_way() == under_way
-        && turns.outcome(0) == Some(outcome)
-        && turns.outcome(1).is_none()
+        && turns.outcome(&LINK) == Some(outcome)
+        && OTHERS.iter().all(|link| turns.outcome(link).is_none())
         && are_compared(&turns, &logs, &[LINK])?)
 }
 

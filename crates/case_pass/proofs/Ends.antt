@@ -1,14 +1,15 @@
 -- What lanes tell of the logs that were read.
 use Rattle.std.proofs.Common.{◌≡◌, ℕ, suc, zero, ◌<◌, Bool, true, false, List, [], ◌∷◌, ◌++◌, length, get_or, if◌then◌else◌, Option, Some, None, refl, sym, ap, subst, ◌∙◌, arith, inl, inr}
-use Rattle.std.specs.Prelude.{◌≢◌, ◌⊎◌, Contains, is_some, slice_get}
+use Rattle.std.specs.Prelude.{◌≢◌, Contains, slice_get}
 use Rattle.std.proofs.lemmas.List.{append_assoc, append-nil}
 use Rattle.vat_log.specs.Log.{Log}
 use Rattle.vat_log.specs.declared.body.Body.{Body}
 use Rattle.turn_taking.specs.Turns.{Turns, records_of, may_follow, AreAll, AreOf}
-use Rattle.turn_taking.specs.Orders.{AreLeft, AreStuck, GoesOnWith}
+use Rattle.turn_taking.specs.Orders.{AreLeft, AreStuck}
+use Rattle.turn_taking.specs.Orders as orders
 use Rattle.case_pass.specs.Lanes.{LaneSoFar, HasNext}
 use Rattle.case_pass.specs.Turned.{Taken, may_come}
-use Rattle.case_pass.specs.Pass.{vat_of, logs_of, IsLaneAt, AreThere, AreInStep, AreEmpty, AreFurther, IsFurther, AreHeldUp, IsHeldUp, IsPass}
+use Rattle.case_pass.specs.Pass.{vat_of, logs_of, IsLaneAt, AreThere, AreEmpty, AreFurther, IsFurther, AreHeldUp, IsHeldUp, IsPass}
 use Rattle.case_pass.proofs.Sided.{within}
 
 -- ---- the logs of lanes
@@ -113,15 +114,15 @@ module _ (lanes later : List (Option LaneSoFar)) (taken : Taken) (free : taken.i
           let same : b ≡ next = first_of b next (ahead ++ so.more) rest (sym (ap (λ (l : List Body). l ++ so.more) e) ∙ is) in
           held next (ap (λ (l : List Body). slice_get l 0) e ∙ ap Some same)
 
-  pub are_stuck : AreHeldUp lanes taken → AreStuck (logs_of later) taken.in_order
-  are_stuck held v log has own next goes =
+  pub is_held : (v : ℕ) → ((i : ℕ) (lane : LaneSoFar) → IsLaneAt lanes i lane → vat_of lane ≡ v → IsHeldUp taken lane × HasNext lane) → orders.IsHeldUp (logs_of later) taken.in_order v
+  is_held v held log has own next goes =
       let at = lane_of later log has in
       let b = behind at.0 at.1 at.2 in
-      let lane_held = held at.0 b.0 b.1 in
+      let vats : vat_of b.0 ≡ v = sym b.2.vat ∙ ap (λ (l : Log). l.vat) at.3 ∙ own in
+      let lane_held = held at.0 b.0 b.1 vats in
       let is : one_records at.1 ≡ records_of (vat_of at.1) taken.in_order ++ next ∷ goes.0 = subst (λ (l : Log). l.records ≡ records_of l.vat taken.in_order ++ next ∷ goes.0) (sym at.3) goes.1 in
       let rest = cancel (records_of (vat_of at.1) taken.in_order) (b.0.ahead ++ b.2.more) (next ∷ goes.0) (sym b.3 ∙ is) in
       let none = first_held b.0 at.1 b.2 lane_held.0 lane_held.1 next goes.0 rest in
-      let vats : vat_of b.0 ≡ v = sym b.2.vat ∙ ap (λ (l : Log). l.vat) at.3 ∙ own in
       ap (λ (w : ℕ). may_follow taken.in_order w next) (sym vats) ∙ sym (free_may taken.is_stuck (may_follow taken.in_order (vat_of b.0) next) free) ∙ none
     where
       one_records : LaneSoFar → List Body
@@ -130,6 +131,9 @@ module _ (lanes later : List (Option LaneSoFar)) (taken : Taken) (free : taken.i
       free_may : (stuck answer : Bool) → stuck ≡ false → (if stuck then true else answer) ≡ answer
       free_may false answer is = refl
       free_may true answer is = absurd cc
+
+  pub are_stuck : AreHeldUp lanes taken → AreStuck (logs_of later) taken.in_order
+  are_stuck held v = is_held v (λ i lane is own. held i lane is)
 
   pub are_left : (i : ℕ) (lane : LaneSoFar) → IsLaneAt lanes i lane → lane.ahead ≢ [] → AreLeft (logs_of later) taken.in_order
   are_left i lane is some =

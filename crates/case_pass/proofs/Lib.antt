@@ -2,3 +2,5 @@ pub mod Turned
 pub mod Sided
 pub mod Stepping
 pub mod Ends
+pub mod Over
+pub mod Ordered

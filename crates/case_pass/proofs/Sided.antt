@@ -1,5 +1,5 @@
 -- Each lane takes its turns, one lane after another.
-use Rattle.std.proofs.Common.{◌≡◌, ℕ, suc, zero, ◌+◌, ◌<◌, ◌≤◌, Bool, true, false, List, [], ◌∷◌, ◌++◌, length, map, reverse, get_or, Option, Some, None, refl, sym, ap, subst, ◌∙◌, arith, inl, inr}
+use Rattle.std.proofs.Common.{◌≡◌, ℕ, suc, zero, ◌+◌, ◌<◌, ◌≤◌, Bool, true, false, List, [], ◌∷◌, ◌++◌, length, map, reverse, get_or, Option, Some, refl, sym, ap, subst, ◌∙◌, arith, inl, inr}
 use Rattle.std.specs.Prelude.{◌≢◌, ◌⊎◌, Contains, option_map, slice_get, slice_set}
 use Rattle.std.specs.List.{filter_map}
 use Rattle.std.proofs.lemmas.Bool.{eq-eqb, cases_eq, cases_lt}
@@ -9,7 +9,7 @@ use Rattle.std.proofs.lemmas.List.Elements.{filter_map-append, Contains-append_c
 use Rattle.merge_order.proofs.Greedy.{eqb_apart}
 use Rattle.vat_log.specs.Log.{Log}
 use Rattle.vat_log.specs.declared.body.Body.{Body}
-use Rattle.turn_taking.specs.Turns.{Turns, records_of, of_vat, may_follow, AreInOrder}
+use Rattle.turn_taking.specs.Turns.{Turns, records_of, of_vat, AreInOrder}
 use Rattle.case_pass.specs.Lanes.{LaneSoFar}
 use Rattle.case_pass.specs.Turned.{Taken}
 use Rattle.case_pass.specs.Pass.{vat_of, turns_with, IsLaneAt, AreInStep, IsHeldUp, TookTurns, AreThere, IsRound}
@@ -177,7 +177,7 @@ round_begins lanes taken there = record {
   still = λ none i lane lt. absurd (omega arith);
 }
 
-length_set : {X : Type 0} (xs : List X) (i : ℕ) (x : X) → length (slice_set xs i x) ≡ length xs
+pub length_set : {X : Type 0} (xs : List X) (i : ℕ) (x : X) → length (slice_set xs i x) ≡ length xs
 length_set [] i x = refl
 length_set (y ∷ xs) zero x = refl
 length_set (y ∷ xs) (suc i) x = ap suc (length_set xs i x)

@@ -1,15 +1,15 @@
 -- Lanes are read ahead, and then their vats take turns, again and again.
 use Rattle.std.proofs.Common.{◌≡◌, ℕ, suc, zero, ◌<◌, Bool, true, false, ◌||◌, List, [], ◌∷◌, ◌++◌, length, map, get_or, Option, Some, None, refl, sym, ap, subst, ◌∙◌, arith}
-use Rattle.std.specs.Prelude.{IfSome, is_none, is_some, slice_get}
+use Rattle.std.specs.Prelude.{IfSome, is_none}
 use Rattle.std.specs.List.{list_any}
 use Rattle.std.proofs.lemmas.List.{append_assoc, append-nil, length-map}
 use Rattle.vat_log.specs.Log.{Log}
 use Rattle.vat_log.specs.declared.body.Body.{Body}
-use Rattle.turn_taking.specs.Turns.{Turns, records_of, AreInOrder}
+use Rattle.turn_taking.specs.Turns.{Turns, records_of}
 use Rattle.case_pass.specs.Lanes.{LaneSoFar, GoesOn, HasNext}
 use Rattle.case_pass.specs.Turned.{Taken}
-use Rattle.case_pass.specs.Pass.{vat_of, IsLaneAt, AreThere, AreInStep, AreFilled, AreHeldUp, IsHeldUp, IsPass, IsRound, IsFurther, AreFurther}
-use Rattle.case_pass.proofs.Sided.{mapped_at, within, lane_there}
+use Rattle.case_pass.specs.Pass.{vat_of, IsLaneAt, AreThere, AreInStep, AreFilled, AreHeldUp, IsPass, IsRound, IsFurther, AreFurther}
+use Rattle.case_pass.proofs.Sided.{within, lane_there}
 
 or_first : (a b : Bool) → (a || b) ≡ false → a ≡ false
 or_first false b e = refl
@@ -53,6 +53,30 @@ filled f xs ys long each = record {
 
 -- ---- what was in step stays so
 
+-- more was read ahead in some lanes
+pub record AreGrown (lanes longer : List (Option LaneSoFar)) : Type 0 where
+  pub before : (i : ℕ) (one : LaneSoFar) → IsLaneAt longer i one → (lane : LaneSoFar) × IsLaneAt lanes i lane × GoesOn lane one
+  pub now : (i : ℕ) (lane : LaneSoFar) → IsLaneAt lanes i lane → (one : LaneSoFar) × IsLaneAt longer i one × (vat_of one ≡ vat_of lane)
+
+pub grown_in_step : (lanes longer : List (Option LaneSoFar)) (turns : Turns) → AreGrown lanes longer → AreInStep lanes turns → AreInStep longer turns
+grown_in_step lanes longer turns grown so = record {
+  each = λ i one is. (
+      let b = grown.before i one is in
+      b.2.records ∙ ap (λ (l : List Body). l ++ b.2.more) (so.each i b.0 b.1) ∙ append_assoc (records_of (vat_of b.0) turns) b.0.ahead b.2.more
+      ∙ ap (λ (l : List Body). records_of (vat_of b.0) turns ++ l) (sym b.2.ahead) ∙ ap (λ (v : ℕ). records_of v turns ++ one.ahead) (sym b.2.vat)
+      );
+  apart = λ i j one other is is_too same. (
+      let b = grown.before i one is in
+      let c = grown.before j other is_too in
+      so.apart i j b.0 c.0 b.1 c.1 (sym b.2.vat ∙ same ∙ c.2.vat)
+      );
+  known = λ turn has. (
+      let old = so.known turn has in
+      let now = grown.now old.0 old.1 old.2 in
+      (old.0, now.0, now.1, now.2 ∙ old.3)
+      );
+}
+
 module _ (lanes longer : List (Option LaneSoFar)) (more_read : AreFilled lanes longer) (there : AreThere lanes) (turns : Turns) (so : AreInStep lanes turns) where
   before : (i : ℕ) (one : LaneSoFar) → IsLaneAt longer i one → (lane : LaneSoFar) × IsLaneAt lanes i lane × GoesOn lane one × HasNext one
   before i one is =
@@ -62,27 +86,20 @@ module _ (lanes longer : List (Option LaneSoFar)) (more_read : AreFilled lanes l
       let grown = more_read.each i old.0 one old.1 is in
       (old.0, old.1, grown.0, grown.1)
 
-  pub stays_in_step : AreThere longer → AreInStep longer turns
-  stays_in_step there_now = record {
-    each = λ i one is. (
-        let b = before i one is in
-        b.2.records ∙ ap (λ (l : List Body). l ++ b.2.more) (so.each i b.0 b.1) ∙ append_assoc (records_of (vat_of b.0) turns) b.0.ahead b.2.more
-        ∙ ap (λ (l : List Body). records_of (vat_of b.0) turns ++ l) (sym b.2.ahead) ∙ ap (λ (v : ℕ). records_of v turns ++ one.ahead) (sym b.2.vat)
-        );
-    apart = λ i j one other is is_too same. (
-        let b = before i one is in
-        let c = before j other is_too in
-        so.apart i j b.0 c.0 b.1 c.1 (sym b.2.vat ∙ same ∙ c.2.vat)
-        );
-    known = λ turn has. (
-        let old = so.known turn has in
-        let lt = within lanes old.0 (Some old.1) old.2 in
+  pub are_grown : AreThere longer → AreGrown lanes longer
+  are_grown there_now = record {
+    before = λ i one is. (let b = before i one is in (b.0, b.1, b.2));
+    now = λ i lane is. (
+        let lt = within lanes i (Some lane) is in
         let long = more_read.long in
-        let now = there_now old.0 (omega (arith, long, lt)) in
-        let grown = more_read.each old.0 old.1 now.0 old.2 now.1 in
-        (old.0, now.0, now.1, grown.0.vat ∙ old.3)
+        let now = there_now i (omega (arith, long, lt)) in
+        let grown = more_read.each i lane now.0 is now.1 in
+        (now.0, now.1, grown.0.vat)
         );
   }
+
+  pub stays_in_step : AreThere longer → AreInStep longer turns
+  stays_in_step there_now = grown_in_step lanes longer turns (are_grown there_now) so
 
   pub has_next : (i : ℕ) (one : LaneSoFar) → IsLaneAt longer i one → HasNext one
   has_next i one is = (before i one is).3
@@ -108,7 +125,7 @@ round_held lanes longer after taken more some so grown round none i lane is =
 pub as_far : (lanes : List (Option LaneSoFar)) → AreFurther lanes lanes
 as_far lanes i one is = (one, is, record { vat = refl; more = []; records = sym (append-nil one.log.records); over = λ ended. (refl, ended) })
 
-joined : (one two three : LaneSoFar) → IsFurther one two → IsFurther two three → IsFurther one three
+pub joined : (one two three : LaneSoFar) → IsFurther one two → IsFurther two three → IsFurther one three
 joined one two three first then = record {
   vat = then.vat ∙ first.vat;
   more = first.more ++ then.more;

@@ -1,5 +1,5 @@
 -- The lanes of a case that are read side by side, and the turns that their vats took.
-use Rattle.std.specs.Prelude.{◌≡◌, ℕ, ◌<◌, Bool, true, false, List, [], ◌∷◌, ◌++◌, length, map, reverse, Option, Some, None, Contains, option_map, slice_get}
+use Rattle.std.specs.Prelude.{◌≡◌, ℕ, ◌<◌, Bool, true, false, List, [], ◌++◌, length, map, reverse, Option, Some, Contains, option_map, slice_get}
 use Rattle.std.specs.List.{filter_map}
 use Rattle.vat_log.specs.Log.{Log}
 use Rattle.vat_log.specs.declared.body.Body.{Body}
@@ -92,3 +92,7 @@ logs_of lanes = filter_map (λ lane. option_map (λ l. l.log) lane) lanes
 -- no record is ahead in any lane
 abbrev pub AreEmpty : List (Option LaneSoFar) → Type 0
 AreEmpty lanes = (i : ℕ) (lane : LaneSoFar) → IsLaneAt lanes i lane → lane.ahead ≡ []
+
+-- every record that was read is taken, and no more is read
+abbrev pub AreOver : List (Option LaneSoFar) → Type 0
+AreOver lanes = (i : ℕ) (lane : LaneSoFar) → IsLaneAt lanes i lane → (lane.ahead ≡ []) × (lane.has_ended ≡ true)

@@ -17,6 +17,10 @@ with_turn turn taken = record {
   is_stuck = taken.is_stuck;
 }
 
+-- no order fits from here on
+abbrev pub given_up : Taken → Taken
+given_up taken = record taken { is_stuck = true }
+
 -- a record may come next of a vat: any, once no order fits
 abbrev pub may_come : Taken → ℕ → Body → Bool
 may_come taken v body = if taken.is_stuck then true else may_follow taken.in_order v body

@@ -3,7 +3,7 @@
 ghost use Rattle.std.specs.Prelude.{◌≡◌, Some, None, drop, IfSome, OnOk, OnErr, option_map, is_none, slice_get, true, false};
 ghost use Rattle.std.specs.Option.{option_copied};
 ghost use Rattle.case_pass.specs.Lanes.{LaneSoFar, without_first, GoesOn, HasNext};
-ghost use Rattle.case_pass.specs.Turned.{with_turn, may_come};
+ghost use Rattle.case_pass.specs.Turned.{with_turn, given_up, may_come};
 
 use std::alloc::{AllocError, Global};
 use vat_log::{Body, Record};
@@ -52,6 +52,10 @@ pub trait Turns {
 
     /// Whether so many frames are under way that who sent one had better wait until some are received. No order depends on it.
     fn is_crowded(&self) -> bool;
+
+    /// No order of the records that are left fits those that were taken: from here on each is taken as it comes.
+    fn give_up(&mut self)
+        ensures { taken self.new ≡ option_map given_up (taken self.old) };
 
     /// A vat takes its turn with this record.
     fn take(&mut self, vat: u32, body: &Body) -> Result<(), AllocError>

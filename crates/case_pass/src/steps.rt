@@ -15,7 +15,7 @@ use std::thread::{self, Threads};
 const MOST: usize = 256;
 
 /// Reads ahead in the lanes that have no record ahead, so many of them at once.
-fn fill_round<R: Threads + Sync, L: Lane + Send>(
+pub(crate) fn fill_round<R: Threads + Sync, L: Lane + Send>(
     rt: &R,
     alloc: Global,
     lanes: &mut [L],
@@ -41,7 +41,7 @@ fn fill_round<R: Threads + Sync, L: Lane + Send>(
 }
 
 /// Whether memory was refused to a lane.
-fn are_refused<L: Lane>(lanes: &[L]) -> bool
+pub(crate) fn are_refused<L: Lane>(lanes: &[L]) -> bool
     ensures { result ≡ list_any (λ lane. is_none (L.so_far lane)) lanes.now }
 {
     lanes.iter().any(|lane| lane.is_refused())

@@ -1,4 +1,4 @@
-use Rattle.std.proofs.Common.{◌≡◌, Bool, false, List, map, Some, refl, sym, ◌∙◌}
+use Rattle.std.proofs.Common.{map, refl, sym, ◌∙◌}
 use Rattle.case_pass.proofs.Stepping.{none_refused, filled, as_far, round_further, round_keeps, round_held}
 use Rattle.case_pass.proofs.steps.take_in_step.Goals as goal
 

@@ -1,4 +1,4 @@
-use Rattle.std.proofs.Common.{◌+◌, arith, ◌≡◌, true, false, Some, None, sym, ap, subst, ◌∙◌}
+use Rattle.std.proofs.Common.{◌+◌, arith, ◌≡◌, true, false, subst}
 use Rattle.std.specs.Prelude.{IfSome, option_map}
 use Rattle.vat_log.specs.declared.body.Body.{Body}
 use Rattle.case_pass.specs.Turned.{with_turn, may_come}

@@ -1,5 +1,5 @@
 -- A log while it is read, some records ahead of what is taken of it.
-use Rattle.std.specs.Prelude.{◌≡◌, ⊤, Bool, true, List, Option, Some, None, Ok, is_some}
+use Rattle.std.specs.Prelude.{◌≡◌, ⊤, true, List, Option, Some, None, Ok, is_some}
 use Rattle.vat_log.specs.Reading.{log_of}
 use Rattle.vat_log.specs.Streams.{StreamSoFar, StreamStopsBy}
 use Rattle.vat_log.specs.declared.body.Body.{Body}

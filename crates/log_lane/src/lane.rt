@@ -1,6 +1,6 @@
 //! A log that is read ahead.
 
-ghost use Rattle.std.specs.Prelude.{◌≡◌, ◌<◌, false, true, [], Some, None, Ok, IfOk, IfErr, IfSome, OnOk, OnErr, option_map};
+ghost use Rattle.std.specs.Prelude.{◌≡◌, true, [], Some, None, Ok, IfOk, IfErr, IfSome, OnOk, OnErr};
 ghost use Rattle.cap_reader.specs.Defaults.{default_limits};
 ghost use Rattle.vat_log.specs.Reading.{log_of};
 ghost use Rattle.vat_log.specs.Streams.{StreamStopsBy};
@@ -14,6 +14,7 @@ use slim_case::{SlimLog, UsedConnections};
 use std::alloc::{AllocError, Global};
 use std::collections::VecDeque;
 use std::marker::Model;
+use std::mem;
 use vat_log::{LogStream, ReadFault, Record};
 use vat_rules::VatAudit;
 
@@ -30,6 +31,7 @@ pub struct Lane<P: Pieces> {
     ahead: VecDeque<Record>,
     ending: Option<Ending>,
     is_refused: bool,
+    is_spent: bool,
 }
 
 impl<P: Pieces> Model for Lane<P> {
@@ -42,7 +44,7 @@ impl<P: Pieces> Model for Lane<P> {
     ghost view = { λ lane. lane_unless lane.is_refused lane.stream lane.ahead.items lane.ending };
 
     ghost invariant = { λ lane. lane.is_refused ≡ false
-        → AreOfOne lane.stream lane.audit lane.used lane.ahead.items lane.ending };
+        → AreOfOne lane.is_spent lane.stream lane.audit lane.used lane.ahead.items lane.ending };
 }
 
 impl<P: Pieces> Lane<P> {
@@ -59,6 +61,7 @@ impl<P: Pieces> Lane<P> {
             ahead: VecDeque::new(alloc),
             ending: None,
             is_refused: false,
+            is_spent: false,
         }
     }
 
@@ -79,6 +82,9 @@ impl<P: Pieces> Lane<P> {
         if self.is_refused {
             return Err(AllocError);
         }
+        if self.ending.is_some() {
+            return Ok(());
+        }
         self.is_refused = true;
         match self.stream.next(alloc) {
             Ok(Some(record)) => {
@@ -94,24 +100,35 @@ impl<P: Pieces> Lane<P> {
         Ok(())
     }
 
-    /// What is left of a log that was read whole; or why it wasn't, if that is known.
-    pub fn finish(self) -> Result<SlimLog, Option<ReadFault>>
-        ensures whole { IfOk result (λ log. (lane : ReadAhead) → self ≡ Some lane
-            → (log.log ≡ lane.read.log) × (log.limits ≡ default_limits) × (log_of lane.read.bytes ≡ Ok lane.read.log)) }
-        ensures fault { IfErr result (λ why. IfSome why (λ fault. (lane : ReadAhead) → self ≡ Some lane
-            → StreamStopsBy fault lane.read)) }
+    /// From where the log comes.
+    pub fn pieces(&self) -> &P
+        ensures { IfSome self.now (λ lane. (P.came result.now ≡ lane.read.bytes) × (P.is_over result.now ≡ lane.read.is_over)) }
     {
-        let Lane {
-            audit,
-            used,
-            ending,
-            is_refused,
-            ..
-        } = self;
-        match ending {
-            Some(Ending::Whole) if !is_refused => Ok(SlimLog::new(audit.finish(), used)),
+        self.stream.pieces()
+    }
+
+    /// What is left of a log that was read whole, which can be asked for once; or why it wasn't, if that is known.
+    pub fn take_log(&mut self, alloc: Global) -> Result<SlimLog, Option<ReadFault>>
+        ensures lane { self.new ≡ self.old }
+        ensures whole { IfOk result (λ log. (lane : ReadAhead) × (self.old ≡ Some lane)
+            × (log.log ≡ lane.read.log) × (log.limits ≡ default_limits)
+            × (lane.read.is_over ≡ true) × (log_of lane.read.bytes ≡ Ok lane.read.log)) }
+        ensures fault { IfErr result (λ why. IfSome why (λ fault. (lane : ReadAhead) × (self.old ≡ Some lane)
+            × StreamStopsBy fault lane.read)) }
+    {
+        if self.is_refused || self.is_spent {
+            return Err(None);
+        }
+        match self.ending {
+            Some(Ending::Whole) => {
+                self.is_spent = true;
+                let fresh = VatAudit::new(alloc, self.stream.header(), Limits::default());
+                let audit = mem::replace(&mut self.audit, fresh);
+                let used = mem::replace(&mut self.used, UsedConnections::new(alloc));
+                Ok(SlimLog::new(audit.finish(), used))
+            }
             Some(Ending::Fault(fault)) => Err(Some(fault)),
-            _ => Err(None),
+            None => Err(None),
         }
     }
 }

@@ -1,6 +1,7 @@
 //! Logs whose records are gone.
 
 ghost use Rattle.std.specs.Prelude.{◌≡◌};
+ghost use Rattle.cap_reader.specs.Defaults.{default_limits};
 ghost use Rattle.slim_case.specs.Glue.{AreUsed};
 
 use crate::used::UsedConnections;
@@ -17,19 +18,22 @@ pub struct SlimLog {
 
 impl Model for SlimLog {
     ghost use Rattle.std.specs.Prelude.{◌≡◌};
+    ghost use Rattle.cap_reader.specs.Defaults.{default_limits};
     ghost use Rattle.vat_rules.specs.Audit.{Found};
 
     ghost Value = { Found };
 
     ghost view = { λ log. log.finding };
 
-    ghost invariant = { λ log. log.used ≡ log.finding.log.records };
+    ghost invariant = { λ log. (log.used ≡ log.finding.log.records) × (log.finding.limits ≡ default_limits) };
 }
 
 impl SlimLog {
-    /// The log of a finding, with the connections that its records used: they must have been told just these records.
+    /// The log of a finding within the default limits, with the connections that its records used: they must have been told
+    /// just these records.
     pub fn new(finding: SlimFinding, used: UsedConnections) -> SlimLog
-        requires { used ≡ finding.log.records }
+        requires used { used ≡ finding.log.records }
+        requires within { finding.limits ≡ default_limits }
         ensures { result ≡ finding }
     {
         SlimLog { finding, used }
@@ -44,7 +48,8 @@ impl SlimLog {
 
     /// What its audit found.
     pub fn finding(&self) -> &SlimFinding
-        ensures { result.now ≡ self.now }
+        ensures found { result.now ≡ self.now }
+        ensures within { result.now.limits ≡ default_limits }
     {
         &self.finding
     }

@@ -3,7 +3,7 @@
 
 usage: tests/names.py PROGRAM     (the built program)
 
-Its schemas are those of crates/schema_trials/data, which Debian's capnp wrote. Each run that isn't as it must be is named,
+Its schemas are those of trials/schema_trials/data, which Debian's capnp wrote. Each run that isn't as it must be is named,
 and the last line counts. It is no part of the gate.
 """
 import json
@@ -14,7 +14,7 @@ import sys
 import tempfile
 
 PROGRAM = os.path.realpath(sys.argv[1])
-DATA = os.path.join(os.path.dirname(os.path.dirname(os.path.abspath(__file__))), "crates", "schema_trials", "data")
+DATA = os.path.join(os.path.dirname(os.path.dirname(os.path.abspath(__file__))), "trials", "schema_trials", "data")
 STORE = os.path.join(DATA, "store.schema")
 PLAIN = os.path.join(DATA, "plain.schema")
 TEXT = os.path.join(DATA, "store.capnp")

@@ -1,5 +1,5 @@
 #!/usr/bin/env python3
-"""Refuses each allocation in turn, one a run: of refusal_trials, whose answers all have to come as they must, of schema_trials, and of vataudit
+"""Refuses each allocation in turn, one a run: of call_trials, whose answers all have to come as they must, of schema_trials, and of vataudit
 by each of its commands over samples/, which has to end as ever, or to say that memory ran out and end with status 3. With
 --json, notes and what is open may be left out, and a file or folder that was made stands where memory ran out over the
 object of its line.
@@ -34,7 +34,7 @@ COMMANDS = [
     "vat embargoed_calls.vat1.log",
     "vat wrong_object.vat2.log",
     "records embargoed_calls.vat1.log --from 1 --count 9",
-    "--schema ../crates/schema_trials/data/store.schema records embargoed_calls.vat1.log",
+    "--schema ../trials/schema_trials/data/store.schema records embargoed_calls.vat1.log",
     "--reasons records embargoed_calls.vat1.log",
     "frame " + ABORT,
     "frames pipelined_call.vat1.frames",
@@ -66,10 +66,15 @@ COMMANDS = [
 OUT_OF_MEMORY = {False: b"out of memory\n", True: b'{"kind":"out of memory"}\n'}
 
 
-def built(name, arguments):
-    """The path of a program, which is built and run where there is none."""
-    subprocess.run(["rt", "run", "--", *arguments], cwd=f"{ROOT}/crates/{name}", check=True)
-    return f"{ROOT}/crates/{name}/out/{name}"
+def built(name, arguments, root=None):
+    """The path of a program, which is built and run. Without a root it is one of trials/, which are laid beside the crates in a copy."""
+    if not root:
+        root = f"{ROOM}/copy"
+        if not os.path.isdir(root):
+            words = f". tests/lib/with_trials.sh && with_trials {root} built"
+            subprocess.run(["bash", "-c", words], cwd=ROOT, check=True)
+    subprocess.run(["rt", "run", "--", *arguments], cwd=f"{root}/crates/{name}", check=True)
+    return f"{root}/crates/{name}/out/{name}"
 
 
 def without_notes(text):
@@ -135,14 +140,14 @@ def refuse_each(words, may_run_out, place="samples"):
 
 with tempfile.TemporaryDirectory() as ROOM:
     subprocess.run(["cc", "-O2", "-shared", "-fPIC", "-o", f"{ROOM}/refuse.so", f"{ROOT}/tests/refuse.c"], check=True)
-    VATAUDIT = os.path.abspath(sys.argv[1]) if len(sys.argv) > 1 else built("vataudit", ["frame", ABORT])
-    TRIALS = os.path.abspath(sys.argv[2]) if len(sys.argv) > 2 else built("refusal_trials", [])
+    VATAUDIT = os.path.abspath(sys.argv[1]) if len(sys.argv) > 1 else built("vataudit", ["frame", ABORT], ROOT)
+    TRIALS = os.path.abspath(sys.argv[2]) if len(sys.argv) > 2 else built("call_trials", [])
     (status, text, _), refused, differences = refuse_each([TRIALS], False)
     differences += status
     answers = text.decode().strip()
-    print(f"refusal_trials: {refused} allocations refused", flush=True)
+    print(f"call_trials: {refused} allocations refused", flush=True)
     schemas = os.path.abspath(sys.argv[3]) if len(sys.argv) > 3 else built("schema_trials", [])
-    (status, _, _), more, others = refuse_each([schemas], False, "crates/schema_trials/data")
+    (status, _, _), more, others = refuse_each([schemas], False, "trials/schema_trials/data")
     print(f"schema_trials: {more} allocations refused", flush=True)
     refused += more
     differences += others + status

@@ -6,10 +6,10 @@ use Rattle.std.specs.Bool.{beq}
 use Rattle.std.proofs.lemmas.Bool.{false≢true, eq-eqb, and_parts, and_from, or_cases, or_left, or_right, ltb-true, lt-ltb}
 use Rattle.std.proofs.lemmas.Bool.Decides.{nat_tests}
 use Rattle.agree.specs.Types.{Descriptor, SenderHosted, ReceiverHosted, ReceiverAnswer, Imported, Promised, Results, Exception, Canceled, Elsewhere, TakeFrom, RpcMessage, Bootstrap, Call, Return, Finish, Release, Disembargo, DecodedRecord, Wire, TableKey}
-use Rattle.vat_view.specs.Past.{Past, id, Each}
-use Rattle.vat_view.specs.Questions.{question_returned, question_finished, question_taken, returns, opening, is_tail, is_taken, is_opened, is_returned, is_returned_lightly, is_finished, is_over, is_free, is_unfinished, is_unreturned}
-use Rattle.vat_view.specs.Lives.{gives_back, held, is_in_life, descriptors_of, GivesBackHeld}
-use Rattle.vat_view.specs.Uses.{OpensFree, UsesQuestions, UsesNumbers, question_targeted, question_described, questions_used, number_targeted, number_described, number_released, numbers_used}
+use Rattle.decoded_records.specs.Past.{Past, id, Each}
+use Rattle.decoded_records.specs.Questions.{question_returned, question_finished, question_taken, returns, opening, is_tail, is_taken, is_opened, is_returned, is_returned_lightly, is_finished, is_over, is_free, is_unfinished, is_unreturned}
+use Rattle.decoded_records.specs.Lives.{gives_back, held, is_in_life, descriptors_of, GivesBackHeld}
+use Rattle.decoded_records.specs.Uses.{OpensFree, UsesQuestions, UsesNumbers, question_targeted, question_described, questions_used, number_targeted, number_described, number_released, numbers_used}
 use Rattle.agree.specs.Streams.{passing, stream, IsPassed}
 use Rattle.agree.specs.Agreeing.{AreLinked}
 use Rattle.agree.specs.Told.{AreTold}

@@ -6,9 +6,9 @@ use Rattle.std.specs.Bool.{beq}
 use Rattle.std.proofs.lemmas.Bool.{false≢true, and_parts}
 use Rattle.std.proofs.lemmas.Bool.Decides.{nat_tests}
 use Rattle.agree.specs.Types.{Results, Exception, Canceled, Elsewhere, TakeFrom, RpcMessage, Bootstrap, Call, Return, Finish, DecodedRecord, Host, Wire, TableKey}
-use Rattle.vat_view.specs.Past.{Past, id, Point, point, names, last_since, Each}
-use Rattle.vat_view.specs.Questions.{question_opened, question_returned, question_returned_lightly, question_finished, question_released, question_taken, asks_elsewhere, opens, returns, returns_lightly, finishes, releases, takes_results, opening, is_tail, is_taken, is_finished, is_opened, is_released, is_free, is_unfinished, is_unreturned}
-use Rattle.vat_view.specs.Uses.{OpensFree, UsesQuestions}
+use Rattle.decoded_records.specs.Past.{Past, id, Point, point, names, last_since, Each}
+use Rattle.decoded_records.specs.Questions.{question_opened, question_returned, question_returned_lightly, question_finished, question_released, question_taken, asks_elsewhere, opens, returns, returns_lightly, finishes, releases, takes_results, opening, is_tail, is_taken, is_finished, is_opened, is_released, is_free, is_unfinished, is_unreturned}
+use Rattle.decoded_records.specs.Uses.{OpensFree, UsesQuestions}
 use Rattle.vat_view.proofs.Once.{used_so}
 use Rattle.agree.specs.Streams.{passing, stream, opening_number}
 

@@ -1,9 +1,9 @@
 -- What the exporter holds is what the importer holds and what is under way.
 use Rattle.std.proofs.Common.{◌≡◌, refl, sym, ◌∙◌, ap, ap₂, ℕ, List, [], length, true, false, arith}
 use Rattle.agree.specs.Types.{RpcMessage}
-use Rattle.vat_view.specs.Past.{Past, id, Each}
-use Rattle.vat_view.specs.Lives.{introduces, gives_back, GivesBackHeld}
-use Rattle.vat_view.specs.Uses.{OpensFree, UsesQuestions}
+use Rattle.decoded_records.specs.Past.{Past, id, Each}
+use Rattle.decoded_records.specs.Lives.{introduces, gives_back, GivesBackHeld}
+use Rattle.decoded_records.specs.Uses.{OpensFree, UsesQuestions}
 use Rattle.vat_view.proofs.Counting.{no_more_went}
 use Rattle.agree.specs.Points.{GoesOn}
 use Rattle.agree.specs.Streams.{stream}

@@ -6,9 +6,9 @@ use Rattle.std.specs.Bool.{beq}
 use Rattle.std.proofs.lemmas.Bool.{false≢true, cases_Bool, and_parts, or_from}
 use Rattle.std.proofs.lemmas.List.Sums.{sum_by-cons}
 use Rattle.agree.specs.Types.{Descriptor, SenderHosted, SenderPromise, RpcMessage, Bootstrap, Call, Return, Finish, DecodedRecord, Host, Wire, TableKey}
-use Rattle.vat_view.specs.Past.{Past, Point, point, id, is, names, same_id, last_since}
-use Rattle.vat_view.specs.Questions.{question_opened, opens, returns, releases, is_returned, is_released, is_late}
-use Rattle.vat_view.specs.Lives.{number_introduced, introduces, descriptors_of}
+use Rattle.decoded_records.specs.Past.{Past, Point, point, id, is, names, same_id, last_since}
+use Rattle.decoded_records.specs.Questions.{question_opened, opens, returns, releases, is_returned, is_released, is_late}
+use Rattle.decoded_records.specs.Lives.{number_introduced, introduces, descriptors_of}
 use Rattle.agree.specs.Streams.{passing, stream, opening_number}
 use Rattle.agree.specs.Told.{Telling, telling, tellings}
 use Rattle.agree.specs.Alive.{Closer, by_return, by_finish, is_same_closer, as_closer, closer_of, is_closed, is_introduced, introductions_in}

@@ -3,9 +3,9 @@ use Rattle.std.proofs.Common.{◌≡◌, ◌≤◌, ◌⊎◌, inl, inr, refl, s
 use Rattle.std.proofs.lemmas.Bool.{false≢true, eq-eqb}
 use Rattle.std.proofs.lemmas.Bool.Decides.{nat_tests}
 use Rattle.agree.specs.Types.{RpcMessage, Bootstrap, Return, Finish, DecodedRecord}
-use Rattle.vat_view.specs.Past.{Past, id, names, sum_back, Each}
-use Rattle.vat_view.specs.Questions.{question_returned, is_unfinished, returns}
-use Rattle.vat_view.specs.Uses.{OpensFree, UsesQuestions}
+use Rattle.decoded_records.specs.Past.{Past, id, names, sum_back, Each}
+use Rattle.decoded_records.specs.Questions.{question_returned, is_unfinished, returns}
+use Rattle.decoded_records.specs.Uses.{OpensFree, UsesQuestions}
 use Rattle.agree.specs.Points.{GoesOn}
 use Rattle.agree.specs.Streams.{passing, stream}
 use Rattle.agree.specs.Agreeing.{AreLinked, IsCausal}

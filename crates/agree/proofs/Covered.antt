@@ -1,9 +1,9 @@
 -- At a consistent cut the exporter of a number holds it no less often than the importer does.
 use Rattle.std.proofs.Common.{◌≡◌, ◌≤◌, refl, sym, subst, ℕ, List, [], ◌∷◌, ◌++◌, length, Bool, true, false, Option, if◌then◌else◌, arith}
 use Rattle.std.proofs.lemmas.Bool.{or_right, false≢true}
-use Rattle.vat_view.specs.Past.{Past, id, Each}
-use Rattle.vat_view.specs.Lives.{introduced_count, released_count, held, GivesBackHeld}
-use Rattle.vat_view.specs.Uses.{UsesQuestions}
+use Rattle.decoded_records.specs.Past.{Past, id, Each}
+use Rattle.decoded_records.specs.Lives.{introduced_count, released_count, held, GivesBackHeld}
+use Rattle.decoded_records.specs.Uses.{UsesQuestions}
 use Rattle.agree.specs.Told.{Telling, tellings, AreTold}
 use Rattle.agree.specs.Alive.{Closer, is_same_closer, as_closer, closer_of, is_closed, introductions_in, alive_in, releases_in_all, alive, let_go}
 use Rattle.agree.proofs.Held.{all_alive, held_is_alive, alive_is_held}

@@ -6,7 +6,7 @@ use Rattle.std.proofs.lemmas.List.{append-nil}
 use Rattle.std.proofs.lemmas.Bool.{false≢true, eq-eqb}
 use Rattle.std.proofs.lemmas.Bool.Decides.{nat_tests}
 use Rattle.agree.specs.Types.{RpcMessage, DecodedRecord, Host, Wire}
-use Rattle.vat_view.specs.Past.{Past}
+use Rattle.decoded_records.specs.Past.{Past}
 use Rattle.agree.specs.Points.{GoesOn, AtEach}
 use Rattle.agree.specs.Streams.{passing, stream, IsCut, IsPassed}
 use Rattle.agree.specs.Agreeing.{AreLinked}

@@ -4,9 +4,9 @@ use Rattle.std.specs.Prelude.{is_some}
 use Rattle.std.specs.List.{cons_option}
 use Rattle.std.proofs.lemmas.Bool.{false≢true, eqb-false, eq-eqb, ne_eqb, cases_Bool, and_parts, not-true}
 use Rattle.agree.specs.Types.{RpcMessage, Bootstrap, Call, Return, DecodedRecord, Wire, TableKey}
-use Rattle.vat_view.specs.Past.{Past, Point, point, id, is, names, same_id, last_since, Each}
-use Rattle.vat_view.specs.Questions.{question_opened, question_returned, opens, returns, releases, opening, return_of, is_opened, is_returned, is_released, is_late}
-use Rattle.vat_view.specs.Lives.{introductions_at, introduces}
+use Rattle.decoded_records.specs.Past.{Past, Point, point, id, is, names, same_id, last_since, Each}
+use Rattle.decoded_records.specs.Questions.{question_opened, question_returned, opens, returns, releases, opening, return_of, is_opened, is_returned, is_released, is_late}
+use Rattle.decoded_records.specs.Lives.{introductions_at, introduces}
 use Rattle.agree.specs.Streams.{passing, stream, opening_number}
 use Rattle.agree.specs.Told.{Telling, telling, tellings}
 use Rattle.agree.specs.Alive.{Closer, by_return, by_finish, is_same_closer, as_closer, closer_of, is_closed, introductions_in, alive_in}

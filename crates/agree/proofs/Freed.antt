@@ -3,9 +3,9 @@ use Rattle.std.proofs.Common.{◌≡◌, refl, sym, ◌∙◌, ap, subst, ℕ, [
 use Rattle.std.specs.Prelude.{is_some}
 use Rattle.std.proofs.lemmas.Bool.{false≢true, cases_Bool}
 use Rattle.agree.specs.Types.{RpcMessage, Bootstrap, Return, DecodedRecord, Wire, Host, TableKey}
-use Rattle.vat_view.specs.Past.{Past, Point, point, id, names, last_since, Each}
-use Rattle.vat_view.specs.Questions.{question_opened, question_returned_lightly, opens, returns_lightly, is_returned_lightly}
-use Rattle.vat_view.specs.Uses.{OpensFree, UsesQuestions}
+use Rattle.decoded_records.specs.Past.{Past, Point, point, id, names, last_since, Each}
+use Rattle.decoded_records.specs.Questions.{question_opened, question_returned_lightly, opens, returns_lightly, is_returned_lightly}
+use Rattle.decoded_records.specs.Uses.{OpensFree, UsesQuestions}
 use Rattle.agree.specs.Points.{GoesOn}
 use Rattle.agree.specs.Streams.{passing, stream, IsPassed, opening_number}
 use Rattle.agree.specs.Agreeing.{AreLinked, AgreeOnOpenings}

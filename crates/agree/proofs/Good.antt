@@ -1,13 +1,13 @@
 -- What good logs give.
 use Rattle.std.proofs.Common.{◌∷◌, List, refl, ℕ, true, false}
 use Rattle.agree.specs.Types.{RpcMessage, DecodedRecord, Host, Wire}
-use Rattle.vat_view.specs.Past.{Past, Each}
-use Rattle.vat_view.specs.Uses.{OpensFree, UsesQuestions}
-use Rattle.vat_view.specs.Bindings.{NotesEach}
+use Rattle.decoded_records.specs.Past.{Past, Each}
+use Rattle.decoded_records.specs.Uses.{OpensFree, UsesQuestions}
+use Rattle.decoded_records.specs.Bindings.{NotesEach}
 use Rattle.vat_view.specs.Sound.{IsSound}
 use Rattle.vat_rules.specs.declared.rule.Rule.TheVariants as rule
 use Rattle.vat_rules.specs.Judged.{IsGood}
-use Rattle.vat_view.specs.Lives.{GivesBackHeld}
+use Rattle.decoded_records.specs.Lives.{GivesBackHeld}
 use Rattle.agree.specs.Points.{GoesOn}
 use Rattle.agree.specs.Streams.{IsCut, IsPassed}
 use Rattle.agree.specs.Arrival.{ArrivesWell}

@@ -6,10 +6,10 @@ use Rattle.std.specs.Bool.{beq}
 use Rattle.std.proofs.lemmas.Bool.{false≢true, eq-eqb, cases_Bool, and_parts, not-true}
 use Rattle.std.proofs.lemmas.Bool.Decides.{nat_tests}
 use Rattle.agree.specs.Types.{RpcMessage, Bootstrap, Return, Finish, Release, DecodedRecord, Host, Wire, TableKey}
-use Rattle.vat_view.specs.Past.{Past, Point, point, id, names, same_id, last_since, Each}
-use Rattle.vat_view.specs.Questions.{question_opened, question_returned, question_finished, question_released, opens, finishes, releases, opening, return_of, is_finished, is_released, is_late, is_unreturned, is_unfinished}
-use Rattle.vat_view.specs.Lives.{introductions_at, introduces, gives_back, introduced_count, released_count, held, GivesBackHeld}
-use Rattle.vat_view.specs.Uses.{UsesQuestions}
+use Rattle.decoded_records.specs.Past.{Past, Point, point, id, names, same_id, last_since, Each}
+use Rattle.decoded_records.specs.Questions.{question_opened, question_returned, question_finished, question_released, opens, finishes, releases, opening, return_of, is_finished, is_released, is_late, is_unreturned, is_unfinished}
+use Rattle.decoded_records.specs.Lives.{introductions_at, introduces, gives_back, introduced_count, released_count, held, GivesBackHeld}
+use Rattle.decoded_records.specs.Uses.{UsesQuestions}
 use Rattle.vat_view.proofs.Counting.{no_more_went}
 use Rattle.agree.specs.Streams.{passing, opening_number}
 use Rattle.agree.specs.Told.{telling, tellings}

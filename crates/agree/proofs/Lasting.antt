@@ -3,9 +3,9 @@ use Rattle.std.proofs.Common.{◌≡◌, ◌≤◌, ◌<◌, inl, inr, refl, sym
 use Rattle.std.specs.List.{cons_option}
 use Rattle.std.proofs.lemmas.Bool.{ltb-true, lt-ltb}
 use Rattle.agree.specs.Types.{RpcMessage, DecodedRecord}
-use Rattle.vat_view.specs.Past.{Past, id, Each}
-use Rattle.vat_view.specs.Lives.{held}
-use Rattle.vat_view.specs.Uses.{UsesQuestions}
+use Rattle.decoded_records.specs.Past.{Past, id, Each}
+use Rattle.decoded_records.specs.Lives.{held}
+use Rattle.decoded_records.specs.Uses.{UsesQuestions}
 use Rattle.agree.specs.Points.{GoesOn}
 use Rattle.agree.specs.Streams.{passing, stream, IsCut, IsPassed}
 use Rattle.agree.specs.Agreeing.{IsCausal, AreLinked, AgreeOnOpenings}

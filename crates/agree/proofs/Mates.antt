@@ -1,7 +1,7 @@
 -- A consistent cut at which the ends speak of the same openings, from the cut and from what Returns belong to.
 use Rattle.std.proofs.Common.{◌≡◌, inl, inr, refl, sym, ◌∙◌, ap, ap₂, ℕ, List, [], ◌∷◌, ◌++◌, length, true, false, Some, None}
 use Rattle.agree.specs.Types.{RpcMessage, Bootstrap, Return, Finish, DecodedRecord}
-use Rattle.vat_view.specs.Past.{Past, id}
+use Rattle.decoded_records.specs.Past.{Past, id}
 use Rattle.agree.specs.Points.{GoesOn}
 use Rattle.agree.specs.Streams.{passing, stream, IsCut, IsPassed}
 use Rattle.agree.specs.Agreeing.{AgreeOnOpenings}

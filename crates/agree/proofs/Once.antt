@@ -4,10 +4,10 @@ use Rattle.std.specs.Prelude.{is_some, option_map}
 use Rattle.std.proofs.lemmas.Bool.{false≢true, and_parts, cases_lt, cases_Bool}
 use Rattle.std.proofs.lemmas.Bool.Decides.{nat_tests}
 use Rattle.agree.specs.Types.{RpcMessage, Bootstrap, Finish, DecodedRecord, Wire, TableKey}
-use Rattle.vat_view.specs.Past.{Past, Point, id, names, Each}
-use Rattle.vat_view.specs.Questions.{question_opened, question_finished, opens, returns, finishes, is_opened, is_unfinished, opening}
-use Rattle.vat_view.specs.Uses.{UsesQuestions}
-use Rattle.vat_view.proofs.Naming.{same_id_is}
+use Rattle.decoded_records.specs.Past.{Past, Point, id, names, Each}
+use Rattle.decoded_records.specs.Questions.{question_opened, question_finished, opens, returns, finishes, is_opened, is_unfinished, opening}
+use Rattle.decoded_records.specs.Uses.{UsesQuestions}
+use Rattle.decoded_records.proofs.Naming.{same_id_is}
 use Rattle.agree.specs.Points.{GoesOn}
 use Rattle.agree.specs.Streams.{passing, stream, opening_number}
 use Rattle.agree.proofs.Points.{before_it, no_longer, shorter, same_length, kept, each_at, each_so}

@@ -4,9 +4,9 @@ use Rattle.std.specs.Bool.{beq}
 use Rattle.std.proofs.lemmas.Bool.{false≢true, eq-eqb}
 use Rattle.std.proofs.lemmas.Bool.Decides.{nat_tests}
 use Rattle.agree.specs.Types.{RpcMessage, Bootstrap, Return, Outcome, DecodedRecord, Host, Wire}
-use Rattle.vat_view.specs.Past.{Past, id, Each}
-use Rattle.vat_view.specs.Questions.{returns, is_released, is_late}
-use Rattle.vat_view.specs.Uses.{OpensFree, UsesQuestions}
+use Rattle.decoded_records.specs.Past.{Past, id, Each}
+use Rattle.decoded_records.specs.Questions.{returns, is_released, is_late}
+use Rattle.decoded_records.specs.Uses.{OpensFree, UsesQuestions}
 use Rattle.agree.specs.Points.{GoesOn}
 use Rattle.agree.specs.Streams.{passing, stream, IsPassed, opening_number}
 use Rattle.agree.specs.Agreeing.{AreLinked, AgreeOnOpenings, AgreeOnLate}

@@ -5,7 +5,7 @@ use Rattle.std.proofs.lemmas.List.Elements.{filter_map-append}
 use Rattle.std.proofs.lemmas.Bool.{cases_lt}
 use Rattle.agree.specs.Points.{GoesOn, IsNth, AtEach}
 use Rattle.agree.specs.Types.{DecodedRecord}
-use Rattle.vat_view.specs.Past.{Past, Each}
+use Rattle.decoded_records.specs.Past.{Past, Each}
 
 module _ {A : Type 0} where
   pub through : (a b c : List A) → GoesOn a b → GoesOn b c → GoesOn a c

@@ -5,14 +5,14 @@ use Rattle.std.specs.List.{position_from}
 use Rattle.std.specs.Option.{option_or}
 use Rattle.std.proofs.lemmas.Bool.{false≢true, cases_Bool, eq-eqb}
 use Rattle.agree.specs.Types.{Descriptor, NoCap, SenderHosted, SenderPromise, RpcMessage, DecodedRecord, Host, Wire, View, TableKey}
-use Rattle.vat_view.specs.Past.{Past, point, id, names, last_answer, Each}
-use Rattle.vat_view.specs.Lives.{Birth, birth, begins, is_in_life, number_introduced, descriptors_of, descriptors}
-use Rattle.vat_view.specs.Views.{view_given, number_view, view_of_reference, view_of_number, view_of_descriptor, descriptor_view, placed_references}
-use Rattle.vat_view.specs.Uses.{UsesQuestions}
-use Rattle.vat_view.specs.Bindings.{Refers}
+use Rattle.decoded_records.specs.Past.{Past, point, id, names, last_answer, Each}
+use Rattle.decoded_records.specs.Lives.{Birth, birth, begins, is_in_life, number_introduced, descriptors_of, descriptors}
+use Rattle.decoded_records.specs.Views.{view_given, number_view, view_of_reference, view_of_number, view_of_descriptor, descriptor_view, placed_references}
+use Rattle.decoded_records.specs.Uses.{UsesQuestions}
+use Rattle.decoded_records.specs.Bindings.{Refers}
 use Rattle.vat_view.specs.Sound.{IsSound}
 use Rattle.vat_view.specs.Laws.{LivesOn, EachAfter}
-use Rattle.vat_view.proofs.Naming.{names_is}
+use Rattle.decoded_records.proofs.Naming.{names_is}
 use Rattle.vat_view.proofs.Lasting.{number_keeps}
 use Rattle.vat_view.proofs.Viewed.{begins_some, begins_parts, all_viewed, export_viewed}
 use Rattle.agree.specs.Points.{GoesOn}

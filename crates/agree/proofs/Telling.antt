@@ -3,7 +3,7 @@ use Rattle.std.proofs.Common.{◌≡◌, refl, sym, ◌∙◌, ap, subst, ℕ, s
 use Rattle.std.specs.List.{cons_option}
 use Rattle.std.proofs.lemmas.Bool.{false≢true, eqb-false, eq-eqb, cases_Bool, or_from}
 use Rattle.agree.specs.Types.{RpcMessage, Bootstrap, Call, Return, Finish, DecodedRecord, TableKey}
-use Rattle.vat_view.specs.Past.{Past, id, is}
+use Rattle.decoded_records.specs.Past.{Past, id, is}
 use Rattle.agree.specs.Streams.{passing, stream, opening_number}
 use Rattle.agree.specs.Told.{Telling, telling, tellings}
 use Rattle.agree.specs.Alive.{Closer, by_return, by_finish, is_same_closer, as_closer, is_closed}

@@ -1,8 +1,8 @@
 -- What the logs of two ends of a connection agree on.
 use Rattle.std.specs.Prelude.{◌≡◌, ℕ, Bool, true, false}
 use Rattle.agree.specs.Types.{RpcMessage, Outcome, Return, DecodedRecord}
-use Rattle.vat_view.specs.Past.{Past, id}
-use Rattle.vat_view.specs.Questions.{is_late}
+use Rattle.decoded_records.specs.Past.{Past, id}
+use Rattle.decoded_records.specs.Questions.{is_late}
 use Rattle.agree.specs.Streams.{IsPassed, IsCut, opening_number}
 
 -- each message that one sent the other was sent before it was received: the points before its two records make a cut

@@ -2,8 +2,8 @@
 -- Return.releaseParamCaps and Finish.releaseResultCaps). A message is named by its place among those that went its way.
 use Rattle.std.specs.Prelude.{ℕ, ◌+◌, ◌==◌, length, List, [], ◌∷◌, Bool, true, false, not, ◌||◌, Option, Some, None, if◌then◌else◌, count_by, option_map}
 use Rattle.agree.specs.Types.{Descriptor, SenderHosted, SenderPromise, RpcMessage, Call, Return, Finish, Release, TableKey}
-use Rattle.vat_view.specs.Past.{Past}
-use Rattle.vat_view.specs.Lives.{descriptors_of}
+use Rattle.decoded_records.specs.Past.{Past}
+use Rattle.decoded_records.specs.Lives.{descriptors_of}
 use Rattle.agree.specs.Told.{Telling, tellings}
 
 -- what closes a message: the Return of the Call with this number, or the Finish of the question that the message with

@@ -1,8 +1,8 @@
 -- Messages that arrive as they should.
 use Rattle.agree.specs.Types.{DecodedRecord}
-use Rattle.vat_view.specs.Past.{Past}
-use Rattle.vat_view.specs.Lives.{GivesBackHeld}
-use Rattle.vat_view.specs.Uses.{OpensFree, UsesQuestions, UsesNumbers}
+use Rattle.decoded_records.specs.Past.{Past}
+use Rattle.decoded_records.specs.Lives.{GivesBackHeld}
+use Rattle.decoded_records.specs.Uses.{OpensFree, UsesQuestions, UsesNumbers}
 
 -- a record keeps the rules on questions, and those on the numbers that it uses and gives back
 pub record ArrivesWell (before : Past) (e : DecodedRecord) : Type 0 where

@@ -1,8 +1,8 @@
 -- What the two ends of a connection hold of a number, and what is under way between them.
 use Rattle.std.specs.Prelude.{◌≡◌, ℕ, ◌+◌, List, [], ◌∷◌, ◌++◌, true, false}
 use Rattle.agree.specs.Types.{RpcMessage, DecodedRecord, Wire}
-use Rattle.vat_view.specs.Past.{Past, id}
-use Rattle.vat_view.specs.Lives.{introduces, gives_back, held}
+use Rattle.decoded_records.specs.Past.{Past, id}
+use Rattle.decoded_records.specs.Lives.{introduces, gives_back, held}
 use Rattle.agree.specs.Streams.{stream}
 
 -- these messages are under way, the newest first: one vat sent them, and the other hasn't received them

@@ -1,8 +1,8 @@
 -- Lives that last from one point of a log to another.
 use Rattle.std.specs.Prelude.{◌≡◌, true}
 use Rattle.agree.specs.Types.{TableKey}
-use Rattle.vat_view.specs.Past.{Past}
-use Rattle.vat_view.specs.Lives.{is_in_life}
+use Rattle.decoded_records.specs.Past.{Past}
+use Rattle.decoded_records.specs.Lives.{is_in_life}
 use Rattle.agree.specs.Points.{GoesOn}
 
 -- a number is in life at each point of a log since this one

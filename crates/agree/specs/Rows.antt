@@ -2,7 +2,7 @@
 use Rattle.std.specs.Prelude.{◌≡◌, ◌≢◌, ℕ, ◌<◌, ◌==◌, List, length, true, false, Option, Some, None, if◌then◌else◌}
 use Rattle.std.specs.List.{filter_map}
 use Rattle.agree.specs.Types.{RpcMessage, DecodedRecord}
-use Rattle.vat_view.specs.Past.{Past}
+use Rattle.decoded_records.specs.Past.{Past}
 use Rattle.agree.specs.Points.{GoesOn, IsNth, AtEach}
 use Rattle.agree.specs.Streams.{passing, stream}
 

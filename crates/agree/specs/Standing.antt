@@ -1,9 +1,9 @@
 -- What a number stands for at its two ends.
 use Rattle.std.specs.Prelude.{◌≡◌, ℕ, ◌∷◌, true, false, Some}
 use Rattle.agree.specs.Types.{RpcMessage, DecodedRecord, View}
-use Rattle.vat_view.specs.Past.{Past, id}
-use Rattle.vat_view.specs.Lives.{Birth, birth}
-use Rattle.vat_view.specs.Views.{view_of_number, view_of_descriptor}
+use Rattle.decoded_records.specs.Past.{Past, id}
+use Rattle.decoded_records.specs.Lives.{Birth, birth}
+use Rattle.decoded_records.specs.Views.{view_of_number, view_of_descriptor}
 use Rattle.agree.specs.Points.{GoesOn}
 use Rattle.agree.specs.Streams.{IsCut, IsPassed}
 use Rattle.agree.specs.Agreeing.{AgreeOnOpenings, AgreeOnLate}

@@ -4,8 +4,8 @@ use Rattle.std.specs.Prelude.{◌≡◌, ℕ, ◌==◌, List, ◌∷◌, length,
 use Rattle.std.specs.List.{filter_map}
 use Rattle.std.specs.Bool.{beq}
 use Rattle.agree.specs.Types.{RpcMessage, DecodedRecord, Wire, TableKey}
-use Rattle.vat_view.specs.Past.{Past}
-use Rattle.vat_view.specs.Questions.{opening}
+use Rattle.decoded_records.specs.Past.{Past}
+use Rattle.decoded_records.specs.Questions.{opening}
 use Rattle.agree.specs.Points.{GoesOn}
 
 -- the message of a record that passed on the connection: sent, or received

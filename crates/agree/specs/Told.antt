@@ -2,7 +2,7 @@
 use Rattle.std.specs.Prelude.{ℕ, List, [], ◌∷◌, Bool, true, false, not, Option, None, option_map}
 use Rattle.std.specs.List.{cons_option}
 use Rattle.agree.specs.Types.{RpcMessage, Return, Finish}
-use Rattle.vat_view.specs.Past.{Past, id}
+use Rattle.decoded_records.specs.Past.{Past, id}
 use Rattle.agree.specs.Points.{GoesOn}
 use Rattle.agree.specs.Streams.{passing, opening_number}
 

@@ -6,7 +6,7 @@ pub use Rattle.rpc_view.specs.declared.message.Outcome.{Outcome}
 pub use Rattle.rpc_view.specs.declared.message.Outcome.TheVariants.{Results, Exception, Canceled, Elsewhere, TakeFrom}
 pub use Rattle.rpc_view.specs.declared.message.RpcMessage.{RpcMessage}
 pub use Rattle.rpc_view.specs.declared.message.RpcMessage.TheVariants.{Bootstrap, Call, Return, Finish, Release, Disembargo}
-pub use Rattle.vat_view.specs.declared.record.decoded.DecodedRecord.{DecodedRecord}
-pub use Rattle.vat_view.specs.declared.record.decoded.DecodedRecord.TheVariants.{Host, Wire}
-pub use Rattle.vat_view.specs.declared.view.View.{View}
-pub use Rattle.vat_view.specs.declared.record.table_key.TableKey.{TableKey}
+pub use Rattle.decoded_records.specs.declared.decoded.DecodedRecord.{DecodedRecord}
+pub use Rattle.decoded_records.specs.declared.decoded.DecodedRecord.TheVariants.{Host, Wire}
+pub use Rattle.decoded_records.specs.declared.view.View.{View}
+pub use Rattle.decoded_records.specs.declared.table_key.TableKey.{TableKey}

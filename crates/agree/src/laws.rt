@@ -2,10 +2,10 @@
 
 ghost use Rattle.std.specs.Prelude.{◌≡◌, ◌≤◌, ◌+◌, ◌-◌, ℕ, Bool, List, ◌∷◌, length, true, false};
 ghost use Rattle.agree.specs.Types.{RpcMessage, DecodedRecord, TableKey};
-ghost use Rattle.vat_view.specs.Past.{Past, Each, id};
-ghost use Rattle.vat_view.specs.Questions.{returns, finishes};
-ghost use Rattle.vat_view.specs.Lives.{introduced_count, released_count, held, GivesBackHeld};
-ghost use Rattle.vat_view.specs.Uses.{OpensFree, UsesQuestions};
+ghost use Rattle.decoded_records.specs.Past.{Past, Each, id};
+ghost use Rattle.decoded_records.specs.Questions.{returns, finishes};
+ghost use Rattle.decoded_records.specs.Lives.{introduced_count, released_count, held, GivesBackHeld};
+ghost use Rattle.decoded_records.specs.Uses.{OpensFree, UsesQuestions};
 ghost use Rattle.vat_view.specs.Sound.{IsSound};
 ghost use Rattle.vat_rules.specs.Judged.{IsGood};
 ghost use Rattle.agree.specs.Points.{GoesOn};

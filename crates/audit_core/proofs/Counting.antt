@@ -10,7 +10,7 @@ use Rattle.vat_log.specs.declared.body.Body.{Body}
 use Rattle.vat_log.specs.declared.body.Body.TheVariants as body
 use Rattle.vat_rules.specs.Audit.{Found, IsTrueOf, reads_by, edition_of}
 use Rattle.vat_rules.specs.Events.{Reader, event_of, event_or_none}
-use Rattle.vat_view.specs.Decoding.{made_with}
+use Rattle.decoded_records.specs.Decoding.{made_with}
 use Rattle.vat_rules.specs.LogFacts.{Told}
 use Rattle.vat_rules.specs.Telling.{is_delivery}
 use Rattle.vat_rules.specs.Types.{RpcMessage, DecodedRecord, Host, Vow, Fulfil, Break, Make, Field, Deliver, Answer, AnswerBy, Fault, Wire}

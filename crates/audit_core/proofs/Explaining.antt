@@ -1,15 +1,16 @@
 -- The run of findings explains the logs of their case, and no vat has too many steps in it.
-use Rattle.std.proofs.Common.{◌≡◌, ℕ, ◌-◌, ◌<◌, ◌≤◌, ◌^◌, Bool, true, false, List, [], ◌∷◌, length, map, take, Option, Some, None, refl, sym, ap, ◌∙◌, subst, arith}
+use Rattle.std.proofs.lemmas.Bool.{cases_eq, eq-eqb, false≢true}
+use Rattle.std.proofs.Common.{◌≡◌, ℕ, suc, ◌+◌, inl, inr, ◌-◌, ◌<◌, ◌≤◌, ◌^◌, Bool, true, false, List, [], ◌∷◌, length, map, take, Option, Some, None, refl, sym, ap, ◌∙◌, subst, arith}
 use Rattle.std.specs.Prelude.{◌==◌, ◌||◌, Contains, IsTrue, count_by}
-use Rattle.std.specs.List.{list_any, AllByRecursion}
-use Rattle.std.proofs.lemmas.List.{length-map}
-use Rattle.std.proofs.lemmas.List.Sums.{length-filter, count_by-le-length, sum_by-cons}
+use Rattle.std.specs.List.{list_any, AllByRecursion, filter}
+use Rattle.std.proofs.lemmas.List.Sums.{sum_by-cons}
 use Rattle.cap_reader.specs.declared.limits.Limits.{Limits}
 use Rattle.vat_log.specs.Log.{Log}
-use Rattle.vat_view.specs.Past.{Each}
+use Rattle.decoded_records.specs.Past.{Each}
 use Rattle.vat_rules.specs.Audit.{Found, reads_within}
 use Rattle.vat_rules.specs.Events.{past_at}
-use Rattle.merge_order.specs.Fits.{Part, begin, after, FitsFrom, IsFitting}
+use Rattle.merge_order.specs.Fits.{Part, begin, after, part_of, may_come, may_come_from, FitsFrom, IsFitting}
+use Rattle.merge_order.proofs.Greedy.{bool_cases, some_is, eqb_apart, further_cases, part_stays, has_left}
 use Rattle.merge_order.proofs.Steps.{left, falls}
 use Rattle.run_model.specs.Steps.{vat_of, steps_of}
 use Rattle.run_model.specs.declared.step.Step.{Step}
@@ -19,9 +20,8 @@ use Rattle.call_trace.specs.InLife.{UsesLives}
 use Rattle.call_trace.specs.Named.{past_of, IsRunOf}
 use Rattle.call_trace.specs.Part.{IsPart}
 use Rattle.case_book.specs.Books.{AllFound, AreAll}
-use Rattle.audit_core.specs.Glue.{case_record_limit}
 use Rattle.audit_core.specs.Headline.{records_of, taken_of, IsBalancedThroughout, Explains}
-use Rattle.audit_core.specs.Report.{records_in, count_all, delivers, IsGoodCase, IsOrderFor, IsEarlyAt, IsReport, AreGoodFindings}
+use Rattle.audit_core.specs.Report.{records_in, count_all, delivers, IsGoodCase, IsOrderFor, IsEarlyAt, IsReport, AreGoodFindings, HoldsOfEach}
 use Rattle.vat_log.specs.Passages.{sends, receives}
 use Rattle.audit_core.specs.declared.report.Report.{Report}
 use Rattle.audit_core.specs.declared.report.Report.TheVariants as report
@@ -99,15 +99,78 @@ left_at_first (log ∷ logs) =
     let all = sum_by-cons (λ (l : Log). length l.records) log logs in
     omega (arith, rest, all)
 
-pub few_steps : (logs : List Log) (order : List ℕ) (run : List Step) (total : ℕ) → IsFitting logs order → map vat_of run ≡ order → total ≡ records_in logs → total ≤ case_record_limit
-    → (v : ℕ) → length (steps_of v run) < 2 ^ 32
-few_steps logs order run total fits by_order count few v =
-    let own = length-filter (λ s. vat_of s == v) run in
-    let fewer = count_by-le-length (λ s. vat_of s == v) run in
-    let long = sym (length-map run vat_of) ∙ ap length by_order in
-    let all = no_longer (begin logs) order fits in
-    let first = left_at_first logs in
-    omega (arith, own, fewer, long, all, first, count, few)
+-- ---- a vat comes up in it as often as its log has records
+
+-- how many records are left in a part
+abbrev rest_of : Option Part → ℕ
+rest_of None = 0
+rest_of (Some p) = length p.log.records - p.came
+
+-- one record further
+abbrev one_on : Part → Part
+one_on p = record { log = p.log; came = p.came + 1 }
+
+has_part : (v : ℕ) (ps : List Part) → may_come ps v ≡ true → (own : Part) × (part_of v ps ≡ Some own)
+unfolding may_come
+has_part v ps may = at (part_of v ps) may
+  where
+    at : (o : Option Part) → may_come_from v ps o ≡ true → (own : Part) × (o ≡ Some own)
+    at None may = absurd (false≢true may)
+    at (Some own) may = (own, refl)
+
+part_moves : (v : ℕ) (ps : List Part) (own : Part) → part_of v ps ≡ Some own → part_of v (after v ps) ≡ Some (one_on own)
+part_moves v [] own e = absurd cc
+part_moves v (p ∷ ps) own e =
+    elim (further_cases v p) [
+      | inl stays ↦ rw (stays.0, stays.1) (part_moves v ps own (rw stays.1 at e))
+      | inr moves ↦
+          let same : (p.log.vat == v) ≡ true = eq-eqb p.log.vat v moves.1 in
+          let is : p ≡ own = some_is p own (rw same at e) in
+          rw (moves.0, same) (ap (λ (q : Part). Some (one_on q)) is)
+    ]
+
+as_often : (v : ℕ) (ps : List Part) (order : List ℕ) → FitsFrom ps order → length (filter (λ w. w == v) order) ≤ rest_of (part_of v ps)
+as_often v ps [] fits = omega arith
+as_often v ps (w ∷ order) fits =
+    let later = as_often v (after w ps) order fits.1 in
+    elim (cases_eq v w) [
+      | inl same ↦
+          let own = has_part w ps fits.0 in
+          let own_v : part_of v ps ≡ Some own.0 = ap (λ (u : ℕ). part_of u ps) same ∙ own.1 in
+          let moved : part_of v (after w ps) ≡ Some (one_on own.0) = ap (λ (u : ℕ). part_of v (after u ps)) (sym same) ∙ part_moves v ps own.0 own_v in
+          let lt = has_left w ps own.0 fits.0 own.1 in
+          let here : (w == v) ≡ true = eq-eqb w v (sym same) in
+          let rest : length (filter (λ u. u == v) order) ≤ rest_of (Some (one_on own.0)) = subst (λ (o : Option Part). length (filter (λ u. u == v) order) ≤ rest_of o) moved later in
+          subst (λ (o : Option Part). length (filter (λ u. u == v) (w ∷ order)) ≤ rest_of o) (sym own_v) (rw here (omega (arith, rest, lt)))
+      | inr apart ↦
+          let other : (w == v) ≡ false = eqb_apart w v (λ e. apart (sym e)) in
+          let rest : length (filter (λ u. u == v) order) ≤ rest_of (part_of v ps) = subst (λ (o : Option Part). length (filter (λ u. u == v) order) ≤ rest_of o) (part_stays v w ps apart) later in
+          rw other rest
+    ]
+
+rest_at_first : (v most : ℕ) (logs : List Log) → HoldsOfEach (λ log. length log.records ≤ most) logs → rest_of (part_of v (begin logs)) ≤ most
+rest_at_first v most [] each = omega arith
+rest_at_first v most (log ∷ logs) each =
+    elim (bool_cases (log.vat == v)) [
+      | inl same ↦ let own = each 0 log refl in rw same (omega (arith, own))
+      | inr other ↦ rw other (rest_at_first v most logs (λ k. each (suc k)))
+    ]
+
+mapped_as_often : (v : ℕ) (run : List Step) → length (steps_of v run) ≡ length (filter (λ w. w == v) (map vat_of run))
+mapped_as_often v [] = refl
+mapped_as_often v (s ∷ run) =
+    elim (bool_cases (vat_of s == v)) [
+      | inl same ↦ rw same (ap suc (mapped_as_often v run))
+      | inr other ↦ rw other (mapped_as_often v run)
+    ]
+
+pub few_steps : (logs : List Log) (order : List ℕ) (run : List Step) → IsFitting logs order → map vat_of run ≡ order → HoldsOfEach (λ log. length log.records ≤ 4294967295) logs → (v : ℕ) → length (steps_of v run) < 2 ^ 32
+few_steps logs order run fits by_order each v =
+    let own = mapped_as_often v run in
+    let by = ap (λ (vats : List ℕ). length (filter (λ w. w == v) vats)) by_order in
+    let often = as_often v (begin logs) order fits in
+    let most = rest_at_first v 4294967295 logs each in
+    omega (arith, own, by, often, most)
 
 -- ---- what is answered of a run
 

@@ -6,7 +6,7 @@ use Rattle.std.proofs.lemmas.Bool.{cases_lt}
 use Rattle.std.proofs.lemmas.Option.{slice_get-map, slice_get-get_or}
 use Rattle.cap_reader.specs.Defaults.{default_limits}
 use Rattle.vat_log.specs.Log.{Log}
-use Rattle.vat_view.specs.Past.{Each}
+use Rattle.decoded_records.specs.Past.{Each}
 use Rattle.vat_rules.specs.Audit.{Found, IsTrueOf, reads_by, edition_of}
 use Rattle.vat_rules.specs.LogFacts.{Told}
 use Rattle.vat_rules.specs.Events.{Reader}

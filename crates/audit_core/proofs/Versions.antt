@@ -14,7 +14,7 @@ use Rattle.vat_log.specs.Log.{Log}
 use Rattle.vat_log.specs.Migrated.{migrated_version, migrated, raised}
 use Rattle.vat_log.specs.declared.version.LogVersion.{LogVersion}
 use Rattle.vat_log.specs.declared.version.LogVersion.TheVariants.{One, Two, Three}
-use Rattle.vat_view.specs.Past.{Each}
+use Rattle.decoded_records.specs.Past.{Each}
 use Rattle.vat_rules.specs.Audit.{reads_by, edition_of_version, edition_of, IsTrueOf}
 use Rattle.vat_rules.specs.First.{AllGood, IsFirst}
 use Rattle.vat_rules.specs.Types.{Edition}

@@ -10,9 +10,9 @@ use Rattle.audit_core.specs.declared.report.Breach.TheVariants.{Rule}
 use Rattle.audit_core.specs.declared.report.Report.{Report}
 use Rattle.audit_core.specs.declared.report.Report.TheVariants as report
 
--- how many records all logs of a case may have: each has 1,048,576 at most
+-- how many records all logs of a case may have: each has 4,294,967,295 at most
 abbrev pub case_record_limit : ℕ
-case_record_limit = vat_limit * 1048576
+case_record_limit = vat_limit * 4294967295
 
 -- each of the first n of a list is so
 abbrev pub HoldsBefore : {X : Type 0} → (X → Type 0) → List X → ℕ → Type 0

@@ -5,7 +5,7 @@ use Rattle.std.specs.Prelude.{◌≡◌, ℕ, ◌==◌, ⊤, List, IsTrue, Conta
 use Rattle.std.specs.List.{list_any, AllByRecursion}
 use Rattle.cap_reader.specs.Defaults.{default_limits}
 use Rattle.vat_log.specs.Log.{Log}
-use Rattle.vat_view.specs.Past.{Past, Each}
+use Rattle.decoded_records.specs.Past.{Past, Each}
 use Rattle.vat_rules.specs.Audit.{reads_within}
 use Rattle.vat_rules.specs.Events.{past_at}
 use Rattle.merge_order.specs.Fits.{IsFitting}

@@ -115,8 +115,8 @@ fn links_found<R: Threads + Sync, G: Gate + Sync>(
     Ok(found)
 }
 
-/// How many calls a good log delivers; or its line.
-fn count_in_log(found: &SlimFinding) -> Result<u64, Report>
+/// How many calls a good log delivers; or the line of a case of which it is the first log that isn't good.
+pub fn count_in_log(found: &SlimFinding) -> Result<u64, Report>
     ensures { MatchResult result
         (λ delivered. IsGoodFinding found.now × (delivered ≡ delivered_by found.now))
         (λ line. IsBadFinding line found.now) }

@@ -18,6 +18,7 @@ pub fn count_records(logs: &[Arc<VatLog>]) -> u64
     requires { length logs.now ≤ vat_limit }
     ensures count { result ≡ records_in (map arc_value logs.now) }
     ensures few { result ≤ case_record_limit }
+    ensures each { HoldsOfEach (λ log. length log.records ≤ 4294967295) (map arc_value logs.now) }
 {
     let mut count = 0;
     for log in logs {

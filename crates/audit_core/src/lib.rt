@@ -26,7 +26,7 @@ mod with_findings;
 mod working;
 
 pub use auditing::{audit, find_alone};
-pub use checking::check_case;
+pub use checking::{check_case, count_in_log};
 pub use error::AuditError;
 pub use found_run::run_of_findings;
 pub use gate::Gate;

@@ -14,12 +14,12 @@ use Rattle.vat_rules.specs.Judged.{IsGood}
 use Rattle.vat_rules.specs.Types.{Later}
 use Rattle.vat_rules.specs.declared.rule.Rule.TheVariants as rule
 use Rattle.vat_view.proofs.Unbound.{unknown, IsUnknown}
-use Rattle.vat_view.specs.Bindings.{Refers, contains, is_bound_call, new_calls}
-use Rattle.vat_view.specs.Calls.{brings, takes, moves, delivers, boots, has_passed, is_at_vat, is_served}
-use Rattle.vat_view.specs.Past.{Past, Each, last_answer}
+use Rattle.decoded_records.specs.Bindings.{Refers, contains, is_bound_call, new_calls}
+use Rattle.decoded_records.specs.Calls.{brings, takes, moves, delivers, boots, has_passed, is_at_vat, is_served}
+use Rattle.decoded_records.specs.Past.{Past, Each, last_answer}
 use Rattle.vat_view.specs.Sound.{IsSound}
-use Rattle.vat_view.specs.Views.{view_of_reference, view_of_target}
-use Rattle.vat_view.specs.declared.request.Request.{Request}
+use Rattle.decoded_records.specs.Views.{view_of_reference, view_of_target}
+use Rattle.decoded_records.specs.declared.request.Request.{Request}
 use Rattle.call_order.specs.Glue.Names.{name_come, name_in, IsCome, IsLeft, AreNamed}
 use Rattle.call_order.specs.declared.names.Names.{Names}
 

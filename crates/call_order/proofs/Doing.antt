@@ -19,19 +19,19 @@ use Rattle.vat_rules.proofs.Once.{clash}
 use Rattle.vat_rules.specs.Judged.{IsGood}
 use Rattle.vat_rules.specs.OfCalls.{distinct_paths}
 use Rattle.vat_rules.specs.declared.rule.Rule.TheVariants as rule
-use Rattle.vat_view.specs.Bindings.{contains, new_calls}
-use Rattle.vat_view.specs.Calls.{moves, is_at_vat, is_served, is_settled}
-use Rattle.vat_view.specs.Past.{Past, Each, last_answer}
-use Rattle.vat_view.specs.Views.{view_of_reference}
+use Rattle.decoded_records.specs.Bindings.{contains, new_calls}
+use Rattle.decoded_records.specs.Calls.{moves, is_at_vat, is_served, is_settled}
+use Rattle.decoded_records.specs.Past.{Past, Each, last_answer}
+use Rattle.decoded_records.specs.Views.{view_of_reference}
 use Rattle.call_order.specs.Glue.Names.{name_come, name_in, IsCome, IsLeft, AreNamed}
-use Rattle.call_order.specs.Glue.Lines.{one_with, IsSent, AreLines}
+use Rattle.call_order.specs.Glue.UnderWay.{one_with, IsSent, AreUnderWay}
 use Rattle.call_order.specs.Glue.Told.{told_of}
 use Rattle.call_order.specs.Glue.Tables.{IsComeBy, IsDone}
 use Rattle.call_order.specs.declared.deeds.Deed.TheVariants as deed
 use Rattle.call_order.specs.declared.names.Names.{Names}
 use Rattle.call_order.specs.declared.tables.Tables.{Tables}
 use Rattle.call_order.proofs.Calling.{fresh, served_away, named_same, named_made, named_left, named_come}
-use Rattle.call_order.proofs.Flowing.{call_with, lines_same, lines_sent, lines_received, got_it}
+use Rattle.call_order.proofs.Flowing.{call_with, under_way_same, under_way_sent, under_way_received, got_it}
 use Rattle.call_order.proofs.Saying.{deed_in, has_no_call, said_none, said_call, heard_so}
 
 -- a record of a vat comes, says its step, and does what it does, where the tables are those of the steps before
@@ -41,7 +41,7 @@ pub record IsTurn (v number : ℕ) (es : Past) (own before : List Step) (e : Dec
   pub says : Says v es own e s
   pub linked : EachStep IsLinked (s ∷ before)
   pub named : AreNamed v es own old.names
-  pub lines : AreLines before old.lines
+  pub under_way : AreUnderWay before old.under_way
   pub told : (w : ℕ) → told_of old.told w ≡ moments_of w before
   pub counted : number ≡ count_steps (λ t. vat_of t == v) before
   pub done : IsDone v number (deed_in e) old new
@@ -50,7 +50,7 @@ pub record IsTurn (v number : ℕ) (es : Past) (own before : List Step) (e : Dec
 pub record IsTurned (v : ℕ) (es : Past) (own before : List Step) (e : DecodedRecord) (s : Step) (old new : Tables) : Type 0 where
   pub named : AreNamed v (e ∷ es) (s ∷ own) new.names
   pub others : (w d : ℕ) → (v == w) ≡ false → name_come new.names w d ≡ name_come old.names w d
-  pub lines : AreLines (s ∷ before) new.lines
+  pub under_way : AreUnderWay (s ∷ before) new.under_way
   pub told : (w : ℕ) → told_of new.told w ≡ moments_of w (s ∷ before)
 
 only : {A : Type 0} (x y : A) (o : Option A) → o ≡ Some x → o ≡ Some y → x ≡ y
@@ -88,7 +88,7 @@ module _ (v number : ℕ) (es : Past) (own before : List Step) (old new : Tables
       subst (Turned e) to.2 (record {
         named = named_made v es own e a old.names new.names (t.good rule.Ref) t.named c t.done.1 refl (λ d same. ap (λ b. if b then Some (call v d) else None) same);
         others = λ w d apart. ap (λ n. name_come n w d) t.done.1;
-        lines = subst (AreLines (a ∷ before)) (sym t.done.2) (lines_same before a (linked_at e s a to.2 t) old.lines t.lines refl);
+        under_way = subst (AreUnderWay (a ∷ before)) (sym t.done.2) (under_way_same before a (linked_at e s a to.2 t) old.under_way t.under_way refl);
         told = λ w. t.done.0 w ∙ ap (λ l. if v == w then moment.Made c r ∷ l else l) (t.told w);
       })
 
@@ -103,7 +103,7 @@ module _ (v number : ℕ) (es : Past) (own before : List Step) (old new : Tables
       subst (Turned e) name.2 (record {
         named = named_left v es own e a old.names new.names (t.good rule.Ref) t.named c t.done.1 (λ d here h. absurd (clash h (left_if (c == d) (last_answer (moves d) es) here))) (λ d apart. refl);
         others = left_beside v c old.names new.names t.done.1;
-        lines = subst (AreLines (a ∷ before)) (sym t.done.2) (lines_same before a (linked_at e s a name.2 t) old.lines t.lines refl);
+        under_way = subst (AreUnderWay (a ∷ before)) (sym t.done.2) (under_way_same before a (linked_at e s a name.2 t) old.under_way t.under_way refl);
         told = λ w.
             t.done.0 w
             ∙ ap₂ (λ (n : Name) (p : ℕ). if n.maker == w then moment.Delivered n.number (v, p) ∷ told_of old.told w else told_of old.told w) same t.counted
@@ -113,13 +113,13 @@ module _ (v number : ℕ) (es : Past) (own before : List Step) (old new : Tables
   -- ---- a call is sent
 
   send : (k c : ℕ) (e : DecodedRecord) (s : Step) (m : Message) (name : Name) → step.Send v k m ≡ s → call_in_message m ≡ Some name → name_in old.names v c ≡ name → Turn e s →
-      IsSent k v (name_in old.names v c) (one_with old.lines k v) old.lines new.lines → IsLeft v c old.names new.names → new.told ≡ old.told →
+      IsSent k v (name_in old.names v c) (one_with old.under_way k v) old.under_way new.under_way → IsLeft v c old.names new.names → new.told ≡ old.told →
       AreNamed v (e ∷ es) (step.Send v k m ∷ own) new.names → Turned e s
   send k c e s m name is call same t sent left untold named =
       subst (Turned e) is (record {
         named = named;
         others = left_beside v c old.names new.names left;
-        lines = lines_sent before v k m (name_in old.names v c) (linked_at e s (step.Send v k m) is t) (call ∙ ap (λ n. Some n) (sym same)) old.lines new.lines t.lines sent;
+        under_way = under_way_sent before v k m (name_in old.names v c) (linked_at e s (step.Send v k m) is t) (call ∙ ap (λ n. Some n) (sym same)) old.under_way new.under_way t.under_way sent;
         told = λ w. ap (λ x. told_of x w) untold ∙ t.told w;
       })
 
@@ -160,12 +160,12 @@ module _ (v number : ℕ) (es : Past) (own before : List Step) (old new : Tables
       let is : call_in_message h.message ≡ Some said.0 = sym h.call ∙ said.2 in
       let a = step.Receive v k h.message h.bound in
       let linked = linked_at e s a (sym h.step) t in
-      let got = got_it before v k h.message h.bound said.0 linked is old.lines new.lines t.lines done.0.0 done.0.1 in
+      let got = got_it before v k h.message h.bound said.0 linked is old.under_way new.under_way t.under_way done.0.0 done.0.1 in
       let come : IsCome v c said.0 old.names new.names = subst (λ o. IsComeBy v c o old.names new.names) got done.0.2 in
       subst (Turned e) (sym h.step) (record {
         named = named_come v es own e a old.names new.names (t.good rule.Ref) t.named c said.0 come binds (λ d here. ap (λ o. option_or o (call_named v es own d)) (names_it d a here ∙ is));
         others = come_beside v c said.0 old.names new.names come;
-        lines = lines_received before v k h.message h.bound said.0 linked is old.lines new.lines t.lines done.0.0 done.0.1;
+        under_way = under_way_received before v k h.message h.bound said.0 linked is old.under_way new.under_way t.under_way done.0.0 done.0.1;
         told = λ w. ap (λ x. told_of x w) done.1 ∙ t.told w;
       })
 
@@ -177,7 +177,7 @@ module _ (v number : ℕ) (es : Past) (own before : List Step) (old new : Tables
       subst (Turned e) is (record {
         named = named_left v es own e a old.names new.names (t.good rule.Ref) t.named c done.0 (λ d here h. absurd (away d here h)) (λ d apart. ap (contains d) binds);
         others = left_beside v c old.names new.names done.0;
-        lines = subst (AreLines (a ∷ before)) (sym done.1) (lines_same before a (linked_at e s a is t) old.lines t.lines none);
+        under_way = subst (AreUnderWay (a ∷ before)) (sym done.1) (under_way_same before a (linked_at e s a is t) old.under_way t.under_way none);
         told = λ w. ap (λ x. told_of x w) done.2 ∙ t.told w ∙ sym (untold w);
       })
 
@@ -217,7 +217,7 @@ module _ (v number : ℕ) (es : Past) (own before : List Step) (old new : Tables
       subst (Turned e) is (record {
         named = named_same v es own e a old.names new.names (t.good rule.Ref) t.named (ap (λ x. x.names) same) binds;
         others = λ w d apart. ap (λ x. name_come x.names w d) same;
-        lines = subst (AreLines (a ∷ before)) (ap (λ x. x.lines) (sym same)) (lines_same before a (linked_at e s a is t) old.lines t.lines none);
+        under_way = subst (AreUnderWay (a ∷ before)) (ap (λ x. x.under_way) (sym same)) (under_way_same before a (linked_at e s a is t) old.under_way t.under_way none);
         told = λ w. ap (λ x. told_of x.told w) same ∙ t.told w ∙ sym (untold w);
       })
 

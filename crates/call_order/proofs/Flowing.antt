@@ -13,8 +13,8 @@ use Rattle.run_model.specs.Has.{call_in_message}
 use Rattle.run_model.specs.Links.{IsEnd, IsLinked, CarriesNext, are_one, other_user, sent_to, receives_on}
 use Rattle.run_model.specs.Steps.{EachStep, count_steps}
 use Rattle.run_model.specs.declared.step.Step.TheVariants as step
-use Rattle.call_order.specs.Glue.Lines.{under_way, one_of, one_with, are_ends, are_alike, calls_to, IsSent, IsReceived, AreLines}
-use Rattle.call_order.specs.declared.lines.Lines.{Lines}
+use Rattle.call_order.specs.Glue.UnderWay.{calls_under_way, one_of, one_with, are_ends, are_alike, calls_to, IsSent, IsReceived, AreUnderWay}
+use Rattle.call_order.specs.declared.under_way.CallsUnderWay.{CallsUnderWay}
 use Rattle.call_order.proofs.Lists.{drop_some, drop_with, kept_last, are_one_less, is_that, any_more}
 
 -- the messages that were sent to a vat on a connection, and how many it received there
@@ -51,18 +51,18 @@ within v k (s ∷ before) linked = at (receives_on v k s) refl (within v k befor
 
 module _ (v k : ℕ) (before : List Step) (s : Step) where
   later : (b : Bool) (o : Option Message) → receives_on v k s ≡ b → sent_to v k s ≡ o →
-      under_way v k (s ∷ before) ≡ filter_map call_in_message (drop (if b then suc (came v k before) else came v k before) (sent v k before ++ cons_option o []))
+      calls_under_way v k (s ∷ before) ≡ filter_map call_in_message (drop (if b then suc (came v k before) else came v k before) (sent v k before ++ cons_option o []))
   later b o r n = ap₂ (λ c l. filter_map call_in_message (drop (if c then suc (came v k before) else came v k before) l)) r (kept_last (sent_to v k) s before ∙ ap (λ o. sent v k before ++ cons_option o []) n)
 
-  passes_by : receives_on v k s ≡ false → sent_to v k s ≡ None → under_way v k (s ∷ before) ≡ under_way v k before
+  passes_by : receives_on v k s ≡ false → sent_to v k s ≡ None → calls_under_way v k (s ∷ before) ≡ calls_under_way v k before
   passes_by r n = later false None r n ∙ ap (λ l. filter_map call_in_message (drop (came v k before) l)) (append-nil (sent v k before))
 
-  goes : (m : Message) → EachStep IsLinked before → receives_on v k s ≡ false → sent_to v k s ≡ Some m → under_way v k (s ∷ before) ≡ under_way v k before ++ cons_option (call_in_message m) []
+  goes : (m : Message) → EachStep IsLinked before → receives_on v k s ≡ false → sent_to v k s ≡ Some m → calls_under_way v k (s ∷ before) ≡ calls_under_way v k before ++ cons_option (call_in_message m) []
   goes m linked r n =
       later false (Some m) r n ∙ ap (filter_map call_in_message) (drop_with (sent v k before) (m ∷ []) (came v k before) (within v k before linked))
       ∙ filter_map-append call_in_message (drop (came v k before) (sent v k before)) (m ∷ [])
 
-  comes : (m : Message) → receives_on v k s ≡ true → sent_to v k s ≡ None → slice_get (sent v k before) (came v k before) ≡ Some m → under_way v k before ≡ cons_option (call_in_message m) (under_way v k (s ∷ before))
+  comes : (m : Message) → receives_on v k s ≡ true → sent_to v k s ≡ None → slice_get (sent v k before) (came v k before) ≡ Some m → calls_under_way v k before ≡ cons_option (call_in_message m) (calls_under_way v k (s ∷ before))
   comes m r n there =
       ap (filter_map call_in_message) (drop_some (sent v k before) (came v k before) m there)
       ∙ ap (cons_option (call_in_message m)) (sym (later true None r n ∙ ap (λ l. filter_map call_in_message (drop (suc (came v k before)) l)) (append-nil (sent v k before))))
@@ -74,19 +74,19 @@ call_with s = option_and_then call_in_message (message_of_step s)
 sends_if : (v k w j : ℕ) (m : Message) (b : Bool) → ((j == k) && not (w == v)) ≡ b → sent_to v k (step.Send w j m) ≡ (if b then Some m else None)
 sends_if v k w j m b h = ap (λ b. if b then Some m else None) h
 
-pub way_same : (v k : ℕ) (before : List Step) (s : Step) → EachStep IsLinked (s ∷ before) → call_with s ≡ None → under_way v k (s ∷ before) ≡ under_way v k before
+pub way_same : (v k : ℕ) (before : List Step) (s : Step) → EachStep IsLinked (s ∷ before) → call_with s ≡ None → calls_under_way v k (s ∷ before) ≡ calls_under_way v k before
 way_same v k before (step.Send w j m) linked none = at ((j == k) && not (w == v)) refl
   where
-    at : (b : Bool) → ((j == k) && not (w == v)) ≡ b → under_way v k (step.Send w j m ∷ before) ≡ under_way v k before
-    at true h = goes v k before (step.Send w j m) m linked.1 refl (sends_if v k w j m true h) ∙ ap (λ o. under_way v k before ++ cons_option o []) none ∙ append-nil (under_way v k before)
+    at : (b : Bool) → ((j == k) && not (w == v)) ≡ b → calls_under_way v k (step.Send w j m ∷ before) ≡ calls_under_way v k before
+    at true h = goes v k before (step.Send w j m) m linked.1 refl (sends_if v k w j m true h) ∙ ap (λ o. calls_under_way v k before ++ cons_option o []) none ∙ append-nil (calls_under_way v k before)
     at false h = passes_by v k before (step.Send w j m) refl (sends_if v k w j m false h)
 way_same v k before (step.Receive w j m bound) linked none = at ((w == v) && (j == k)) refl
   where
-    at : (b : Bool) → ((w == v) && (j == k)) ≡ b → under_way v k (step.Receive w j m bound ∷ before) ≡ under_way v k before
+    at : (b : Bool) → ((w == v) && (j == k)) ≡ b → calls_under_way v k (step.Receive w j m bound ∷ before) ≡ calls_under_way v k before
     at true h =
         let parts = and_parts (w == v) (j == k) h in
         let there = subst (λ u. CarriesNext before u k m) (eqb-true w v parts.0) (subst (λ i. CarriesNext before w i m) (eqb-true j k parts.1) linked.0.1) in
-        sym (comes v k before (step.Receive w j m bound) m h refl there ∙ ap (λ o. cons_option o (under_way v k (step.Receive w j m bound ∷ before))) none)
+        sym (comes v k before (step.Receive w j m bound) m h refl there ∙ ap (λ o. cons_option o (calls_under_way v k (step.Receive w j m bound ∷ before))) none)
     at false h = passes_by v k before (step.Receive w j m bound) h refl
 way_same v k before (step.Host w object) linked none = passes_by v k before (step.Host w object) refl refl
 way_same v k before (step.Vow w promise) linked none = passes_by v k before (step.Vow w promise) refl refl
@@ -99,7 +99,7 @@ way_same v k before (step.Answer w c results) linked none = passes_by v k before
 way_same v k before (step.AnswerBy w c by) linked none = passes_by v k before (step.AnswerBy w c by) refl refl
 way_same v k before (step.Fault w c) linked none = passes_by v k before (step.Fault w c) refl refl
 
--- ---- the lines, one step more
+-- ---- the calls under way, one step more
 
 end_before : (v k : ℕ) (before : List Step) (s : Step) → IsEnd (s ∷ before) v k → IsEnd before v k
 end_before v k before s end = are_one_less (other_user v k s) (filter_map (other_user v k) before) end
@@ -125,15 +125,15 @@ alike_self true = refl
 alike_self false = refl
 
 module _ (before : List Step) (s : Step) (linked : EachStep IsLinked (s ∷ before)) where
-  pub lines_same : (lines : Lines) → AreLines before lines → call_with s ≡ None → AreLines (s ∷ before) lines
-  lines_same lines are none = record {
+  pub under_way_same : (under_way : CallsUnderWay) → AreUnderWay before under_way → call_with s ≡ None → AreUnderWay (s ∷ before) under_way
+  under_way_same under_way are none = record {
     users = λ k one v is apart. any_more one (other_user v k s) (filter_map (other_user v k) before) (are.users k one v is apart);
     calls = λ v k end. are.calls v k (end_before v k before s end) ∙ sym (way_same v k before s linked none);
   }
 
 -- ---- a call is sent
 
-module _ (before : List Step) (w j : ℕ) (m : Message) (name : Name) (linked : EachStep IsLinked (step.Send w j m ∷ before)) (is : call_in_message m ≡ Some name) (old new : Lines) (are : AreLines before old)
+module _ (before : List Step) (w j : ℕ) (m : Message) (name : Name) (linked : EachStep IsLinked (step.Send w j m ∷ before)) (is : call_in_message m ≡ Some name) (old new : CallsUnderWay) (are : AreUnderWay before old)
     (done : IsSent j w name (one_with old j w) old new) where
   -- it is used by who sends
   used_by : (v : ℕ) → (w == v) ≡ false → other_user v j (step.Send w j m) ≡ Some w
@@ -161,7 +161,7 @@ module _ (before : List Step) (w j : ℕ) (m : Message) (name : Name) (linked : 
   is_other v None known apart end far = refl
   is_other v (Some x) known apart end far = same_end v j x w before (step.Send w j m) end (used_by v apart) (are.users j x v known far)
 
-  calls_here : (v : ℕ) → IsEnd (step.Send w j m ∷ before) v j → calls_to new v j ≡ under_way v j (step.Send w j m ∷ before)
+  calls_here : (v : ℕ) → IsEnd (step.Send w j m ∷ before) v j → calls_to new v j ≡ calls_under_way v j (step.Send w j m ∷ before)
   calls_here v end =
       let s = step.Send w j m in
       let one = one_with old j w in
@@ -177,22 +177,22 @@ module _ (before : List Step) (w j : ℕ) (m : Message) (name : Name) (linked : 
             let ends : are_ends one w v ≡ true = ap not (apart_ends one w v apart (is_other v (one_of old j) refl apart end)) in
             let there : ((j == j) && not (w == v)) ≡ true = ap₂ (λ a b. a && not b) (eq-eqb j j refl) apart in
             call ∙ ap (λ b. if b then calls_to old v j ++ name ∷ [] else calls_to old v j) ends ∙ ap (λ l. l ++ name ∷ []) so_far
-            ∙ sym (goes v j before s m linked.1 refl (sends_if v j w j m true there) ∙ ap (λ o. under_way v j before ++ cons_option o []) is)
+            ∙ sym (goes v j before s m linked.1 refl (sends_if v j w j m true there) ∙ ap (λ o. calls_under_way v j before ++ cons_option o []) is)
       ]
 
-  calls_now : (v k : ℕ) → IsEnd (step.Send w j m ∷ before) v k → calls_to new v k ≡ under_way v k (step.Send w j m ∷ before)
+  calls_now : (v k : ℕ) → IsEnd (step.Send w j m ∷ before) v k → calls_to new v k ≡ calls_under_way v k (step.Send w j m ∷ before)
   calls_now v k end = elim (cases_Bool (j == k)) [
     | inl here ↦
         let same : j ≡ k = eqb-true j k here in
-        subst (λ i. calls_to new v i ≡ under_way v i (step.Send w j m ∷ before)) same (calls_here v (subst (IsEnd (step.Send w j m ∷ before) v) (sym same) end))
+        subst (λ i. calls_to new v i ≡ calls_under_way v i (step.Send w j m ∷ before)) same (calls_here v (subst (IsEnd (step.Send w j m ∷ before) v) (sym same) end))
     | inr there ↦
         let elsewhere : ((j == k) && not (w == v)) ≡ false = ap (λ b. b && not (w == v)) there in
         done.calls v k ∙ ap (λ b. if b && are_ends (one_with old j w) w v then calls_to old v k ++ name ∷ [] else calls_to old v k) there
         ∙ are.calls v k (end_before v k before (step.Send w j m) end) ∙ sym (passes_by v k before (step.Send w j m) refl (sends_if v k w j m false elsewhere))
   ]
 
-  pub lines_sent : AreLines (step.Send w j m ∷ before) new
-  lines_sent = record { users = users_now; calls = calls_now }
+  pub under_way_sent : AreUnderWay (step.Send w j m ∷ before) new
+  under_way_sent = record { users = users_now; calls = calls_now }
 
 -- ---- a call is received
 
@@ -200,15 +200,15 @@ and_none : (a b : Bool) → b ≡ false → (a && b) ≡ false
 and_none true b h = h
 and_none false b h = refl
 
-module _ (before : List Step) (w j : ℕ) (m : Message) (bound : List Cap) (name : Name) (linked : EachStep IsLinked (step.Receive w j m bound ∷ before)) (is : call_in_message m ≡ Some name) (old new : Lines)
-    (are : AreLines before old) (got : Option Name) (done : IsReceived j w got old new) where
+module _ (before : List Step) (w j : ℕ) (m : Message) (bound : List Cap) (name : Name) (linked : EachStep IsLinked (step.Receive w j m bound ∷ before)) (is : call_in_message m ≡ Some name) (old new : CallsUnderWay)
+    (are : AreUnderWay before old) (got : Option Name) (done : IsReceived j w got old new) where
   receives_it : receives_on w j (step.Receive w j m bound) ≡ true
   receives_it = and_from (w == w) (j == j) (eq-eqb w w refl) (eq-eqb j j refl)
 
-  front : calls_to old w j ≡ name ∷ under_way w j (step.Receive w j m bound ∷ before)
+  front : calls_to old w j ≡ name ∷ calls_under_way w j (step.Receive w j m bound ∷ before)
   front =
       are.calls w j linked.0.0 ∙ comes w j before (step.Receive w j m bound) m receives_it refl linked.0.1
-      ∙ ap (λ o. cons_option o (under_way w j (step.Receive w j m bound ∷ before))) is
+      ∙ ap (λ o. cons_option o (calls_under_way w j (step.Receive w j m bound ∷ before))) is
 
   pub got_it : got ≡ Some name
   got_it = done.first ∙ ap (λ l. slice_get l 0) front
@@ -225,7 +225,7 @@ module _ (before : List Step) (w j : ℕ) (m : Message) (bound : List Cap) (name
   alike_here None = eq-eqb w w refl
   alike_here (Some one) = alike_self (one == w)
 
-  left_here : (v : ℕ) → IsEnd (step.Receive w j m bound ∷ before) v j → calls_to new v j ≡ under_way v j (step.Receive w j m bound ∷ before)
+  left_here : (v : ℕ) → IsEnd (step.Receive w j m bound ∷ before) v j → calls_to new v j ≡ calls_under_way v j (step.Receive w j m bound ∷ before)
   left_here v end =
       let s = step.Receive w j m bound in
       let call : calls_to new v j ≡ (if are_alike (one_of old j) w v then drop 1 (calls_to old v j) else calls_to old v j) =
@@ -235,24 +235,24 @@ module _ (before : List Step) (w j : ℕ) (m : Message) (bound : List Cap) (name
             let same : w ≡ v = eqb-true w v own in
             let alike : are_alike (one_of old j) w v ≡ true = subst (λ x. are_alike (one_of old j) w x ≡ true) same (alike_here (one_of old j)) in
             call ∙ ap (λ b. if b then drop 1 (calls_to old v j) else calls_to old v j) alike
-            ∙ subst (λ x. drop 1 (calls_to old x j) ≡ under_way x j (s ∷ before)) same (ap (drop 1) front)
+            ∙ subst (λ x. drop 1 (calls_to old x j) ≡ calls_under_way x j (s ∷ before)) same (ap (drop 1) front)
         | inr apart ↦
             call ∙ ap (λ b. if b then drop 1 (calls_to old v j) else calls_to old v j) (alike_there v (one_of old j) refl apart end)
             ∙ are.calls v j (end_before v j before s end) ∙ sym (passes_by v j before s (ap (λ b. b && (j == j)) apart) refl)
       ]
 
-  left_now : (v k : ℕ) → IsEnd (step.Receive w j m bound ∷ before) v k → calls_to new v k ≡ under_way v k (step.Receive w j m bound ∷ before)
+  left_now : (v k : ℕ) → IsEnd (step.Receive w j m bound ∷ before) v k → calls_to new v k ≡ calls_under_way v k (step.Receive w j m bound ∷ before)
   left_now v k end = elim (cases_Bool (j == k)) [
     | inl here ↦
         let same : j ≡ k = eqb-true j k here in
-        subst (λ i. calls_to new v i ≡ under_way v i (step.Receive w j m bound ∷ before)) same (left_here v (subst (IsEnd (step.Receive w j m bound ∷ before) v) (sym same) end))
+        subst (λ i. calls_to new v i ≡ calls_under_way v i (step.Receive w j m bound ∷ before)) same (left_here v (subst (IsEnd (step.Receive w j m bound ∷ before) v) (sym same) end))
     | inr there ↦
         done.calls v k ∙ ap (λ b. if b && are_alike (one_of old j) w v then drop 1 (calls_to old v k) else calls_to old v k) there
         ∙ are.calls v k (end_before v k before (step.Receive w j m bound) end) ∙ sym (passes_by v k before (step.Receive w j m bound) (and_none (w == v) (j == k) there) refl)
   ]
 
-  pub lines_received : AreLines (step.Receive w j m bound ∷ before) new
-  lines_received = record {
+  pub under_way_received : AreUnderWay (step.Receive w j m bound ∷ before) new
+  under_way_received = record {
     users = λ k one v known apart.
         any_more one (other_user v k (step.Receive w j m bound)) (filter_map (other_user v k) before) (are.users k one v (sym (done.ones k) ∙ known) apart);
     calls = left_now;

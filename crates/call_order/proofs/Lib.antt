@@ -3,8 +3,12 @@ mod Flowing
 mod Saying
 mod Calling
 mod Doing
+mod Turning
 mod Reaching
-mod Finding
+mod Reading
 mod Least
+mod Finding
 mod Keys
 mod Logs
+mod OneFault
+mod Following

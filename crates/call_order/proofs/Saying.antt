@@ -18,10 +18,10 @@ use Rattle.vat_log.specs.declared.body.Body.{Body}
 use Rattle.vat_log.specs.declared.body.Body.TheVariants as body
 use Rattle.vat_rules.specs.Events.{Reader, event_of}
 use Rattle.vat_rules.specs.declared.outcome.Why.{Why}
-use Rattle.vat_view.specs.Bindings.{notes_call}
-use Rattle.vat_view.specs.Past.{Past}
-use Rattle.vat_view.specs.Questions.{is_late}
-use Rattle.vat_view.specs.Views.{view_of_target}
+use Rattle.decoded_records.specs.Bindings.{notes_call}
+use Rattle.decoded_records.specs.Past.{Past}
+use Rattle.decoded_records.specs.Questions.{is_late}
+use Rattle.decoded_records.specs.Views.{view_of_target}
 use Rattle.call_order.specs.Glue.Deeds.{passed, deed_of}
 use Rattle.call_order.specs.declared.deeds.Deed.{Deed}
 use Rattle.call_order.specs.declared.deeds.Deed.TheVariants as deed

@@ -1,8 +1,9 @@
--- For the code's contracts, and no part of the meaning: what is kept of a case as an order takes its records.
+-- For the code's contracts, and no part of the meaning: what is kept of the records that vats took.
 pub mod Deeds
-pub mod Cursors
 pub mod Names
-pub mod Lines
+pub mod UnderWay
 pub mod Told
 pub mod Tables
+pub mod Counts
 pub mod Reached
+pub mod Cursors

@@ -1,10 +1,11 @@
 //! How many records of each log were taken.
 
-ghost use Rattle.std.specs.Prelude.{◌≡◌, ◌==◌, ℕ, find, if◌then◌else◌, map, option_map, reverse, IfOk};
+ghost use Rattle.std.specs.Prelude.{◌≡◌, ◌==◌, ℕ, find, if◌then◌else◌, map, option_map, reverse, IfOk, OnOk};
+ghost use Rattle.std.specs.Prelude.{Some};
 ghost use Rattle.std.specs.Arc.{arc_value};
-ghost use Rattle.call_order.specs.Glue.Cursors.{next_in, next_of, log_kept, one_further};
+ghost use Rattle.call_order.specs.Glue.Cursors.{log_kept, one_further, with_turn};
 
-use crate::deeds::{Deed, deed_of};
+use crate::call_order::CallOrder;
 use std::alloc::{AllocError, Global};
 use std::collections::BTreeMap;
 use std::sync::Arc;
@@ -18,21 +19,28 @@ pub(crate) struct Cursor {
 }
 
 impl Cursor {
-    /// What the next record does, and its number.
-    fn next(&self) -> Option<(u32, Deed)>
-        ensures { result ≡ next_of self.now }
-    {
-        let record = self.log.get(self.taken as usize)?;
-        Some((self.taken, deed_of(record.body())))
-    }
-
-    /// Takes the next record, if there is one.
+    /// One record further, if there is one.
     fn go_on(&mut self)
         ensures { (arc_value self.new.log, self.new.taken) ≡ one_further (arc_value self.old.log, self.old.taken) }
     {
         if (self.taken as usize) < self.log.len() {
             self.taken += 1;
         }
+    }
+
+    /// The log's vat takes its turn with the next record, if there is one.
+    fn turn(&mut self, vat: u32, calls: &mut CallOrder) -> Result<(), AllocError>
+        ensures turn { OnOk result (calls.new
+            ≡ option_map (with_turn vat (Some (arc_value self.old.log, self.old.taken))) calls.old) }
+        ensures further { OnOk result ((arc_value self.new.log, self.new.taken)
+            ≡ one_further (arc_value self.old.log, self.old.taken)) }
+    {
+        let Some(record) = self.log.get(self.taken as usize) else {
+            return Ok(());
+        };
+        calls.take(vat, record.body())?;
+        self.go_on();
+        Ok(())
     }
 }
 
@@ -59,15 +67,15 @@ impl Cursors {
         Ok(Cursors { vats })
     }
 
-    /// Takes the next record of a vat, if there is one: what it does, and its number.
-    pub(crate) fn take(&mut self, vat: u32) -> Option<(u32, Deed)>
-        ensures next { result ≡ next_in (log_kept self.old vat) }
-        ensures kept { (v : ℕ) → log_kept self.new v
-            ≡ (if vat == v then option_map one_further (log_kept self.old v) else log_kept self.old v) }
+    /// A vat takes its turn with the next record of its log, if there is one.
+    pub(crate) fn turn(&mut self, vat: u32, calls: &mut CallOrder) -> Result<(), AllocError>
+        ensures turn { OnOk result (calls.new ≡ option_map (with_turn vat (log_kept self.old vat)) calls.old) }
+        ensures kept { OnOk result ((v : ℕ) → log_kept self.new v
+            ≡ (if vat == v then option_map one_further (log_kept self.old v) else log_kept self.old v)) }
     {
-        let cursor = self.vats.get_mut(&vat)?;
-        let next = cursor.next();
-        cursor.go_on();
-        next
+        match self.vats.get_mut(&vat) {
+            Some(cursor) => cursor.turn(vat, calls),
+            None => Ok(()),
+        }
     }
 }

@@ -2,14 +2,14 @@
 
 ghost use Rattle.std.specs.Prelude.{◌≡◌, ℕ, [], None, OnOk};
 ghost use Rattle.call_order.specs.Glue.Names.{name_come};
-ghost use Rattle.call_order.specs.Glue.Lines.{one_of, calls_to};
+ghost use Rattle.call_order.specs.Glue.UnderWay.{one_of, calls_to};
 ghost use Rattle.call_order.specs.Glue.Told.{told_of};
 ghost use Rattle.call_order.specs.Glue.Tables.{IsDone};
 
 use crate::deeds::Deed;
-use crate::lines::Lines;
 use crate::names::Names;
 use crate::told::Told;
+use crate::under_way::CallsUnderWay;
 use std::alloc::{AllocError, Global};
 use undelivered::Moment;
 
@@ -17,7 +17,7 @@ use undelivered::Moment;
 #[derive(Drop)]
 pub(crate) struct Tables {
     names: Names,
-    lines: Lines,
+    under_way: CallsUnderWay,
     pub(crate) told: Told,
 }
 
@@ -25,13 +25,13 @@ impl Tables {
     /// Before any record is taken.
     pub(crate) fn new(alloc: Global) -> Tables
         ensures names { (v c : ℕ) → name_come result.names v c ≡ None }
-        ensures ones { (k : ℕ) → one_of result.lines k ≡ None }
-        ensures calls { (v k : ℕ) → calls_to result.lines v k ≡ [] }
+        ensures ones { (k : ℕ) → one_of result.under_way k ≡ None }
+        ensures calls { (v k : ℕ) → calls_to result.under_way v k ≡ [] }
         ensures told { (v : ℕ) → told_of result.told v ≡ [] }
     {
         Tables {
             names: Names::new(alloc),
-            lines: Lines::new(alloc),
+            under_way: CallsUnderWay::new(alloc),
             told: Told::new(alloc),
         }
     }
@@ -52,7 +52,7 @@ impl Tables {
     fn receive(&mut self, vat: u32, connection: u32, call: u64) -> Result<(), AllocError>
         ensures { OnOk result ((number : ℕ) → IsDone vat number (Deed.Receive connection call) self.old self.new) }
     {
-        match self.lines.receive(connection, vat) {
+        match self.under_way.receive(connection, vat) {
             Some(name) => self.names.come(vat, call, name),
             None => Ok(()),
         }
@@ -69,7 +69,7 @@ impl Tables {
             Deed::Deliver { call } => self.deliver(call, (vat, number)),
             Deed::Send { connection, call } => {
                 let name = self.names.leave(vat, call);
-                self.lines.send(connection, vat, name)
+                self.under_way.send(connection, vat, name)
             }
             Deed::Receive { connection, call } => self.receive(vat, connection, call),
             Deed::End { call } => {

@@ -1,12 +1,11 @@
 //! What was told of the calls of each vat.
 
 ghost use Rattle.std.specs.Prelude.{◌≡◌, ℕ, [], OnOk};
-ghost use Rattle.call_order.specs.Glue.Told.{told_of, IsTold};
-ghost use Rattle.undelivered.specs.Order.{AreOnce, IsFault};
+ghost use Rattle.call_order.specs.Glue.Told.{told_of, IsTold, AreAllOnce, IsFaultIn};
 
 use std::alloc::{AllocError, Global};
 use std::collections::BTreeMap;
-use undelivered::{Moment, Undelivered};
+use undelivered::{Moment, Undelivered, lesser};
 
 /// What was told of the calls that each vat made.
 #[derive(Drop)]
@@ -41,13 +40,14 @@ impl Told {
         }
     }
 
-    /// The least place where a call of a vat was delivered too early.
-    pub(crate) fn fault(&self, vat: u32) -> Option<(u32, u32)>
-        ensures { AreOnce (told_of self.now vat) → IsFault (told_of self.now vat) result }
+    /// The least place where a call of one of the vats was delivered too early.
+    pub(crate) fn fault(&self) -> Option<(u32, u32)>
+        ensures { AreAllOnce self.now → IsFaultIn self.now result }
     {
-        match self.vats.get(&vat) {
-            Some(calls) => calls.fault(),
-            None => None,
+        let mut least = None;
+        for calls in self.vats.values() {
+            least = lesser(least, calls.fault());
         }
+        least
     }
 }

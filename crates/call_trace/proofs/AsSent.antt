@@ -1,8 +1,8 @@
 -- What an end reads of a message, as a message.
 use Rattle.std.proofs.Common.{◌≡◌, refl, sym, ◌∙◌, ap, ap₂, ℕ, List, [], ◌∷◌, Bool, true, false, Option, Some, None, if◌then◌else◌, option_and_then, option_map, ◌⊎◌, inl, inr}
-use Rattle.vat_view.specs.Past.{Past, id}
-use Rattle.vat_view.specs.Questions.{is_late, call_of}
-use Rattle.vat_view.specs.Views.{view_of_target}
+use Rattle.decoded_records.specs.Past.{Past, id}
+use Rattle.decoded_records.specs.Questions.{is_late, call_of}
+use Rattle.decoded_records.specs.Views.{view_of_target}
 use Rattle.call_trace.specs.Naming.{Naming}
 use Rattle.call_trace.specs.Part.{resolves_released, heard_late, ReadsAsSent, SaysReceive}
 use Rattle.call_trace.specs.Said.{message_of_record, say_call, say_return, say_taken, say_resolve, caps_named, promise_named, call_answered, caps_at_paths}

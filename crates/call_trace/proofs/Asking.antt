@@ -14,10 +14,10 @@ use Rattle.agree.proofs.Good.{good_agree}
 use Rattle.agree.proofs.Openings.{passing_is, own_linked}
 use Rattle.vat_rules.specs.Judged.{IsGood}
 use Rattle.vat_rules.specs.declared.rule.Rule.TheVariants as rule
-use Rattle.vat_view.specs.Past.{Past, Point, point, Each, id, last_where}
-use Rattle.vat_view.specs.Questions.{opens, opening, is_over, is_opened, is_returned, is_finished, is_unfinished, is_unreturned, noted_call, call_at, call_of}
-use Rattle.vat_view.specs.Bindings.{Refers}
-use Rattle.vat_view.specs.declared.record.table_key.TableKey.{TableKey}
+use Rattle.decoded_records.specs.Past.{Past, Point, point, Each, id, last_where}
+use Rattle.decoded_records.specs.Questions.{opens, opening, is_over, is_opened, is_returned, is_finished, is_unfinished, is_unreturned, noted_call, call_at, call_of}
+use Rattle.decoded_records.specs.Bindings.{Refers}
+use Rattle.decoded_records.specs.declared.table_key.TableKey.{TableKey}
 use Rattle.call_trace.specs.Types.{Outcome, RpcMessage, Bootstrap, Call, Return, DecodedRecord, Wire, Name, Cap, Message, Step}
 use Rattle.call_trace.specs.Naming.{naming, call_named, message_at, message_of_step}
 use Rattle.call_trace.specs.Said.{message_of_record, say_call, caps_named}
@@ -30,7 +30,7 @@ use Rattle.call_trace.proofs.Within.{message_back}
 use Rattle.run_model.specs.Has.{call_in_message}
 use Rattle.run_model.specs.declared.message.Message.TheVariants as message
 use Rattle.run_model.specs.declared.step.Step.TheVariants as step
-use Rattle.vat_view.specs.Views.{view_of_target}
+use Rattle.decoded_records.specs.Views.{view_of_target}
 
 -- ---- the record that opened a question
 

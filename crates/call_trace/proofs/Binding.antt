@@ -10,11 +10,11 @@ use Rattle.agree.proofs.Openings.{passing_is}
 use Rattle.agree.proofs.Points.{before_it}
 use Rattle.vat_rules.specs.declared.rule.Rule.TheVariants as rule
 use Rattle.vat_rules.specs.Judged.{IsGood}
-use Rattle.vat_view.specs.Past.{Past, id}
-use Rattle.vat_view.specs.Questions.{is_late, call_of}
-use Rattle.vat_view.specs.Lives.{descriptors_of}
-use Rattle.vat_view.specs.Views.{view_of_reference, descriptor_view, described_at, places_from, places}
-use Rattle.vat_view.specs.Bindings.{contains, is_distinct}
+use Rattle.decoded_records.specs.Past.{Past, id}
+use Rattle.decoded_records.specs.Questions.{is_late, call_of}
+use Rattle.decoded_records.specs.Lives.{descriptors_of}
+use Rattle.decoded_records.specs.Views.{view_of_reference, descriptor_view, described_at, places_from, places}
+use Rattle.decoded_records.specs.Bindings.{contains, is_distinct}
 use Rattle.call_trace.specs.Types.{Descriptor, NoCap, SenderHosted, SenderPromise, ReceiverHosted, ReceiverAnswer, Results, Exception, Canceled, Elsewhere, TakeFrom, Return, RpcMessage, DecodedRecord, Wire, View, Name, Cap, Message, Step}
 use Rattle.call_trace.specs.Naming.{Naming, naming, message_at, message_of_step}
 use Rattle.call_trace.specs.Said.{all_there, message_of_record, say_return, say_taken, descriptor_named, caps_named, call_answered, caps_at_paths}

@@ -6,13 +6,13 @@ use Rattle.std.proofs.lemmas.Bool.{eq-eqb}
 use Rattle.agree.specs.Streams.{IsCut}
 use Rattle.agree.specs.Standing.{AgreeOneWay}
 use Rattle.agree.proofs.Openings.{passing_is}
-use Rattle.vat_view.specs.Past.{Past, Each, id, last_answer}
-use Rattle.vat_view.specs.Questions.{is_late}
-use Rattle.vat_view.specs.Lives.{Birth, birth, begins, descriptors, is_in_life}
-use Rattle.vat_view.specs.Views.{view_of_reference, view_of_number, view_of_descriptor, view_given, descriptor_view}
-use Rattle.vat_view.specs.Bindings.{Refers}
+use Rattle.decoded_records.specs.Past.{Past, Each, id, last_answer}
+use Rattle.decoded_records.specs.Questions.{is_late}
+use Rattle.decoded_records.specs.Lives.{Birth, birth, begins, descriptors, is_in_life}
+use Rattle.decoded_records.specs.Views.{view_of_reference, view_of_number, view_of_descriptor, view_given, descriptor_view}
+use Rattle.decoded_records.specs.Bindings.{Refers}
 use Rattle.vat_view.specs.Laws.{EachAfter}
-use Rattle.vat_view.specs.declared.record.table_key.TableKey.{TableKey}
+use Rattle.decoded_records.specs.declared.table_key.TableKey.{TableKey}
 use Rattle.vat_view.proofs.Viewed.{birth_of, begins_parts}
 use Rattle.call_trace.specs.Types.{Descriptor, NoCap, Results, Capped, RpcMessage, Call, Return, Resolve, DecodedRecord, Wire, View, Import, Name, Cap, Message, Step}
 use Rattle.call_trace.specs.Naming.{Naming, naming, cap_at, cap_named, message_at, message_of_step}

@@ -11,7 +11,7 @@ use Rattle.agree.proofs.Cuts.{taken, turned, others_are}
 use Rattle.agree.proofs.Dying.{eqb_turns}
 use Rattle.agree.proofs.Openings.{passing_is}
 use Rattle.agree.proofs.Points.{before_it, heads, tails, shorter, no_longer, kept, at_each_before}
-use Rattle.vat_view.specs.Past.{Past, Each}
+use Rattle.decoded_records.specs.Past.{Past, Each}
 use Rattle.vat_rules.specs.Judged.{IsGood}
 use Rattle.call_trace.specs.Types.{RpcMessage, DecodedRecord, Host, Vow, Fulfil, Break, Make, Field, Deliver, Answer, AnswerBy, Fault, Wire, Cap, Message, Step}
 use Rattle.call_trace.specs.Carried.{IsCarried}
@@ -22,7 +22,7 @@ use Rattle.call_trace.specs.Said.{all_there, message_of_record}
 use Rattle.call_trace.proofs.Carried.{paired_at, pairs_as_long, message_there, message_later}
 use Rattle.call_trace.proofs.Naming.{mapped_is, then_is}
 use Rattle.call_trace.proofs.Reading.{kept_back}
-use Rattle.vat_view.specs.Views.{view_of_reference}
+use Rattle.decoded_records.specs.Views.{view_of_reference}
 use Rattle.run_model.specs.Legal.{IsLegal}
 use Rattle.run_model.specs.Links.{IsLinked, sent_to, receives_on}
 use Rattle.run_model.specs.Steps.{count_steps, vat_of}

@@ -15,14 +15,14 @@ use Rattle.agree.proofs.Standing.{linked_before}
 use Rattle.agree.proofs.Good.{good_agree}
 use Rattle.vat_rules.specs.declared.rule.Rule.TheVariants as rule
 use Rattle.vat_rules.specs.Judged.{IsGood}
-use Rattle.vat_view.specs.Past.{Past, Each, id, names, last_answer, record_index}
-use Rattle.vat_view.specs.Questions.{question_finished, question_taken, is_unfinished, is_late, call_of}
-use Rattle.vat_view.specs.Lives.{begins, number_introduced, introduces, held, descriptors_of, descriptors, is_in_life, GivesBackHeld}
-use Rattle.vat_view.specs.Views.{view_of_reference, view_given, number_view, field_view, view_of_number, view_of_target, target_view, target_of}
-use Rattle.vat_view.specs.Uses.{question_targeted, question_described, UsesQuestions}
-use Rattle.vat_view.specs.Bindings.{Refers}
-use Rattle.vat_view.specs.declared.record.table_key.TableKey.{TableKey}
-use Rattle.vat_view.proofs.Naming.{names_is}
+use Rattle.decoded_records.specs.Past.{Past, Each, id, names, last_answer, record_index}
+use Rattle.decoded_records.specs.Questions.{question_finished, question_taken, is_unfinished, is_late, call_of}
+use Rattle.decoded_records.specs.Lives.{begins, number_introduced, introduces, held, descriptors_of, descriptors, is_in_life, GivesBackHeld}
+use Rattle.decoded_records.specs.Views.{view_of_reference, view_given, number_view, field_view, view_of_number, view_of_target, target_view, target_of}
+use Rattle.decoded_records.specs.Uses.{question_targeted, question_described, UsesQuestions}
+use Rattle.decoded_records.specs.Bindings.{Refers}
+use Rattle.decoded_records.specs.declared.table_key.TableKey.{TableKey}
+use Rattle.decoded_records.proofs.Naming.{names_is}
 use Rattle.vat_view.proofs.Counting.{no_more_went}
 use Rattle.vat_view.proofs.Describing.{sender_keeps}
 use Rattle.vat_view.proofs.Lasting.{birth_kept}

@@ -4,7 +4,7 @@ use Rattle.std.specs.List.{filter, AllByRecursion}
 use Rattle.std.proofs.lemmas.Bool.{false≢true, eq-eqb, and_cases, eqb-false, eqb-true, leb-false, leb-true, ltb-false, ltb-true, and_parts, or_cases, or_parts, cases_order}
 use Rattle.std.proofs.lemmas.List.{take_all, drop_all, drop_more, reverse-append, length-append, take-append-drop}
 use Rattle.std.proofs.lemmas.List.Elements.{filter-append}
-use Rattle.run_model.specs.Early.{early, early_from, is_early, IsAtMost, IsOrderFault}
+use Rattle.run_model.specs.Early.{early, early_from, is_early, IsAtMost, IsLeastOf, IsOrderFault}
 use Rattle.run_model.specs.Steps.{count_steps, steps_of, vat_of, OneOf}
 use Rattle.run_model.specs.declared.step.Step.TheVariants.{Host, Deliver}
 use Rattle.run_model.proofs.Numbers.{past_more}
@@ -55,11 +55,6 @@ room run i s vat most lt at is few =
     omega (arith, more, first, few)
 
 -- ---- the least
-
--- the least of these places, if there are any
-abbrev pub IsLeastOf : List (ℕ × ℕ) → Option (ℕ × ℕ) → Type 0
-IsLeastOf places None = places ≡ []
-IsLeastOf places (Some place) = OneOf (λ p. p ≡ place) places × AllByRecursion (IsAtMost place) places
 
 at_most_itself : (a : ℕ × ℕ) → IsAtMost a a
 at_most_itself a = inr (refl, omega arith)

@@ -4,9 +4,9 @@ use Rattle.std.specs.Prelude.{map, filter, IsSomeAnd}
 use Rattle.std.specs.List.{AllByRecursion}
 use Rattle.std.specs.Option.{option_or}
 use Rattle.std.proofs.lemmas.Bool.{eq-eqb, cases_Bool}
-use Rattle.vat_view.specs.Past.{Past, Each}
-use Rattle.vat_view.specs.Bindings.{Refers, contains, is_bound, new_references}
-use Rattle.vat_view.specs.Views.{view_of_reference}
+use Rattle.decoded_records.specs.Past.{Past, Each}
+use Rattle.decoded_records.specs.Bindings.{Refers, contains, is_bound, new_references}
+use Rattle.decoded_records.specs.Views.{view_of_reference}
 use Rattle.vat_view.proofs.Lasting.{view_step}
 use Rattle.call_trace.specs.Types.{Bootstrap, Call, DecodedRecord, Host, Vow, Field, Make, Wire, Object, Promise, FieldOf, Name, Cap, Message, Step}
 use Rattle.call_trace.specs.Naming.{Naming, naming, names_call, call_named, cap_named, message_of_step}

@@ -5,8 +5,8 @@ use Rattle.std.specs.Prelude.{IsSome, Result, Ok, Err, OnOk}
 use Rattle.std.proofs.lemmas.Bool.{cases_Bool, false≢true, eq-eqb}
 use Rattle.std.proofs.lemmas.List.{reverse-append, length-reverse}
 use Rattle.std.proofs.Math.Seq.{set-append_seam}
-use Rattle.vat_view.specs.Past.{Past}
-use Rattle.vat_view.specs.Views.{view_of_reference}
+use Rattle.decoded_records.specs.Past.{Past}
+use Rattle.decoded_records.specs.Views.{view_of_reference}
 use Rattle.vat_rules.specs.OfCaps.{is_received}
 use Rattle.vat_rules.specs.LogFacts.{Facts}
 use Rattle.vat_rules.specs.Telling.{facts_of}

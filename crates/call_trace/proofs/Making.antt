@@ -7,12 +7,12 @@ use Rattle.std.proofs.lemmas.Bool.{eq-eqb, cases_Bool, and_from, and_parts, and_
 use Rattle.vat_rules.specs.Judged.{IsGood}
 use Rattle.vat_rules.specs.OfPromises.{IsUnkept}
 use Rattle.vat_rules.specs.declared.rule.Rule.TheVariants as rule
-use Rattle.vat_view.specs.Past.{Past, Each, id, last_answer}
-use Rattle.vat_view.specs.Bindings.{Refers, contains, is_bound_call, new_calls}
-use Rattle.vat_view.specs.Lives.{birth, descriptors}
-use Rattle.vat_view.specs.Views.{binds, descriptor_view, described_at, placed_references, view_given, view_of_reference, view_of_target}
+use Rattle.decoded_records.specs.Past.{Past, Each, id, last_answer}
+use Rattle.decoded_records.specs.Bindings.{Refers, contains, is_bound_call, new_calls}
+use Rattle.decoded_records.specs.Lives.{birth, descriptors}
+use Rattle.decoded_records.specs.Views.{binds, descriptor_view, described_at, placed_references, view_given, view_of_reference, view_of_target}
 use Rattle.vat_view.specs.Walks.{Next, stays, stops, on_to, keeps, is_promise, turn, next}
-use Rattle.vat_view.specs.Questions.{is_late, call_of}
+use Rattle.decoded_records.specs.Questions.{is_late, call_of}
 use Rattle.call_trace.specs.Types.{Descriptor, SenderHosted, SenderPromise, ReceiverHosted, ReceiverAnswer, Results, Exception, Canceled, Elsewhere, TakeFrom, RpcMessage, Bootstrap, Call, Return, Finish, Resolve, Release, Disembargo, Abort, DecodedRecord, Host, Vow, Fulfil, Break, Make, Field, Deliver, Answer, AnswerBy, Fault, Wire, View, Object, Promise, FieldOf, Name, Cap, Message, Step}
 use Rattle.call_trace.specs.Kinds.{is_own_making}
 use Rattle.call_trace.specs.Naming.{Naming, naming, call_named}

@@ -3,11 +3,11 @@ use Rattle.std.proofs.Common.{◌≡◌, refl, sym, ◌∙◌, ap, subst, ℕ, �
 use Rattle.std.specs.Prelude.{IsSome, map}
 use Rattle.std.specs.Option.{option_or}
 use Rattle.std.proofs.lemmas.Bool.{cases_Bool}
-use Rattle.vat_view.specs.Past.{Past, Each}
-use Rattle.vat_view.specs.Questions.{is_late}
-use Rattle.vat_view.specs.Views.{view_of_reference, view_of_target}
+use Rattle.decoded_records.specs.Past.{Past, Each}
+use Rattle.decoded_records.specs.Questions.{is_late}
+use Rattle.decoded_records.specs.Views.{view_of_reference, view_of_target}
 use Rattle.vat_view.proofs.Lasting.{view_step}
-use Rattle.vat_view.specs.Bindings.{Refers, contains, is_bound, is_bound_call, new_calls, new_references}
+use Rattle.decoded_records.specs.Bindings.{Refers, contains, is_bound, is_bound_call, new_calls, new_references}
 use Rattle.vat_view.specs.Laws.{EachAfter}
 use Rattle.vat_view.proofs.Viewed.{all_at}
 use Rattle.call_trace.specs.Types.{Bootstrap, Call, DecodedRecord, Host, Vow, Field, Make, Wire, View, Object, Promise, FieldOf, Import, Name, Cap, Message, Step}

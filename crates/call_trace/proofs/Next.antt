@@ -19,7 +19,7 @@ use Rattle.vat_rules.specs.Events.{event_of}
 use Rattle.vat_rules.specs.Judged.{IsGood}
 use Rattle.vat_rules.specs.OfCaps.{is_received}
 use Rattle.vat_rules.specs.declared.outcome.Why.{Why}
-use Rattle.vat_view.specs.Past.{Past, Each}
+use Rattle.decoded_records.specs.Past.{Past, Each}
 use Rattle.call_trace.specs.Findings.{uses, Share, AreEnds, logs_of, AreTrue, MayBeNamed}
 use Rattle.call_trace.specs.Named.{past_before}
 use Rattle.call_trace.specs.Running.{coming_next, steps_by, AreMet, IsNamedRow, Passes, IsUser, IsGoodNext, MayRun}

@@ -4,9 +4,9 @@ use Rattle.std.specs.Prelude.{map}
 use Rattle.std.proofs.lemmas.List.{reverse-reverse}
 use Rattle.agree.specs.Rows.{Row, log_of_vat}
 use Rattle.vat_rules.specs.Audit.{Found}
-use Rattle.vat_view.specs.Bindings.{Refers}
-use Rattle.vat_view.specs.Past.{Past, Each}
-use Rattle.vat_view.specs.Views.{view_of_reference}
+use Rattle.decoded_records.specs.Bindings.{Refers}
+use Rattle.decoded_records.specs.Past.{Past, Each}
+use Rattle.decoded_records.specs.Views.{view_of_reference}
 use Rattle.vat_view.proofs.Lasting.{view_step}
 use Rattle.call_trace.specs.Findings.{AreTrue, MayBeNamed}
 use Rattle.call_trace.specs.Named.{IsRunOf}

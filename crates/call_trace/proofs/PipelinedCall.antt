@@ -1,7 +1,7 @@
 -- An example, and no part of a proof: vat 1 asks vat 2 for its bootstrap object and, with no answer yet, calls a method on
 -- what the answer will be. The two logs, their run, and that it has what a run is promised to have.
 use Rattle.std.proofs.Common.{◌≡◌, refl, inl, inr, List, [], ◌∷◌, true, false, reverse}
-use Rattle.vat_view.specs.Past.{Each as EachRecord}
+use Rattle.decoded_records.specs.Past.{Each as EachRecord}
 use Rattle.call_trace.specs.Types.{SenderHosted, Promised, Results, Bootstrap, Call, Return, DecodedRecord, Host, Make, Field, Deliver, Answer, Wire, Step}
 use Rattle.run_model.specs.declared.cap.Cap.TheVariants as cap
 use Rattle.run_model.specs.declared.message.Message.TheVariants as message

@@ -4,13 +4,12 @@ use Rattle.std.specs.Prelude.{map, filter, unwrap_or}
 use Rattle.std.specs.List.{list_any}
 use Rattle.std.specs.Option.{option_or}
 use Rattle.std.proofs.lemmas.Bool.{cases_Bool, eq-eqb, and_left, and_right, and_from, and_parts, or_left, or_right, false_from_ne_true, false≢true}
-use Rattle.vat_view.specs.Past.{Past, Each, point, id, last_answer, last_where}
-use Rattle.vat_view.specs.Bindings.{Refers}
-use Rattle.vat_view.specs.Calls.{brings, takes, request_of, delivers, boots, has_passed, is_at_vat, is_served, is_settled}
-use Rattle.vat_view.specs.Calls.{moves as log_moves}
-use Rattle.vat_view.specs.Views.{view_of_reference, view_of_target}
-use Rattle.vat_view.specs.Questions.{is_late, call_of}
-use Rattle.vat_view.specs.declared.request.Request.{Request as AskedOf}
+use Rattle.decoded_records.specs.Past.{Past, Each, point, id, last_answer, last_where}
+use Rattle.decoded_records.specs.Bindings.{Refers}
+use Rattle.decoded_records.specs.Calls.{brings, takes, request_of, delivers, boots, has_passed, is_at_vat, is_served, is_settled, moves as log_moves}
+use Rattle.decoded_records.specs.Views.{view_of_reference, view_of_target}
+use Rattle.decoded_records.specs.Questions.{is_late, call_of}
+use Rattle.decoded_records.specs.declared.request.Request.{Request as AskedOf}
 use Rattle.vat_rules.specs.Judged.{IsGood}
 use Rattle.vat_rules.specs.Ways.{LeadsTo}
 use Rattle.vat_rules.specs.declared.rule.Rule.TheVariants as rule

@@ -16,7 +16,7 @@ use Rattle.agree.proofs.Standing.{linked_before}
 use Rattle.agree.proofs.Good.{good_agree, good_balanced}
 use Rattle.vat_rules.specs.Audit.{Found}
 use Rattle.vat_rules.specs.Judged.{IsGood}
-use Rattle.vat_view.specs.Past.{Each}
+use Rattle.decoded_records.specs.Past.{Each}
 use Rattle.call_trace.specs.Types.{DecodedRecord}
 use Rattle.call_trace.specs.Findings.{AreTrue, MayBeNamed}
 use Rattle.call_trace.specs.Named.{past_before, taken_before, AtEachPoint, AreBalanced}

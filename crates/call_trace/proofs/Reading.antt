@@ -20,12 +20,12 @@ use Rattle.vat_rules.specs.declared.outcome.Outcome.{Outcome}
 use Rattle.vat_rules.specs.declared.outcome.Outcome.TheVariants as outcome
 use Rattle.vat_rules.specs.Audit.{Found, IsTrueOf, reads_within}
 use Rattle.vat_rules.specs.Events.{Reader, event_of, event_or_none}
-use Rattle.vat_view.specs.Decoding.{made_with}
+use Rattle.decoded_records.specs.Decoding.{made_with}
 use Rattle.vat_rules.specs.First.{IsGoodAt, AllGood}
 use Rattle.vat_rules.specs.Types.{Later}
 use Rattle.vat_rules.proofs.Editions.{good_logs_good}
 use Rattle.vat_rules.specs.Judged.{IsGood}
-use Rattle.vat_view.specs.Past.{Each}
+use Rattle.decoded_records.specs.Past.{Each}
 use Rattle.call_trace.specs.Types.{RpcMessage, DecodedRecord, Wire}
 use Rattle.call_trace.specs.Findings.{is_good}
 use Rattle.call_trace.specs.Named.{past_before}

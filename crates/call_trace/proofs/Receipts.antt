@@ -11,10 +11,10 @@ use Rattle.agree.proofs.Openings.{passing_is}
 use Rattle.agree.proofs.Standing.{linked_before}
 use Rattle.vat_rules.specs.Judged.{IsGood}
 use Rattle.vat_rules.specs.declared.rule.Rule.TheVariants as rule
-use Rattle.vat_view.specs.Past.{Past, Each, id, last_answer}
-use Rattle.vat_view.specs.Lives.{begins, is_in_life}
-use Rattle.vat_view.specs.Questions.{is_late, is_unfinished, is_unreturned, call_of}
-use Rattle.vat_view.specs.Views.{view_of_reference, view_of_number, view_of_target, view_given}
+use Rattle.decoded_records.specs.Past.{Past, Each, id, last_answer}
+use Rattle.decoded_records.specs.Lives.{begins, is_in_life}
+use Rattle.decoded_records.specs.Questions.{is_late, is_unfinished, is_unreturned, call_of}
+use Rattle.decoded_records.specs.Views.{view_of_reference, view_of_number, view_of_target, view_given}
 use Rattle.rpc_view.specs.declared.message.Payload.{Payload}
 use Rattle.call_trace.specs.Types.{Target, Outcome, Results, Exception, Canceled, Elsewhere, TakeFrom, Resolution, RpcMessage, Bootstrap, Call, Return, Finish, Resolve, Release, Disembargo, Abort, DecodedRecord, Wire, Name, Cap, Message, Step}
 use Rattle.call_trace.specs.Naming.{Naming, naming, cap_named, call_named, message_at}

@@ -8,7 +8,7 @@ use Rattle.agree.specs.Rows.{Row, of_vat, log_of_vat}
 use Rattle.agree.specs.Streams.{passing, stream}
 use Rattle.agree.proofs.Cuts.{taken}
 use Rattle.agree.proofs.Points.{through, before_it, no_longer, shorter, same_length, kept}
-use Rattle.vat_view.specs.Past.{Past}
+use Rattle.decoded_records.specs.Past.{Past}
 use Rattle.call_trace.specs.Naming.{message_at}
 use Rattle.call_trace.specs.Running.{coming_next, step_received, step_of, steps_by, steps_of_row, IsNamedRow, IsUser, MayRun}
 use Rattle.call_trace.specs.Types.{RpcMessage, DecodedRecord, Host, Wire, Message, Step}

@@ -6,12 +6,12 @@ use Rattle.std.specs.List.{AllByRecursion, cons_option, list_any}
 use Rattle.std.specs.Option.{option_or}
 use Rattle.std.proofs.lemmas.Bool.{and_from, and_parts, or_left, or_right, cases_Bool, false≢true, not-true, eq-eqb}
 use Rattle.agree.proofs.Good.{all_sound}
-use Rattle.vat_view.specs.Past.{Past, point, Each, id, is, last_answer, last_where}
-use Rattle.vat_view.specs.Questions.{is_late, is_over, call_at, call_of, opening}
-use Rattle.vat_view.specs.Lives.{descriptors}
-use Rattle.vat_view.specs.Views.{view_of_reference, view_of_descriptor, descriptor_view}
-use Rattle.vat_view.specs.Calls.{knows, has_passed, is_known, call_taken_from, answerer, answered_by}
-use Rattle.vat_view.specs.Bindings.{Refers}
+use Rattle.decoded_records.specs.Past.{Past, point, Each, id, is, last_answer, last_where}
+use Rattle.decoded_records.specs.Questions.{is_late, is_over, call_at, call_of, opening}
+use Rattle.decoded_records.specs.Lives.{descriptors}
+use Rattle.decoded_records.specs.Views.{view_of_reference, view_of_descriptor, descriptor_view}
+use Rattle.decoded_records.specs.Calls.{knows, has_passed, is_known, call_taken_from, answerer, answered_by}
+use Rattle.decoded_records.specs.Bindings.{Refers}
 use Rattle.vat_view.specs.Walks.{LeadsByTurns}
 use Rattle.vat_rules.specs.Judged.{IsGood}
 use Rattle.vat_rules.specs.OfCaps.{is_cap_at}

@@ -2,7 +2,7 @@
 use Rattle.std.proofs.Common.{◌≡◌, refl, sym, ◌∙◌, ap, subst, ℕ, ◌==◌, List, [], ◌∷◌, ◌++◌, map, reverse, true, false, Option, Some, None, option_and_then, option_map}
 use Rattle.std.proofs.lemmas.List.{reverse-append}
 use Rattle.agree.specs.Rows.{Row, log_of_vat}
-use Rattle.vat_view.specs.Past.{Past}
+use Rattle.decoded_records.specs.Past.{Past}
 use Rattle.call_trace.specs.declared.records.vat_ledger.VatLedger.{VatLedger}
 use Rattle.call_trace.specs.Types.{DecodedRecord, Host, Vow, Fulfil, Break, Make, Field, Deliver, Answer, AnswerBy, Fault, Wire, Step}
 use Rattle.call_trace.specs.Naming.{naming}
@@ -16,7 +16,7 @@ use Rattle.call_trace.proofs.Keeping.{kept_beside}
 use Rattle.run_model.specs.Steps.{vat_of}
 use Rattle.run_model.specs.declared.cap.Cap.TheVariants as cap
 use Rattle.run_model.specs.declared.step.Step.TheVariants as step
-use Rattle.vat_view.specs.Views.{view_of_reference}
+use Rattle.decoded_records.specs.Views.{view_of_reference}
 
 -- ---- whose a step is
 

@@ -10,9 +10,9 @@ use Rattle.vat_rules.specs.Audit.{Found}
 use Rattle.vat_rules.specs.Judged.{IsGood}
 use Rattle.vat_rules.specs.OfCaps.{is_received}
 use Rattle.vat_rules.specs.declared.rule.Rule.TheVariants as rule
-use Rattle.vat_view.specs.Bindings.{Refers}
-use Rattle.vat_view.specs.Past.{Past, Each}
-use Rattle.vat_view.specs.Views.{view_of_reference}
+use Rattle.decoded_records.specs.Bindings.{Refers}
+use Rattle.decoded_records.specs.Past.{Past, Each}
+use Rattle.decoded_records.specs.Views.{view_of_reference}
 use Rattle.call_trace.specs.Findings.{AreTrue, MayBeNamed}
 use Rattle.call_trace.specs.Named.{IsRunOf}
 use Rattle.call_trace.specs.Naming.{naming, names_call, call_named, cap_named, message_at}

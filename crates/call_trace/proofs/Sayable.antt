@@ -6,17 +6,17 @@ use Rattle.std.specs.List.{AllByRecursion, cons_option, list_all}
 use Rattle.std.specs.Option.{option_or}
 use Rattle.std.proofs.lemmas.Bool.{and_parts, false≢true, eq-eqb}
 use Rattle.agree.proofs.Good.{all_sound}
-use Rattle.vat_view.specs.Past.{Past, Each, id, last_answer}
-use Rattle.vat_view.specs.Questions.{is_late, call_of}
-use Rattle.vat_view.specs.Lives.{birth, begins, began_promised, descriptors, is_in_life, is_resolved}
-use Rattle.vat_view.specs.Views.{view_of_reference, view_of_number, view_of_target, descriptor_view}
-use Rattle.vat_view.specs.Bindings.{Refers, is_bound, is_bound_call}
+use Rattle.decoded_records.specs.Past.{Past, Each, id, last_answer}
+use Rattle.decoded_records.specs.Questions.{is_late, call_of}
+use Rattle.decoded_records.specs.Lives.{birth, begins, began_promised, descriptors, is_in_life, is_resolved}
+use Rattle.decoded_records.specs.Views.{view_of_reference, view_of_number, view_of_target, descriptor_view}
+use Rattle.decoded_records.specs.Bindings.{Refers, is_bound, is_bound_call}
 use Rattle.vat_view.specs.Sound.{IsSound}
 use Rattle.vat_rules.specs.Judged.{IsGood}
 use Rattle.vat_rules.specs.OfCaps.{is_received}
 use Rattle.vat_rules.specs.OfPromises.{IsUnkept, is_unresolved}
 use Rattle.vat_rules.specs.declared.rule.Rule.TheVariants as rule
-use Rattle.vat_view.specs.declared.record.table_key.TableKey.{TableKey}
+use Rattle.decoded_records.specs.declared.table_key.TableKey.{TableKey}
 use Rattle.rpc_view.specs.declared.message.Payload.{Payload}
 use Rattle.call_trace.specs.Types.{Descriptor, NoCap, Target, Outcome, Results, Exception, Canceled, Elsewhere, TakeFrom, Resolution, RpcMessage, Bootstrap, Call, Return, Finish, Resolve, Release, Disembargo, Abort, DecodedRecord, Host, Vow, Fulfil, Break, Make, Field, Deliver, Answer, AnswerBy, Fault, Wire, View, Promise, Name, Cap, Message, Step}
 use Rattle.call_trace.specs.Naming.{naming, cap_at, call_named, cap_named}

@@ -5,13 +5,13 @@ use Rattle.std.proofs.lemmas.Bool.{and_from, or_left, or_right, eq-eqb, false≢
 use Rattle.agree.specs.Points.{GoesOn}
 use Rattle.rpc_view.specs.declared.message.Payload.{Payload}
 use Rattle.vat_rules.specs.OfCaps.{is_received}
-use Rattle.vat_view.specs.Past.{Past, Each, id}
-use Rattle.vat_view.specs.Questions.{opens, opening, noted_call, call_at, call_of}
-use Rattle.vat_view.specs.Bindings.{Refers, contains, is_bound_call, new_calls}
-use Rattle.vat_view.specs.Views.{view_of_target}
-use Rattle.vat_view.proofs.Naming.{names_is}
+use Rattle.decoded_records.specs.Past.{Past, Each, id}
+use Rattle.decoded_records.specs.Questions.{opens, opening, noted_call, call_at, call_of}
+use Rattle.decoded_records.specs.Bindings.{Refers, contains, is_bound_call, new_calls}
+use Rattle.decoded_records.specs.Views.{view_of_target}
+use Rattle.decoded_records.proofs.Naming.{names_is}
 use Rattle.vat_view.proofs.Viewed.{all_at}
-use Rattle.vat_view.specs.declared.record.table_key.TableKey.{TableKey}
+use Rattle.decoded_records.specs.declared.table_key.TableKey.{TableKey}
 use Rattle.call_trace.specs.Types.{Target, Bootstrap, Call, DecodedRecord, Wire, Name, Cap, Message, Step}
 use Rattle.call_trace.specs.Naming.{naming, call_named}
 use Rattle.call_trace.specs.Said.{say_call, caps_named}

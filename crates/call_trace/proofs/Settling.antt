@@ -9,10 +9,9 @@ use Rattle.vat_rules.specs.Judged.{IsGood}
 use Rattle.vat_rules.specs.OfCalls.{MayAnswer}
 use Rattle.vat_rules.specs.OfCalls.{distinct_paths as are_distinct}
 use Rattle.vat_rules.specs.declared.rule.Rule.TheVariants as rule
-use Rattle.vat_view.specs.Past.{Past, Point, Each, point, last_where}
-use Rattle.vat_view.specs.Bindings.{Refers}
-use Rattle.vat_view.specs.Calls.{boots, has_passed, is_at_vat, is_served, is_settled}
-use Rattle.vat_view.specs.Calls.{delivers as delivers_call, settles as settles_call}
+use Rattle.decoded_records.specs.Past.{Past, Point, Each, point, last_where}
+use Rattle.decoded_records.specs.Bindings.{Refers}
+use Rattle.decoded_records.specs.Calls.{boots, has_passed, is_at_vat, is_served, is_settled, delivers as delivers_call, settles as settles_call}
 use Rattle.call_trace.specs.Types.{Bootstrap, Call, DecodedRecord, Host, Vow, Fulfil, Break, Make, Field, Deliver, Answer, AnswerBy, Fault, Wire, Name, Cap, Message, Step}
 use Rattle.call_trace.specs.Naming.{Naming, naming, names_call, call_named, message_of_step}
 use Rattle.call_trace.specs.Said.{all_there}

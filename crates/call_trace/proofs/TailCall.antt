@@ -1,7 +1,7 @@
 -- An example, and no part of a proof: vat 1 calls vat 2, which answers by a call that it makes to vat 1. The results stay
 -- there, and vat 2 says so in place of them. The two logs, their run, and that it has what a run is promised to have.
 use Rattle.std.proofs.Common.{◌≡◌, refl, inl, inr, List, [], ◌∷◌, true, false, reverse}
-use Rattle.vat_view.specs.Past.{Each as EachRecord}
+use Rattle.decoded_records.specs.Past.{Each as EachRecord}
 use Rattle.call_trace.specs.Types.{SenderHosted, Imported, Promised, Elsewhere, TakeFrom, Bootstrap, Call, Return, DecodedRecord, Host, Make, Field, Deliver, Answer, AnswerBy, Wire, Step}
 use Rattle.run_model.specs.declared.cap.Cap.TheVariants as cap
 use Rattle.run_model.specs.declared.message.Message.TheVariants as message

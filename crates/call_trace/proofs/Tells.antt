@@ -5,10 +5,10 @@ use Rattle.std.specs.List.{cons_option, filter_map}
 use Rattle.std.specs.Str.{bytes_eq as same_path}
 use Rattle.std.proofs.lemmas.Bool.{cases_Bool, false≢true}
 use Rattle.std.proofs.lemmas.Slice.Eq.{bytes_eq-Decides}
-use Rattle.vat_view.specs.Past.{Past, id, is, record_index}
-use Rattle.vat_view.specs.Questions.{call_at, call_of, opening, is_late, is_over}
-use Rattle.vat_view.specs.Lives.{Birth, birth, descriptors}
-use Rattle.vat_view.specs.Views.{field_view, view_of_reference, view_of_number, view_of_descriptor, view_given, descriptor_view}
+use Rattle.decoded_records.specs.Past.{Past, id, is, record_index}
+use Rattle.decoded_records.specs.Questions.{call_at, call_of, opening, is_late, is_over}
+use Rattle.decoded_records.specs.Lives.{Birth, birth, descriptors}
+use Rattle.decoded_records.specs.Views.{field_view, view_of_reference, view_of_number, view_of_descriptor, view_given, descriptor_view}
 use Rattle.vat_view.specs.Walks.{Next, turns, stops, on_to, is_promise, keeps, began_at, resolves, answer_view_at, result_at, answers, turn}
 use Rattle.call_trace.specs.Types.{Outcome, Results, Exception, Canceled, TakeFrom, Resolution, Capped, Unkept, Return, Resolve, DecodedRecord, Fulfil, Break, Answer, AnswerBy, Fault, Wire, View, Object, Promise, FieldOf, Import, Name, Cap, Message, Step}
 use Rattle.call_trace.specs.Naming.{Naming, naming, cap_at, cap_named}

@@ -4,8 +4,8 @@ use Rattle.std.specs.Prelude.{IsSome}
 use Rattle.agree.specs.Rows.{Row, log_of_vat}
 use Rattle.vat_rules.specs.LogFacts.{Facts}
 use Rattle.vat_rules.specs.OfCaps.{is_received}
-use Rattle.vat_view.specs.Past.{Past}
-use Rattle.vat_view.specs.Views.{view_of_reference}
+use Rattle.decoded_records.specs.Past.{Past}
+use Rattle.decoded_records.specs.Views.{view_of_reference}
 use Rattle.call_trace.specs.declared.records.vat_ledger.VatLedger.{VatLedger}
 use Rattle.call_trace.specs.declared.steps.channels.Channels.{Channels}
 use Rattle.call_trace.specs.declared.steps.run_builder.RunBuilder.{RunBuilder}

@@ -9,7 +9,7 @@ use Rattle.vat_log.specs.declared.body.Body.{Body}
 use Rattle.vat_rules.specs.Audit.{Found, IsTrueOf}
 use Rattle.vat_rules.specs.LogFacts.{Facts}
 use Rattle.vat_rules.specs.Telling.{facts_of}
-use Rattle.vat_view.specs.Past.{Past}
+use Rattle.decoded_records.specs.Past.{Past}
 use Rattle.call_trace.specs.declared.records.vat_ledger.VatLedger.{VatLedger}
 use Rattle.call_trace.specs.declared.steps.run_builder.RunBuilder.{RunBuilder}
 use Rattle.call_trace.specs.Findings.{is_good}

@@ -1,6 +1,6 @@
 -- Examples, and no part of a proof: Balance where Finishes are under way. Vat 2 exports number 0 to vat 1 by a Return.
 use Rattle.std.proofs.Common.{refl, [], ◌∷◌, true, false}
-use Rattle.vat_view.specs.Past.{Past}
+use Rattle.decoded_records.specs.Past.{Past}
 use Rattle.call_trace.specs.Types.{RpcMessage, SenderHosted, Results, Bootstrap, Return, Finish, Host, Answer, Wire}
 use Rattle.call_trace.specs.Balance.{IsBalanced}
 

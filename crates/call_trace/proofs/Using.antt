@@ -7,20 +7,20 @@ use Rattle.std.specs.Option.{option_or}
 use Rattle.std.proofs.lemmas.Bool.{and_parts, or_left, or_right, cases_Bool, false≢true, not-true, eq-eqb, lt-ltb}
 use Rattle.std.proofs.lemmas.List.Folds.{list_all-append}
 use Rattle.agree.proofs.Points.{each_so}
-use Rattle.vat_view.specs.Past.{Past, Point, point, Each, id, names, last_answer, record_index}
-use Rattle.vat_view.specs.Questions.{opens, opening, noted_call, call_at, call_of, is_opened, is_returned, is_finished, is_unfinished, is_unreturned, is_late, question_finished, question_taken}
-use Rattle.vat_view.specs.Lives.{Birth, birth, begins, number_introduced, introduces, descriptors, held, is_in_life, GivesBackHeld}
-use Rattle.vat_view.specs.Views.{view_of_reference, view_of_number, view_of_target, view_of_descriptor, view_given, number_view, field_view, descriptor_view, placed_references}
-use Rattle.vat_view.specs.Uses.{question_targeted, question_described, number_targeted, number_described, number_released, UsesQuestions}
-use Rattle.vat_view.specs.Bindings.{Refers, contains, is_bound, is_bound_call, new_calls}
+use Rattle.decoded_records.specs.Past.{Past, Point, point, Each, id, names, last_answer, record_index}
+use Rattle.decoded_records.specs.Questions.{opens, opening, noted_call, call_at, call_of, is_opened, is_returned, is_finished, is_unfinished, is_unreturned, is_late, question_finished, question_taken}
+use Rattle.decoded_records.specs.Lives.{Birth, birth, begins, number_introduced, introduces, descriptors, held, is_in_life, GivesBackHeld}
+use Rattle.decoded_records.specs.Views.{view_of_reference, view_of_number, view_of_target, view_of_descriptor, view_given, number_view, field_view, descriptor_view, placed_references}
+use Rattle.decoded_records.specs.Uses.{question_targeted, question_described, number_targeted, number_described, number_released, UsesQuestions}
+use Rattle.decoded_records.specs.Bindings.{Refers, contains, is_bound, is_bound_call, new_calls}
 use Rattle.vat_view.specs.Sound.{IsSound}
 use Rattle.vat_view.specs.Glue.TurnTables.{reference_at}
-use Rattle.vat_view.specs.declared.record.table_key.TableKey.{TableKey}
+use Rattle.decoded_records.specs.declared.table_key.TableKey.{TableKey}
 use Rattle.rpc_view.specs.declared.message.Payload.{Payload}
 use Rattle.vat_view.proofs.Counting.{no_more_went}
 use Rattle.vat_view.proofs.Landed.{noted_view}
 use Rattle.vat_view.proofs.Lasting.{number_keeps, view_bound, view_step}
-use Rattle.vat_view.proofs.Naming.{names_is}
+use Rattle.decoded_records.proofs.Naming.{names_is}
 use Rattle.vat_view.proofs.Viewed.{all_viewed, begins_parts, begins_some, export_viewed, introduced_there}
 use Rattle.call_trace.specs.Types.{Descriptor, NoCap, SenderHosted, SenderPromise, ReceiverHosted, ReceiverAnswer, Target, Imported, Promised, TakeFrom, RpcMessage, Bootstrap, Call, Return, DecodedRecord, Wire, View, FieldOf, Import, Cap, Step}
 use Rattle.call_trace.specs.Naming.{cap_named}

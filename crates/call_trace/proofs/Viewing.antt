@@ -1,9 +1,9 @@
 -- What a record says by its facts is what it says by the records before it.
 use Rattle.std.proofs.Common.{◌≡◌, refl, sym, ◌∙◌, ap, ap₂, ℕ, ◌+◌, List, [], ◌∷◌, ◌++◌, length, map, Bool, true, false, Option, Some, None, option_and_then, option_map, append_assoc, length-append}
-use Rattle.vat_view.specs.Past.{Past, id}
-use Rattle.vat_view.specs.Lives.{descriptors}
-use Rattle.vat_view.specs.Questions.{is_late, call_of}
-use Rattle.vat_view.specs.Views.{view_of_reference, descriptor_view}
+use Rattle.decoded_records.specs.Past.{Past, id}
+use Rattle.decoded_records.specs.Lives.{descriptors}
+use Rattle.decoded_records.specs.Questions.{is_late, call_of}
+use Rattle.decoded_records.specs.Views.{view_of_reference, descriptor_view}
 use Rattle.vat_rules.specs.OfCaps.{is_received}
 use Rattle.vat_rules.specs.Telling.{facts_of, question_view, taken_view}
 use Rattle.call_trace.specs.Types.{Descriptor, NoCap, SenderHosted, SenderPromise, ReceiverHosted, ReceiverAnswer, Outcome, Results, Exception, Canceled, Elsewhere, TakeFrom, RpcMessage, Bootstrap, Call, Return, Finish, Resolve, Release, Disembargo, Abort, DecodedRecord, Host, Vow, Fulfil, Break, Make, Field, Deliver, Answer, AnswerBy, Fault, Wire, View, FieldOf}

@@ -12,10 +12,10 @@ use Rattle.vat_rules.specs.Audit.{Found}
 use Rattle.vat_rules.specs.Judged.{IsGood}
 use Rattle.vat_rules.specs.Ways.{LeadsTo}
 use Rattle.vat_rules.specs.declared.rule.Rule.TheVariants as rule
-use Rattle.vat_view.specs.Lives.{Birth, birth, began_promised}
-use Rattle.vat_view.specs.Loopbacks.{loopback_of}
-use Rattle.vat_view.specs.Past.{Past, Point, Each, id}
-use Rattle.vat_view.specs.Views.{view_of_target}
+use Rattle.decoded_records.specs.Lives.{Birth, birth, began_promised}
+use Rattle.decoded_records.specs.Loopbacks.{loopback_of}
+use Rattle.decoded_records.specs.Past.{Past, Point, Each, id}
+use Rattle.decoded_records.specs.Views.{view_of_target}
 use Rattle.call_trace.specs.Findings.{logs_of, AreTrue, MayBeNamed}
 use Rattle.call_trace.specs.InLife.{ResolvesLiving, EchoesWaiting, UsesLives}
 use Rattle.call_trace.specs.Named.{past_of, AreParts, IsRunOf}

@@ -4,12 +4,12 @@ use Rattle.std.specs.Prelude.{filter, unwrap_or}
 use Rattle.std.specs.List.{AllByRecursion, list_any}
 use Rattle.std.specs.Option.{option_or}
 use Rattle.std.proofs.lemmas.Bool.{and_parts, cases_Bool}
-use Rattle.vat_view.specs.Past.{Past, Each, id, last_answer}
-use Rattle.vat_view.specs.Bindings.{Refers}
-use Rattle.vat_view.specs.Lives.{Birth, birth, begins, is_in_life}
+use Rattle.decoded_records.specs.Past.{Past, Each, id, last_answer}
+use Rattle.decoded_records.specs.Bindings.{Refers}
+use Rattle.decoded_records.specs.Lives.{Birth, birth, begins, is_in_life}
 use Rattle.vat_view.specs.Walks.{Next, turns, stays, next, turn, resolves, began_at, Leads, here, onward, LeadsByTurns, turned}
 use Rattle.vat_view.proofs.Viewed.{begins_parts}
-use Rattle.vat_view.specs.declared.record.table_key.TableKey.{TableKey}
+use Rattle.decoded_records.specs.declared.table_key.TableKey.{TableKey}
 use Rattle.call_trace.specs.Types.{Resolve, DecodedRecord, Wire, View, Object, Promise, FieldOf, Import, Name, Cap, Step}
 use Rattle.call_trace.specs.Naming.{naming, cap_at, cap_named, message_at, message_of_step}
 use Rattle.call_trace.specs.Part.{Says, PairsOff}

@@ -4,7 +4,7 @@ use Rattle.std.specs.Prelude.{ℕ, List}
 use Rattle.agree.specs.Balance.{AreUnderWay}
 use Rattle.agree.specs.Balance.{IsNumberBalanced as IsBalancedBy}
 use Rattle.call_trace.specs.Types.{RpcMessage}
-use Rattle.vat_view.specs.Past.{Past}
+use Rattle.decoded_records.specs.Past.{Past}
 
 -- The counts of a number balance at the two ends of a connection, by their logs. The exporter holds what the importer
 -- holds, what comes to the importer by the messages under way there, and what is given back by those under way back.

@@ -3,9 +3,9 @@ use Rattle.std.specs.Prelude.{◌≡◌, ℕ, List, length, true, false, Option,
 use Rattle.agree.specs.Streams.{IsPassed}
 use Rattle.call_trace.specs.Types.{RpcMessage, DecodedRecord, Cap, Step}
 use Rattle.call_trace.specs.Naming.{cap_named, message_at}
-use Rattle.vat_view.specs.Past.{Past, id}
-use Rattle.vat_view.specs.Views.{view_of_number}
-use Rattle.vat_view.specs.declared.record.table_key.TableKey.{TableKey}
+use Rattle.decoded_records.specs.Past.{Past, id}
+use Rattle.decoded_records.specs.Views.{view_of_number}
+use Rattle.decoded_records.specs.declared.table_key.TableKey.{TableKey}
 
 -- each message that one vat sent the other is received in the run as it was sent
 abbrev pub IsCarried : ℕ → Past → List Step → Past → List Step → Type 0

@@ -2,10 +2,10 @@
 -- Disembargo). A received Resolve alone may name a promise that was released.
 use Rattle.std.specs.Prelude.{true, ⊤, IsTrue, IsSome, IsSomeAnd, IfSome}
 use Rattle.call_trace.specs.Types.{Resolve, DecodedRecord, Wire}
-use Rattle.vat_view.specs.Lives.{birth, began_promised}
-use Rattle.vat_view.specs.Loopbacks.{receiver_loopback, loopback_of}
-use Rattle.vat_view.specs.Past.{Past, id}
-use Rattle.vat_view.specs.Uses.{UsesNumbers, UsesQuestions, OpensFree}
+use Rattle.decoded_records.specs.Lives.{birth, began_promised}
+use Rattle.decoded_records.specs.Loopbacks.{receiver_loopback, loopback_of}
+use Rattle.decoded_records.specs.Past.{Past, id}
+use Rattle.decoded_records.specs.Uses.{UsesNumbers, UsesQuestions, OpensFree}
 
 -- a Resolve that is sent names a promise in life
 abbrev pub ResolvesLiving : Past → DecodedRecord → Type 0

@@ -12,7 +12,7 @@ use Rattle.run_model.specs.Right.{ReachesObject, IsConnected}
 use Rattle.run_model.specs.Steps.{vat_of, EachOf}
 use Rattle.vat_rules.specs.Audit.{Found, reads_within}
 use Rattle.vat_rules.specs.Events.{past_at}
-use Rattle.vat_view.specs.Past.{Past, Each}
+use Rattle.decoded_records.specs.Past.{Past, Each}
 
 -- the records of a finding's log before number i, with their messages read, the newest first
 abbrev pub past_before : Found → ℕ → Past

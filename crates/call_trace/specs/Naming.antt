@@ -6,7 +6,7 @@ use Rattle.call_trace.specs.Types.{Bootstrap, Call, DecodedRecord, Make, Wire, V
 use Rattle.run_model.specs.Has.{call_in_message}
 use Rattle.run_model.specs.Legal.{is_present, caps_brought}
 use Rattle.run_model.specs.Steps.{call}
-use Rattle.vat_view.specs.Past.{Past}
+use Rattle.decoded_records.specs.Past.{Past}
 use Rattle.run_model.specs.declared.cap.Cap.TheVariants as cap
 use Rattle.run_model.specs.declared.step.Step.TheVariants as step
 

@@ -4,10 +4,10 @@ use Rattle.call_trace.specs.Naming.{Naming, naming}
 use Rattle.call_trace.specs.Said.{all_there, message_of_record}
 use Rattle.call_trace.specs.Types.{Resolve, DecodedRecord, Host, Vow, Fulfil, Break, Make, Field, Deliver, Answer, AnswerBy, Fault, Wire, View, Promise, Cap, Message, Step}
 use Rattle.run_model.specs.Steps.{steps_of}
-use Rattle.vat_view.specs.Lives.{is_in_life}
-use Rattle.vat_view.specs.Past.{Past, id}
-use Rattle.vat_view.specs.Questions.{is_late}
-use Rattle.vat_view.specs.Views.{view_of_reference}
+use Rattle.decoded_records.specs.Lives.{is_in_life}
+use Rattle.decoded_records.specs.Past.{Past, id}
+use Rattle.decoded_records.specs.Questions.{is_late}
+use Rattle.decoded_records.specs.Views.{view_of_reference}
 use Rattle.run_model.specs.declared.cap.Cap.TheVariants as cap
 use Rattle.run_model.specs.declared.message.Message.TheVariants as message
 use Rattle.run_model.specs.declared.step.Step.TheVariants as step

@@ -3,9 +3,9 @@ use Rattle.std.specs.Prelude.{◌≡◌, ℕ, List, Option, Some, IsSomeAnd, opt
 use Rattle.call_trace.specs.Types.{View, Name, Cap, Step}
 use Rattle.call_trace.specs.Naming.{call_named, cap_named}
 use Rattle.run_model.specs.Places.{Asked, at_vat}
-use Rattle.vat_view.specs.Calls.{request_of}
-use Rattle.vat_view.specs.Past.{Past}
-use Rattle.vat_view.specs.declared.request.Request.{Request as AskedOf}
+use Rattle.decoded_records.specs.Calls.{request_of}
+use Rattle.decoded_records.specs.Past.{Past}
+use Rattle.decoded_records.specs.declared.request.Request.{Request as AskedOf}
 
 -- what a log says that a call asks for is this: the goal by its name, and interface and method
 abbrev pub AsksFor : (View → Option Cap) → Asked → AskedOf → Type 0

@@ -13,7 +13,7 @@ use Rattle.run_model.specs.Links.{IsLinked, sent_to, receives_on}
 use Rattle.run_model.specs.Steps.{count_steps, vat_of}
 use Rattle.run_model.specs.Steps.{EachStep}
 use Rattle.vat_rules.specs.Judged.{IsGood}
-use Rattle.vat_view.specs.Past.{Past, Each}
+use Rattle.decoded_records.specs.Past.{Past, Each}
 use Rattle.run_model.specs.declared.step.Step.TheVariants as step
 
 -- the message that a vat receives next on a connection: the n-th that was sent to it there, if it has received n

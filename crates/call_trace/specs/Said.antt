@@ -3,10 +3,10 @@
 use Rattle.std.specs.Prelude.{ℕ, List, [], Bool, true, false, not, Option, Some, None, filter_map, map, option_and_then, option_map, unwrap_or, ◌∷◌, ◌&&◌}
 use Rattle.call_trace.specs.Naming.{Naming, cap_at}
 use Rattle.call_trace.specs.Types.{Descriptor, NoCap, Results, Exception, Canceled, Elsewhere, TakeFrom, RpcMessage, Bootstrap, Call, Return, Finish, Resolve, Release, Disembargo, Abort, DecodedRecord, Wire, Name, Cap, Message}
-use Rattle.vat_view.specs.Lives.{descriptors}
-use Rattle.vat_view.specs.Past.{Past, id}
-use Rattle.vat_view.specs.Questions.{is_late, call_of}
-use Rattle.vat_view.specs.Views.{view_of_reference, view_of_number, view_of_target, descriptor_view}
+use Rattle.decoded_records.specs.Lives.{descriptors}
+use Rattle.decoded_records.specs.Past.{Past, id}
+use Rattle.decoded_records.specs.Questions.{is_late, call_of}
+use Rattle.decoded_records.specs.Views.{view_of_reference, view_of_number, view_of_target, descriptor_view}
 use Rattle.run_model.specs.declared.cap.Cap.TheVariants as cap
 use Rattle.run_model.specs.declared.message.Message.TheVariants as message
 use Rattle.run_model.specs.declared.plain.Plain.TheVariants as plain

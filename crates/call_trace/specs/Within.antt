@@ -3,8 +3,8 @@ use Rattle.std.specs.Prelude.{◌≡◌, ℕ, List, filter, Some, ◌==◌}
 use Rattle.call_trace.specs.Types.{View, Cap, Step}
 use Rattle.call_trace.specs.Naming.{Naming}
 use Rattle.call_trace.specs.Part.{PairsOff}
-use Rattle.vat_view.specs.Bindings.{Refers}
-use Rattle.vat_view.specs.Past.{Past, Each}
+use Rattle.decoded_records.specs.Bindings.{Refers}
+use Rattle.decoded_records.specs.Past.{Past, Each}
 use Rattle.run_model.specs.Legal.{IsLegal}
 use Rattle.run_model.specs.Links.{IsLinked}
 use Rattle.run_model.specs.Steps.{vat_of}

@@ -12,9 +12,10 @@ use clap::error::ErrorKind;
 use clap::{ArgMatches, Error};
 use std::alloc::{AllocError, Global};
 use std::convert::AsStr;
+use std::fmt::{self, Debug, Formatter, Write};
 
 /// What the program is asked to do.
-#[derive(Debug, PartialEq, Eq, Drop)]
+#[derive(PartialEq, Eq, Drop)]
 pub enum Command<'a> {
     /// Audit the case that the source has under this name, by so many workers, 1 to 64.
     Check {
@@ -93,6 +94,12 @@ pub enum Command<'a> {
         logs: Vec<&'a str>,
         out: &'a str,
     },
+}
+
+impl Debug for Command<'_> {
+    fn fmt<W: Write>(&self, f: &mut Formatter<W>) -> fmt::Result {
+        f.debug_struct("Command").finish_non_exhaustive()
+    }
 }
 
 impl<'a> Command<'a> {

@@ -5,12 +5,12 @@ use Rattle.std.specs.List.{position_from}
 use Rattle.std.proofs.lemmas.Bool.{cases_Bool, and_parts, false≢true, not-true, eqb-true, eq-eqb}
 use Rattle.std.proofs.lemmas.List.Elements.{Contains-append_cases, Contains-append_left, Contains-append_right}
 use Rattle.left_open.specs.Types.{Bootstrap, Call, DecodedRecord, Descriptor, Loopback, Number, Open, Promise, PromiseView, Question, TableKey, Unfinished, Vow, Wire}
-use Rattle.vat_view.specs.Past.{Past, Point, names, record_index, record_at, last_answer}
-use Rattle.vat_view.specs.Questions.{question_opened, opens, opening, is_returned, is_returned_lightly, is_finished, is_opened, noted_call}
-use Rattle.vat_view.specs.Loopbacks.{sender_loopback, receiver_loopback, loopback_of}
-use Rattle.vat_view.specs.Lives.{Birth, birth, begins, held, is_in_life, number_introduced, descriptors}
+use Rattle.decoded_records.specs.Past.{Past, Point, names, record_index, record_at, last_answer}
+use Rattle.decoded_records.specs.Questions.{question_opened, opens, opening, is_returned, is_returned_lightly, is_finished, is_opened, noted_call}
+use Rattle.decoded_records.specs.Loopbacks.{sender_loopback, receiver_loopback, loopback_of}
+use Rattle.decoded_records.specs.Lives.{Birth, birth, begins, held, is_in_life, number_introduced, descriptors}
 use Rattle.vat_view.specs.Walks.{Next, next, turns, stops, stays}
-use Rattle.vat_view.proofs.Naming.{names_is}
+use Rattle.decoded_records.proofs.Naming.{names_is}
 use Rattle.vat_view.proofs.Viewed.{begins_parts}
 use Rattle.left_open.specs.Left.{IsOpen, question, unfinished, loopback, promise, number, is_unresolved, record_of, place_of, ComesBefore}
 use Rattle.left_open.specs.Glue.{At, is_at, at_point, unreturned_at, unfinished_at, unechoed_at, at_birth, began_at, reference_vowed, is_still, question_left, question_by, loopback_by, promise_by, number_by, numbers_from, opened_by, opened_from}

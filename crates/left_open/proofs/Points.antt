@@ -7,7 +7,7 @@ use Rattle.std.proofs.lemmas.List.{length-reverse}
 use Rattle.std.proofs.lemmas.Option.{slice_get-get_or}
 use mathlib.Core.List.{reverse_aux}
 use Rattle.left_open.specs.Types.{DecodedRecord}
-use Rattle.vat_view.specs.Past.{Past, Point, point, record_index, record_at, last_answer, last_where, last_since, Each}
+use Rattle.decoded_records.specs.Past.{Past, Point, point, record_index, record_at, last_answer, last_where, last_since, Each}
 
 pub none_some : {A : Type 0} {x : A} → None ≡ Some x → ⊥
 none_some e = cc

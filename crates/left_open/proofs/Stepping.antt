@@ -3,14 +3,14 @@ use Rattle.std.proofs.Common.{◌≡◌, ◌<◌, ◌+◌, ◌-◌, ◌==◌, ge
 use Rattle.std.specs.Prelude.{is_some, nat_lt, OnOk, Result, Ok, Err}
 use Rattle.std.proofs.lemmas.Bool.{cases_Bool, ne_eqb, lt-ltb}
 use Rattle.std.proofs.lemmas.List.{drop_more}
-use Rattle.vat_view.proofs.Naming.{same_id_is}
+use Rattle.decoded_records.proofs.Naming.{same_id_is}
 use Rattle.std.specs.List.{position_from}
 use Rattle.std.specs.Option.{option_or}
 use Rattle.left_open.specs.Types.{DecodedRecord, Descriptor, TableKey}
-use Rattle.vat_view.specs.Past.{Past, Point, point, id, same_id, names, last_answer, last_since}
-use Rattle.vat_view.specs.Questions.{question_opened, question_returned, question_returned_lightly, question_finished, opens, returns_lightly, opening, return_of, finish_of, is_late}
-use Rattle.vat_view.specs.Loopbacks.{sender_loopback, receiver_loopback, loopback_of}
-use Rattle.vat_view.specs.Lives.{Birth, begins, held, is_in_life, number_introduced, descriptors}
+use Rattle.decoded_records.specs.Past.{Past, Point, point, id, same_id, names, last_answer, last_since}
+use Rattle.decoded_records.specs.Questions.{question_opened, question_returned, question_returned_lightly, question_finished, opens, returns_lightly, opening, return_of, finish_of, is_late}
+use Rattle.decoded_records.specs.Loopbacks.{sender_loopback, receiver_loopback, loopback_of}
+use Rattle.decoded_records.specs.Lives.{Birth, begins, held, is_in_life, number_introduced, descriptors}
 use Rattle.left_open.specs.Glue.{At, at_point, at_birth, unreturned_at, unfinished_at, unechoed_at, began_at, names_new, begins_from, begins_at}
 
 pub unreturned_more : (q : TableKey) (before : Past) (e : DecodedRecord) →

@@ -3,12 +3,12 @@ use Rattle.std.specs.Prelude.{◌≡◌, ℕ, ◌+◌, ◌==◌, List, [], ◌�
 use Rattle.std.specs.BTreeMap.{get}
 use Rattle.std.specs.List.{position_from}
 use Rattle.left_open.specs.Types.{DecodedRecord, Descriptor, Loopback, Number, Open, Promise, PromiseView, Question, TableKey, Unfinished, Vow}
-use Rattle.vat_view.specs.Past.{Past, Point, names, record_index, last_answer}
-use Rattle.vat_view.specs.Questions.{question_opened, opening, is_returned, is_returned_lightly, is_finished, is_late, noted_call}
-use Rattle.vat_view.specs.Loopbacks.{sender_loopback, loopback_of}
-use Rattle.vat_view.specs.Lives.{Birth, begins, held, is_in_life, number_introduced, descriptors}
+use Rattle.decoded_records.specs.Past.{Past, Point, names, record_index, last_answer}
+use Rattle.decoded_records.specs.Questions.{question_opened, opening, is_returned, is_returned_lightly, is_finished, is_late, noted_call}
+use Rattle.decoded_records.specs.Loopbacks.{sender_loopback, loopback_of}
+use Rattle.decoded_records.specs.Lives.{Birth, begins, held, is_in_life, number_introduced, descriptors}
 use Rattle.vat_view.specs.Walks.{Next, next, turns, stops, stays}
-use Rattle.vat_view.specs.Glue.Tables.{id_cmp}
+use Rattle.decoded_records.specs.Glue.Parts.{id_cmp}
 use Rattle.left_open.specs.declared.begun.Begun.{Begun}
 use Rattle.left_open.specs.declared.watching.Watched.{Watched}
 use Rattle.left_open.specs.Left.{is_unresolved}

@@ -3,10 +3,10 @@
 use Rattle.std.specs.Prelude.{◌≡◌, ℕ, ◌+◌, ◌<◌, ◌⊎◌, Bool, false, not, ◌&&◌, Some, IsTrue}
 use Rattle.std.specs.Option.{option_map_or}
 use Rattle.left_open.specs.Types.{Loopback, Number, Open, Promise, PromiseView, Question, TableKey, Unfinished, Vow}
-use Rattle.vat_view.specs.Past.{Past, Point, record_index, record_at}
-use Rattle.vat_view.specs.Questions.{opening, is_returned, is_unreturned, is_free, noted_call}
-use Rattle.vat_view.specs.Loopbacks.{loopback_of}
-use Rattle.vat_view.specs.Lives.{Birth, birth, held, began_promised, is_resolved}
+use Rattle.decoded_records.specs.Past.{Past, Point, record_index, record_at}
+use Rattle.decoded_records.specs.Questions.{opening, is_returned, is_unreturned, is_free, noted_call}
+use Rattle.decoded_records.specs.Loopbacks.{loopback_of}
+use Rattle.decoded_records.specs.Lives.{Birth, birth, held, began_promised, is_resolved}
 use Rattle.vat_view.specs.Walks.{next, stays}
 
 -- the present life of a number began with a senderPromise, and no Resolve has passed in it

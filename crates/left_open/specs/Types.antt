@@ -2,9 +2,9 @@
 pub use Rattle.rpc_view.specs.declared.message.Descriptor.{Descriptor}
 pub use Rattle.rpc_view.specs.declared.message.Loopback.TheVariants.{Sender}
 pub use Rattle.rpc_view.specs.declared.message.RpcMessage.TheVariants.{Bootstrap, Call, Disembargo}
-pub use Rattle.vat_view.specs.declared.record.decoded.DecodedRecord.{DecodedRecord}
-pub use Rattle.vat_view.specs.declared.record.decoded.DecodedRecord.TheVariants.{Vow, Wire}
-pub use Rattle.vat_view.specs.declared.view.View.TheVariants.{Promise as PromiseView}
-pub use Rattle.vat_view.specs.declared.record.table_key.TableKey.{TableKey}
+pub use Rattle.decoded_records.specs.declared.decoded.DecodedRecord.{DecodedRecord}
+pub use Rattle.decoded_records.specs.declared.decoded.DecodedRecord.TheVariants.{Vow, Wire}
+pub use Rattle.decoded_records.specs.declared.view.View.TheVariants.{Promise as PromiseView}
+pub use Rattle.decoded_records.specs.declared.table_key.TableKey.{TableKey}
 pub use Rattle.left_open.specs.declared.open_things.Open.{Open}
 pub use Rattle.left_open.specs.declared.open_things.Open.TheVariants.{Question, Unfinished, Loopback, Promise, Number}

@@ -1,8 +1,8 @@
 //! Where numbers of connections began.
 
 ghost use Rattle.std.specs.Prelude.{◌≡◌, ℕ, None, Some, OnOk, if◌then◌else◌};
-ghost use Rattle.vat_view.specs.declared.record.table_key.TableKey.{TableKey};
-ghost use Rattle.vat_view.specs.Past.{names};
+ghost use Rattle.decoded_records.specs.declared.table_key.TableKey.{TableKey};
+ghost use Rattle.decoded_records.specs.Past.{names};
 ghost use Rattle.left_open.specs.Glue.{begun_in, is_at};
 
 use std::alloc::{AllocError, Global};

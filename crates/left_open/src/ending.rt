@@ -1,7 +1,7 @@
 //! What is open at the end of a log.
 
 ghost use Rattle.std.specs.Prelude.{◌≡◌, ◌↔◌, IfOk, IfSome, MatchOption, AllPairs, Contains, reverse};
-ghost use Rattle.vat_view.specs.Past.{Each};
+ghost use Rattle.decoded_records.specs.Past.{Each};
 ghost use Rattle.vat_view.specs.Sound.{IsSound};
 ghost use Rattle.left_open.specs.declared.open_things.Open.{Open};
 ghost use Rattle.left_open.specs.Left.{IsOpen, ComesBefore};

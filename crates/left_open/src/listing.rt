@@ -1,7 +1,7 @@
 //! The list of what is open at the end.
 
 ghost use Rattle.std.specs.Prelude.{◌≡◌, ◌++◌, IfOk, OnOk, option_to_list};
-ghost use Rattle.vat_view.specs.Lives.{descriptors};
+ghost use Rattle.decoded_records.specs.Lives.{descriptors};
 ghost use Rattle.left_open.specs.Glue.{begun_in, question_by, loopback_by, promise_by, reference_vowed, number_by, numbers_from, opened_by, opened_from};
 ghost use Rattle.left_open.specs.Left.{is_unresolved};
 

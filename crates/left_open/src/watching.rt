@@ -2,11 +2,11 @@
 
 ghost use Rattle.std.specs.Prelude.{◌≡◌, ℕ, [], ◌∷◌, None, Some, IfOk, OnOk, Decides, MatchOption, not, ◌&&◌, if◌then◌else◌, length, reverse};
 ghost use Rattle.std.specs.Option.{option_or};
-ghost use Rattle.vat_view.specs.declared.record.table_key.TableKey.{TableKey};
-ghost use Rattle.vat_view.specs.Past.{Past, names, Each};
-ghost use Rattle.vat_view.specs.Questions.{question_opened, question_returned, question_returned_lightly, question_finished};
-ghost use Rattle.vat_view.specs.Loopbacks.{sender_loopback, receiver_loopback};
-ghost use Rattle.vat_view.specs.Lives.{held, is_in_life, number_introduced};
+ghost use Rattle.decoded_records.specs.declared.table_key.TableKey.{TableKey};
+ghost use Rattle.decoded_records.specs.Past.{Past, names, Each};
+ghost use Rattle.decoded_records.specs.Questions.{question_opened, question_returned, question_returned_lightly, question_finished};
+ghost use Rattle.decoded_records.specs.Loopbacks.{sender_loopback, receiver_loopback};
+ghost use Rattle.decoded_records.specs.Lives.{held, is_in_life, number_introduced};
 ghost use Rattle.vat_view.specs.Sound.{IsSound};
 ghost use Rattle.left_open.specs.Glue.{begun_in, begins_at, begins_from, names_new, IsWatched};
 

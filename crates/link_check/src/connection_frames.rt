@@ -28,7 +28,7 @@ fn received_at(log: &VatLog, connection: u32, index: usize) -> Option<&Bytes>
 /// How many frames a vat sent on the connection.
 pub fn count_sent(log: &VatLog, connection: u32) -> u64
     ensures count { result ≡ length (frames_sent connection log.now) }
-    ensures fits { result + length (frames_received connection log.now) ≤ 1048576 }
+    ensures fits { result + length (frames_received connection log.now) ≤ 4294967295 }
 {
     let mut count = 0;
     for index in 0..log.len() {

@@ -16,11 +16,11 @@ use Rattle.vat_log.specs.Log.{Log}
 use Rattle.vat_log.specs.declared.body.Body.{Body}
 use Rattle.vat_log.specs.declared.body.Body.TheVariants as body
 use Rattle.vat_log.specs.Passages.{passage_of, passes}
-use Rattle.vat_view.specs.declared.record.decoded.DecodedRecord.{DecodedRecord}
-use Rattle.vat_view.specs.declared.record.decoded.DecodedRecord.TheVariants.{Wire}
-use Rattle.vat_view.specs.Decoding.{made_with}
-use Rattle.vat_view.specs.Past.{Past, Point, point, id, names, last_since}
-use Rattle.vat_view.specs.Questions.{opens, releases, is_released, is_late}
+use Rattle.decoded_records.specs.declared.decoded.DecodedRecord.{DecodedRecord}
+use Rattle.decoded_records.specs.declared.decoded.DecodedRecord.TheVariants.{Wire}
+use Rattle.decoded_records.specs.Decoding.{made_with}
+use Rattle.decoded_records.specs.Past.{Past, Point, point, id, names, last_since}
+use Rattle.decoded_records.specs.Questions.{opens, releases, is_released, is_late}
 use Rattle.vat_rules.specs.declared.outcome.Why.{Why}
 use Rattle.vat_rules.specs.Events.{event_of, event_or_none, past_at}
 use Rattle.vat_rules.specs.Audit.{read_as, reads_by, edition_of}

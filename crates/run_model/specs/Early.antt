@@ -30,7 +30,12 @@ early run = early_from (reverse run) [] (reverse run)
 abbrev pub IsAtMost : ℕ × ℕ → ℕ × ℕ → Type 0
 IsAtMost a b = (a.0 < b.0) ⊎ ((a.0 ≡ b.0) × (a.1 ≤ b.1))
 
+-- there are none of these places; or this is the least
+abbrev pub IsLeastOf : List (ℕ × ℕ) → Option (ℕ × ℕ) → Type 0
+IsLeastOf places None = places ≡ []
+IsLeastOf places (Some place) = OneOf (λ p. p ≡ place) places × AllByRecursion (IsAtMost place) places
+
 -- the run is ordered; or this is the least place at which it isn't
 abbrev pub IsOrderFault : List Step → Option (ℕ × ℕ) → Type 0
 IsOrderFault run None = IsOrdered run
-IsOrderFault run (Some place) = OneOf (λ p. p ≡ place) (early run) × AllByRecursion (IsAtMost place) (early run)
+IsOrderFault run (Some place) = IsLeastOf (early run) (Some place)

@@ -1,16 +1,16 @@
 -- What one more moment does to the tables is what it does to the calls that wait.
-use Rattle.std.proofs.Common.{◌≡◌, ℕ, ◌+◌, ◌<◌, ◌≤◌, Bool, true, false, eqb, ltb, List, [], ◌∷◌, length, Option, Some, None, refl, sym, ap, subst, ◌∙◌, arith, inl, inr, ◌⊎◌}
-use Rattle.std.specs.Prelude.{◌&&◌, ◌||◌, not, if◌then◌else◌}
+use Rattle.std.proofs.Common.{◌≡◌, ℕ, ◌<◌, true, false, eqb, ltb, List, [], ◌∷◌, length, Option, Some, None, refl, sym, ap, subst, ◌∙◌, arith, inl, inr}
+use Rattle.std.specs.Prelude.{◌&&◌, if◌then◌else◌}
 use Rattle.std.specs.List.{list_any}
-use Rattle.std.specs.Option.{option_map}
-use Rattle.std.proofs.lemmas.Bool.{eqb-true, eq-eqb, lt-ltb, ltb-true, le-ltb}
-use Rattle.undelivered.specs.Glue.{lesser, least, turn_of, call_at, is_behind, behind, is_waiting, made_of, wait_of, IsRising, AreEmpty, IsMade, lowered, IsTaken, IsDelivered, AreExact, AreSameTables, AreTables}
-use Rattle.undelivered.specs.Order.{PastCalls, AreOnce, makes, delivers, is_made_before, places_of, early, IsFault}
+use Rattle.std.proofs.lemmas.Bool.{eqb-true, eq-eqb, lt-ltb, ltb-true}
+use Rattle.undelivered.specs.Places.{lesser, least}
+use Rattle.undelivered.specs.Glue.{turn_of, call_at, is_behind, behind, is_waiting, made_of, wait_of, IsRising, AreEmpty, IsMade, lowered, IsTaken, IsDelivered, AreExact, AreSameTables, AreTables}
+use Rattle.undelivered.specs.Order.{PastCalls, AreOnce, delivers, is_made_before, places_of, early, IsFault}
 use Rattle.undelivered.specs.declared.moment.Moment.{Moment}
 use Rattle.undelivered.specs.declared.moment.Moment.TheVariants.{Made, Delivered}
 use Rattle.undelivered.specs.declared.tables.Tables.{Tables}
 use Rattle.undelivered.proofs.Places.{Place, split, and_first, and_second, option_split, lesser_swap, least_append, places_same, places_none, least_of_more, none_least, least_means}
-use Rattle.undelivered.proofs.Turns.{same_number, turn_first, turn_second, other_than_new, has_turn, turn_below, call_below, call_is_made, call_of_turn, turn_of_call, delivered_is_made, before_is_behind, not_behind, no_turn}
+use Rattle.undelivered.proofs.Turns.{same_number, turn_first, turn_second, other_than_new, has_turn, call_below, call_of_turn, turn_of_call, delivered_is_made, before_is_behind, not_behind}
 
 abbrev Noted : Type 0
 Noted = Option (Option Place)

@@ -1,10 +1,11 @@
 -- Noting a place for all calls before a turn, from the last of them on.
-use Rattle.std.proofs.Common.{◌≡◌, ℕ, ◌<◌, ◌≤◌, Bool, true, false, cond, eqb, ltb, Option, Some, None, refl, sym, ap, subst, ◌∙◌, arith, inl, inr, ◌⊎◌}
+use Rattle.std.proofs.Common.{◌≡◌, ℕ, ◌<◌, ◌≤◌, Bool, true, false, cond, eqb, ltb, Option, Some, None, refl, sym, ap, subst, ◌∙◌, arith, inl, inr}
 use Rattle.std.specs.Prelude.{◌&&◌, not}
 use Rattle.std.specs.BTreeMap.{get}
 use Rattle.std.specs.Option.{option_map}
 use Rattle.std.proofs.lemmas.Bool.{cases_lt, eqb-true, eq-eqb, lt-ltb, le-ltb}
-use Rattle.undelivered.specs.Glue.{key_cmp, Waits, lesser, has_at_most, IsLastBefore, IsRising}
+use Rattle.undelivered.specs.Places.{lesser, has_at_most}
+use Rattle.undelivered.specs.Glue.{key_cmp, Waits, IsLastBefore, IsRising}
 use Rattle.undelivered.proofs.Places.{Place, split, option_split, has_means, has_not_means, lesser_chain}
 
 abbrev Noted : Type 0

@@ -1,8 +1,8 @@
 -- A run breaks the order of calls just where it does by what it tells of one of its vats.
-use Rattle.std.proofs.Common.{◌≡◌, ◌↔◌, ℕ, suc, Bool, true, false, eqb, List, [], ◌∷◌, ◌++◌, Option, Some, None, refl, sym, ap, subst, ◌∙◌, inl, inr, ◌⊎◌}
+use Rattle.std.proofs.Common.{◌≡◌, ◌↔◌, ℕ, suc, Bool, true, false, eqb, List, [], ◌∷◌, ◌++◌, refl, sym, ap, subst, ◌∙◌, inl, inr, ◌⊎◌}
 use Rattle.std.specs.Prelude.{◌&&◌, ◌||◌, ◌==◌, if◌then◌else◌, is_some, ⊤}
 use Rattle.std.specs.List.{list_any}
-use Rattle.std.proofs.lemmas.Bool.{eqb-true, eq-eqb, or_left, or_right, or_parts, or_from, and_from, false_from_ne_true}
+use Rattle.std.proofs.lemmas.Bool.{eqb-true, eq-eqb, or_left, or_right, or_parts, and_from, false_from_ne_true}
 use Rattle.run_model.specs.Early.{early_from, overtakes}
 use Rattle.run_model.specs.Legal.{IsLegal, begins_call, delivers_call}
 use Rattle.run_model.specs.Links.{IsLinked}
@@ -14,10 +14,9 @@ use Rattle.run_model.specs.declared.step.Step.TheVariants.{Host, Make, Deliver}
 use Rattle.run_model.proofs.Once.{names_same}
 use Rattle.run_model.proofs.Reaching.{each_reaches_object}
 use Rattle.run_model.proofs.Turning.{same_to_itself, clash}
-use Rattle.undelivered.specs.OfRuns.{told_more, moments_of}
+use Rattle.undelivered.specs.OfRuns.{moments_of}
 use Rattle.undelivered.specs.Order as told
 use Rattle.undelivered.specs.Order.{PastCalls, AreOnce, places_of}
-use Rattle.undelivered.specs.declared.moment.Moment.TheVariants.{Made, Delivered}
 use Rattle.undelivered.proofs.Places.{Place, split}
 
 abbrev In : Place → List Place → Type 0

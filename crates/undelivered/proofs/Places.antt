@@ -2,13 +2,12 @@
 use Rattle.std.proofs.Common.{◌≡◌, ℕ, ◌<◌, ◌≤◌, Bool, true, false, eqb, List, [], ◌∷◌, ◌++◌, Option, Some, None, refl, sym, ap, subst, ◌∙◌, arith, inl, inr, ◌⊎◌}
 use Rattle.std.specs.Prelude.{◌&&◌}
 use Rattle.std.specs.List.{AllByRecursion, list_any}
-use Rattle.std.proofs.lemmas.Bool.{cases_lt, eqb-true, eq-eqb}
+use Rattle.std.proofs.lemmas.Bool.{cases_lt, eq-eqb}
 use Rattle.std.proofs.lemmas.Bool.Decides.{nat_tests}
 use Rattle.run_model.specs.Early.{IsAtMost}
 use Rattle.run_model.specs.Steps.{OneOf}
-use Rattle.undelivered.specs.Glue.{is_at_most, has_at_most, lesser, least}
+use Rattle.undelivered.specs.Places.{is_at_most, has_at_most, lesser, least}
 use Rattle.undelivered.specs.Order.{PastCalls, delivers, places_of}
-use Rattle.undelivered.specs.declared.moment.Moment.{Moment}
 use Rattle.undelivered.specs.declared.moment.Moment.TheVariants.{Made, Delivered}
 
 abbrev pub Place : Type 0

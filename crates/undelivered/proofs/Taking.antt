@@ -4,7 +4,8 @@ use Rattle.std.specs.Prelude.{◌&&◌}
 use Rattle.std.specs.BTreeMap.{get, Updates}
 use Rattle.std.specs.Option.{option_map}
 use Rattle.std.specs.Ordering.{nat_cmp}
-use Rattle.undelivered.specs.Glue.{key_cmp, Waits, lesser, made_of, wait_of, IsRising, lowered, IsTaken, IsDelivered}
+use Rattle.undelivered.specs.Places.{lesser}
+use Rattle.undelivered.specs.Glue.{key_cmp, Waits, made_of, wait_of, IsRising, lowered, IsTaken, IsDelivered}
 use Rattle.undelivered.specs.declared.tables.Tables.{Tables}
 use Rattle.undelivered.proofs.Places.{Place, split}
 use Rattle.undelivered.proofs.Keys.{turns_put, waits_put}

@@ -1,12 +1,10 @@
 -- Calls and their turns: of calls that are made and delivered once, each has one turn and each turn one call.
-use Rattle.std.proofs.Common.{◌≡◌, ℕ, suc, ◌+◌, ◌<◌, ◌≤◌, Bool, true, false, eqb, ltb, List, [], ◌∷◌, length, Option, Some, None, refl, sym, ap, subst, ◌∙◌, add-one, arith, inl, inr, ◌⊎◌}
+use Rattle.std.proofs.Common.{◌≡◌, ℕ, ◌<◌, ◌≤◌, Bool, true, false, eqb, ltb, [], ◌∷◌, length, Option, Some, None, refl, sym, ap, subst, ◌∙◌, arith, inl, inr}
 use Rattle.std.specs.Prelude.{◌&&◌, ◌||◌}
 use Rattle.std.specs.List.{list_any}
 use Rattle.std.proofs.lemmas.Bool.{eqb-true, eq-eqb, lt-ltb, le-ltb}
-use Rattle.std.proofs.lemmas.Bool.Decides.{nat_tests}
 use Rattle.undelivered.specs.Glue.{turn_of, call_at, is_behind}
 use Rattle.undelivered.specs.Order.{PastCalls, AreOnce, makes, makes_through, delivers, is_made_before}
-use Rattle.undelivered.specs.declared.moment.Moment.{Moment}
 use Rattle.undelivered.specs.declared.moment.Moment.TheVariants.{Made, Delivered}
 use Rattle.undelivered.proofs.Places.{split}
 

@@ -1,36 +1,14 @@
 -- For the code's contracts, and no part of the meaning: the calls that wait for their delivery, and what is noted of them.
-use Rattle.std.specs.Prelude.{◌≡◌, ℕ, ◌<◌, List, [], ◌∷◌, Bool, true, false, not, Option, Some, None, ◌==◌, ◌&&◌, ◌||◌, nat_lt, nat_le, length, if◌then◌else◌}
+use Rattle.std.specs.Prelude.{◌≡◌, ℕ, ◌<◌, List, [], ◌∷◌, Bool, false, not, Option, Some, None, ◌==◌, ◌&&◌, nat_lt, length, if◌then◌else◌}
 use Rattle.std.specs.BTreeMap.{BTreeMap, get}
 use Rattle.std.specs.List.{list_any}
 use Rattle.std.specs.Option.{option_map}
 use Rattle.std.specs.Ordering.{nat_cmp, ordering_then}
 use Rattle.std.specs.declared.cmp.Ordering.{Ordering}
-use Rattle.undelivered.specs.declared.moment.Moment.{Moment}
 use Rattle.undelivered.specs.declared.moment.Moment.TheVariants.{Made, Delivered}
 use Rattle.undelivered.specs.declared.tables.Tables.{Tables}
+use Rattle.undelivered.specs.Places.{lesser, least}
 use Rattle.undelivered.specs.Order.{PastCalls, delivers, AreOnce, places_of, early}
-
--- ---- places
-
--- by vat, then by number
-unfoldable pub is_at_most : ℕ × ℕ → ℕ × ℕ → Bool
-is_at_most a b = nat_lt a.0 b.0 || ((a.0 == b.0) && nat_le a.1 b.1)
-
--- there is a place, and it is at most this one
-abbrev pub has_at_most : Option (ℕ × ℕ) → ℕ × ℕ → Bool
-has_at_most None place = false
-has_at_most (Some known) place = is_at_most known place
-
--- the lesser of two places, where there are any
-abbrev pub lesser : Option (ℕ × ℕ) → Option (ℕ × ℕ) → Option (ℕ × ℕ)
-lesser None other = other
-lesser (Some a) None = Some a
-lesser (Some a) (Some b) = if is_at_most a b then Some a else Some b
-
--- the least of some
-abbrev pub least : List (ℕ × ℕ) → Option (ℕ × ℕ)
-least [] = None
-least (p ∷ ps) = lesser (Some p) (least ps)
 
 -- ---- turns
 

@@ -1,3 +1,4 @@
+pub mod Places
 pub mod Order
 pub mod OfRuns
 pub mod Glue

@@ -1,5 +1,5 @@
 -- What a run tells of the calls of one vat.
-use Rattle.std.specs.Prelude.{ℕ, List, [], ◌∷◌, ◌==◌, if◌then◌else◌}
+use Rattle.std.specs.Prelude.{ℕ, [], ◌∷◌, ◌==◌, if◌then◌else◌}
 use Rattle.run_model.specs.Steps.{PastSteps, vat_of, count_steps}
 use Rattle.run_model.specs.declared.step.Step.{Step}
 use Rattle.run_model.specs.declared.step.Step.TheVariants.{Make, Deliver}

@@ -1,8 +1,7 @@
 -- Where calls that one vat made through one reference are delivered out of their order.
-use Rattle.std.specs.Prelude.{◌≡◌, ℕ, List, [], ◌∷◌, ◌++◌, Bool, true, false, Option, Some, None, ⊤, ◌==◌, ◌&&◌, ◌||◌, if◌then◌else◌}
-use Rattle.std.specs.List.{list_any, AllByRecursion}
-use Rattle.run_model.specs.Early.{IsAtMost}
-use Rattle.run_model.specs.Steps.{OneOf}
+use Rattle.std.specs.Prelude.{◌≡◌, ℕ, List, [], ◌∷◌, ◌++◌, Bool, true, false, Option, ⊤, ◌==◌, ◌&&◌, ◌||◌, if◌then◌else◌}
+use Rattle.std.specs.List.{list_any}
+use Rattle.run_model.specs.Early.{IsLeastOf}
 use Rattle.undelivered.specs.declared.moment.Moment.{Moment}
 use Rattle.undelivered.specs.declared.moment.Moment.TheVariants.{Made, Delivered}
 
@@ -52,5 +51,4 @@ early (Delivered d place ∷ before) = places_of (λ c. is_made_before d c befor
 
 -- the calls keep their order; or this is the least place where they don't
 abbrev pub IsFault : PastCalls → Option (ℕ × ℕ) → Type 0
-IsFault past None = early past ≡ []
-IsFault past (Some place) = OneOf (λ p. p ≡ place) (early past) × AllByRecursion (IsAtMost place) (early past)
+IsFault past fault = IsLeastOf (early past) fault

@@ -3,7 +3,8 @@
 ghost use Rattle.std.specs.Prelude.{◌≡◌, ◌==◌, ◌&&◌, ℕ, Option, Some, nat_lt, if◌then◌else◌};
 ghost use Rattle.std.specs.BTreeMap.{get};
 ghost use Rattle.std.specs.Option.{option_map};
-ghost use Rattle.undelivered.specs.Glue.{key_cmp, lesser, IsLastBefore, IsRising};
+ghost use Rattle.undelivered.specs.Places.{lesser};
+ghost use Rattle.undelivered.specs.Glue.{key_cmp, IsLastBefore, IsRising};
 
 use crate::place::has_at_most;
 use std::collections::BTreeMap;

@@ -7,3 +7,6 @@ pub mod Runs
 pub mod ReadOn
 pub mod Ends
 pub mod Respelled
+pub mod Moved
+pub mod Windows
+pub mod Streams

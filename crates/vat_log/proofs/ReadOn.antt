@@ -24,23 +24,24 @@ abbrev pub log_given : LogVersion → ℕ → List Body → Log
 log_given version vat given = record { version = version; vat = vat; records = reverse given }
 
 abbrev pub Keeps : List ℕ → LogVersion → ℕ → List Body → ℕ → ℕ → Type 0
-Keeps bytes version vat given count at = (length given ≡ count) × IsReadTo record_limit bytes (log_given version vat given) at
+Keeps bytes version vat given count at = (length given ≡ count) × All (λ octet. octet < 2 ^ 8) bytes × IsReadTo record_limit bytes (log_given version vat given) at
 
 -- one more record behind the others
 pub one_given : (version : LogVersion) (vat : ℕ) (given : List Body) (x : Body) → log_given version vat (x ∷ given) ≡ with_record x (log_given version vat given)
 one_given version vat given x = ap (λ (xs : List Body). record { version = version; vat = vat; records = xs }) (reverse-append (x ∷ []) given)
 
-pub has_room : (bytes : List ℕ) (version : LogVersion) (vat : ℕ) (given : List Body) (count at : ℕ) → Keeps bytes version vat given count at → count < 1048576 → length (reverse given) < record_limit
+pub has_room : (bytes : List ℕ) (version : LogVersion) (vat : ℕ) (given : List Body) (count at : ℕ) → Keeps bytes version vat given count at → count < 4294967295 → length (reverse given) < record_limit
 has_room bytes version vat given count at kept few = omega (arith, kept.0, length-reverse given, limit_is, few)
 
-pub is_full : (bytes : List ℕ) (version : LogVersion) (vat : ℕ) (given : List Body) (count at : ℕ) → Keeps bytes version vat given count at → 1048576 ≤ count → record_limit ≤ length (reverse given)
+pub is_full : (bytes : List ℕ) (version : LogVersion) (vat : ℕ) (given : List Body) (count at : ℕ) → Keeps bytes version vat given count at → 4294967295 ≤ count → record_limit ≤ length (reverse given)
 is_full bytes version vat given count at kept many = omega (arith, kept.0, length-reverse given, limit_is, many)
 
-pub given_on : (bytes : List ℕ) (version : LogVersion) (vat : ℕ) (given : List Body) (count at : ℕ) (kind : RecordKind) (x : Body) (after : ℕ) → Keeps bytes version vat given count at → at < length bytes → count < 1048576
+pub given_on : (bytes : List ℕ) (version : LogVersion) (vat : ℕ) (given : List Body) (count at : ℕ) (kind : RecordKind) (x : Body) (after : ℕ) → Keeps bytes version vat given count at → at < length bytes → count < 4294967295
     → kind_at bytes at ≡ Ok kind → fields_at version kind bytes (at + 1) ≡ Ok (x, after) → Keeps bytes version vat (x ∷ given) (count + 1) after
 given_on bytes version vat given count at kind x after kept lt few k f =
-    let read = read_on bytes (log_given version vat given) at kind x after kept.1 lt (has_room bytes version vat given count at kept few) k f in (
+    let read = read_on bytes (log_given version vat given) at kind x after kept.1 kept.2 lt (has_room bytes version vat given count at kept few) k f in (
       omega (arith, kept.0),
+      kept.1,
       subst (λ (l : Log). IsReadTo record_limit bytes l after) (sym (one_given version vat given x)) read,
     )
 

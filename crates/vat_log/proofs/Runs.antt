@@ -23,7 +23,7 @@ use Rattle.vat_log.proofs.FieldLaws.{u32_field}
 use Rattle.vat_log.proofs.BodyLaws.{FitsWide, fields_again}
 use Rattle.vat_log.proofs.LogLaws.{kind_again, record_takes, begins, version_was, magic_long, version_again}
 
-abbrev Text : LogVersion → List Body → List ℕ
+abbrev pub Text : LogVersion → List Body → List ℕ
 Text version xs = flat_map (record_bytes version) xs
 
 -- ---- what stands at a place
@@ -35,16 +35,16 @@ pub record IsNext (version : LogVersion) (bytes : List ℕ) (at : ℕ) (x : Body
   pub kind : kind_at bytes at ≡ Ok (kind_in x)
   pub fields : fields_at version (kind_in x) bytes (at + 1) ≡ Ok (x, after)
 
-next_at : (version : LogVersion) (bytes : List ℕ) (at : ℕ) (x : Body) (end : ℕ) → FitsWide version x → Spans bytes at (record_bytes version x) end → (at < length bytes) × (kind_at bytes at ≡ Ok (kind_in x)) × (fields_at version (kind_in x) bytes (at + 1) ≡ Ok (x, end))
+pub next_at : (version : LogVersion) (bytes : List ℕ) (at : ℕ) (x : Body) (end : ℕ) → FitsWide version x → Spans bytes at (record_bytes version x) end → (at < length bytes) × (kind_at bytes at ≡ Ok (kind_in x)) × (fields_at version (kind_in x) bytes (at + 1) ≡ Ok (x, end))
 next_at version bytes at x end fit p =
     let code = kind_byte (kind_in x) ∷ [] in
     let k = kind_again bytes at (kind_in x) (at + 1) (Spans-first bytes at code (fields_bytes version x) end p) in
     (k.0, k.1, fields_again version x bytes (at + 1) end fit (Spans-second bytes at code (fields_bytes version x) end p))
 
-abbrev first_end : LogVersion → ℕ → Body → ℕ
+abbrev pub first_end : LogVersion → ℕ → Body → ℕ
 first_end version at x = at + length (record_bytes version x)
 
-first_of : (version : LogVersion) (bytes : List ℕ) (at : ℕ) (x : Body) (xs : List Body) (end : ℕ) → Spans bytes at (Text version (x ∷ xs)) end
+pub first_of : (version : LogVersion) (bytes : List ℕ) (at : ℕ) (x : Body) (xs : List Body) (end : ℕ) → Spans bytes at (Text version (x ∷ xs)) end
     → Spans bytes at (record_bytes version x) (first_end version at x) × Spans bytes (first_end version at x) (Text version xs) end
 first_of version bytes at x xs end p =
     let all : Spans bytes at (record_bytes version x ++ Text version xs) end = rw flat_map-cons at p in
@@ -81,7 +81,7 @@ ahead version bytes (x ∷ xs) (y ∷ ys) at mid end fx fy p q le =
 
 -- ---- logs at the begin of bytes
 
-vat_long : (vat : ℕ) → 8 + length (number_bytes w32 vat) ≡ 12
+pub vat_long : (vat : ℕ) → 8 + length (number_bytes w32 vat) ≡ 12
 unfolding number_bytes
 vat_long vat = refl
 
@@ -119,7 +119,7 @@ stands limit bytes log end fits p =
 abbrev Reads : List ℕ → Log → ℕ → Type 0
 Reads bytes log at = IsReadTo record_limit bytes log at
 
-pub limit_is : record_limit ≡ 1048576
+pub limit_is : record_limit ≡ 4294967295
 unfolding record_limit
 limit_is = refl
 
@@ -142,15 +142,14 @@ more_spelled log x =
     ∙ flat_map_more (record_bytes log.version) (magic ++ vat) log.records x
     ∙ append_assoc magic vat (Text log.version (log.records ++ x ∷ []))
 
-pub read_on : (bytes : List ℕ) (log : Log) (at : ℕ) (kind : RecordKind) (x : Body) (after : ℕ) → Reads bytes log at → at < length bytes → length log.records < record_limit
+pub read_on : (bytes : List ℕ) (log : Log) (at : ℕ) (kind : RecordKind) (x : Body) (after : ℕ) → All (λ octet. octet < 2 ^ 8) bytes → Reads bytes log at → at < length bytes → length log.records < record_limit
     → kind_at bytes at ≡ Ok kind → fields_at log.version kind bytes (at + 1) ≡ Ok (x, after) → Reads bytes (with_record x log) after
-read_on bytes log at kind x after r lt room k f =
+read_on bytes log at kind x after octets r lt room k f =
     let version = log.version in
-    let one = record_takes version bytes (IsBytes-from_all bytes r.octets) at kind (x, after) lt k f in
+    let one = record_takes version bytes (IsBytes-from_all bytes octets) at kind (x, after) lt k f in
     let joined = Spans-join bytes 0 (log_bytes log) at (record_bytes version x) after (read_spans bytes log at r) one.0 in
     let all : Spans bytes 0 (log_bytes (with_record x log)) after = subst (λ (t : List ℕ). Spans bytes 0 t after) (more_spelled log x) joined in
     record {
-      octets = r.octets;
       parts = all.parts;
       places = omega (arith, all.places);
       within = all.within;
@@ -166,7 +165,7 @@ read_on bytes log at kind x after r lt room k f =
       so_far = record_goes_on version bytes log.records record_limit at kind x after (records_at version bytes record_limit 12) lt room k f r.so_far;
     }
 
-nothing_before : (read : Result (List Body) LogError) → (read >>= λ others. Ok ([] ++ others)) ≡ read
+pub nothing_before : (read : Result (List Body) LogError) → (read >>= λ others. Ok ([] ++ others)) ≡ read
 nothing_before (Ok xs) = refl
 nothing_before (Err e) = refl
 
@@ -182,7 +181,6 @@ read_none bytes version vat at octets v n =
     let all : Spans bytes 0 (magic ++ (number_bytes w32 vat ++ [])) at = subst (λ (t : List ℕ). Spans bytes 0 (magic ++ t) at) (sym (append-nil (number_bytes w32 vat))) joined in
     let whole : record_limit - 0 ≡ record_limit = omega arith in
     record {
-      octets = octets;
       parts = all.parts;
       places = omega (arith, all.places);
       within = all.within;

@@ -25,7 +25,7 @@ frame_limit = 67108864
 
 -- how many records a log may have
 unfoldable pub record_limit : ℕ
-record_limit = 1048576
+record_limit = 4294967295
 
 -- No reference is 0, and no call is 0 but the one noted beside a frame, where 0 stands for no call.
 abbrev pub IsNumbered : Body → Type 0

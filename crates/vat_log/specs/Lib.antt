@@ -7,5 +7,7 @@ pub mod Parsed
 pub mod Runs
 pub mod Glue
 pub mod Reader
+pub mod Streams
+pub mod Windows
 pub mod Ends
 pub mod Migrated

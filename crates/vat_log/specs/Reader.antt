@@ -1,5 +1,5 @@
 -- For the code's contracts, and no part of the meaning: how far the bytes of a log were read.
-use Rattle.std.specs.Prelude.{◌≡◌, ℕ, ◌^◌, ◌<◌, ◌≤◌, ◌-◌, List, ◌++◌, length, drop, Option, Some, None, Ok, Err, All}
+use Rattle.std.specs.Prelude.{◌≡◌, ℕ, ◌≤◌, ◌-◌, List, ◌++◌, length, drop, Option, Some, None, Ok, Err}
 use Rattle.std.specs.Int.{w32}
 use Rattle.vat_log.specs.declared.error.LogError.{LogError}
 use Rattle.vat_log.specs.Fits.{LogFits}
@@ -10,7 +10,6 @@ use Rattle.vat_log.specs.Spelling.{log_bytes}
 
 -- The log was read up to this place, and what is left gives the records that follow its own.
 pub record IsReadTo (limit : ℕ) (bytes : List ℕ) (log : Log) (at : ℕ) : Type 0 where
-  pub octets : All (λ octet. octet < 2 ^ 8) bytes
   pub parts : bytes ≡ log_bytes log ++ drop at bytes
   pub places : length (log_bytes log) ≡ at
   pub within : at ≤ length bytes

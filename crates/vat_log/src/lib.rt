@@ -1,11 +1,13 @@
 //! Logs of one vat: their records, and their one spelling in the bytes of each version (docs/FORMATS.md).
 //!
-//! It stands on `bytes`, from which frames are cut without copying, on `cap_frame` for its paths, and on `erased` for the
-//! records that a reader gave. How a log is spelled is said in `specs/Spelling.antt`, how bytes are read and which fault
-//! is first in `specs/Reading.antt`, what a log can hold in `specs/Fits.antt`, and with which logs bytes begin in
-//! `specs/Runs.antt`. [`parse_log`] and [`write_log`] answer exactly what these say, and a [`VatLog`] is what its bytes
-//! spell. A [`LogReader`] gives a log's records one after another and keeps none, behind its [`LogHeader`]. [`salvage_log`]
-//! gives the longest run of whole records, as a [`SpelledLog`], of which the bytes alone are kept.
+//! It stands on `bytes`, from which frames are cut without copying, on `byte_pieces` for logs that come from a file, on
+//! `cap_frame` for its paths, and on `erased` for the records that a reader gave. How a log is spelled is said in
+//! `specs/Spelling.antt`, how bytes are read and which fault is first in `specs/Reading.antt`, what a log can hold in
+//! `specs/Fits.antt`, with which logs bytes begin in `specs/Runs.antt`, and what may be said of bytes of which more may come
+//! in `specs/Streams.antt`. [`parse_log`] and [`write_log`] answer exactly what these say, and a [`VatLog`] is what its bytes
+//! spell. A [`LogReader`] gives a log's records one after another and keeps none, behind its [`LogHeader`]; a [`LogStream`]
+//! does the same where the bytes come in pieces, of which it keeps what isn't read yet. [`salvage_log`] gives the longest run
+//! of whole records, as a [`SpelledLog`], of which the bytes alone are kept.
 //!
 //! All three versions are read. Version 2 is written, or version 3 where a runtime speaks the later edition of rpc.capnp
 //! ([`write_later_log`], [`LogWriter::later`]). [`migrate`] makes a version 2 log of one of version 1, and [`raise`] a
@@ -20,9 +22,11 @@ mod kind;
 mod laws;
 mod limits;
 mod log;
+mod log_stream;
 mod migrating;
 mod passage;
 mod passing;
+mod read_fault;
 mod reader;
 mod reading;
 mod record;
@@ -37,7 +41,9 @@ pub use error::LogError;
 pub use header::LogHeader;
 pub use laws::{one_spelling, runs_of_one_log};
 pub use log::{Salvaged, VatLog, migrate, parse_log, raise, salvage_log};
+pub use log_stream::LogStream;
 pub use migrating::{migrate_bytes, raise_bytes};
+pub use read_fault::ReadFault;
 pub use reader::LogReader;
 pub use record::Record;
 pub use spelled_log::SpelledLog;

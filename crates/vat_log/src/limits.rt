@@ -7,4 +7,4 @@ pub(crate) const MAX_COUNT: usize = 1_048_576;
 pub(crate) const MAX_FRAME: usize = 67_108_864;
 
 /// Records in one log.
-pub(crate) const MAX_RECORDS: usize = 1_048_576;
+pub(crate) const MAX_RECORDS: usize = 4_294_967_295;

@@ -85,10 +85,10 @@ impl VatLog {
         }
     }
 
-    /// How many records there are, 1,048,576 at most.
+    /// How many records there are, 4,294,967,295 at most.
     pub fn len(&self) -> usize
         ensures value { result ≡ length self.now.records }
-        ensures bound { result ≤ 1048576 }
+        ensures bound { result ≤ 4294967295 }
     {
         self.records.len()
     }
@@ -138,7 +138,7 @@ fn records_left(
 /// # Errors
 ///
 /// The first fault from the left: `BadMagic`, `Short`, `BadKind` and `ZeroNumber` with the offset of the field,
-/// `TooLong` at a record past 1,048,576, at a count above that, or at a frame above 67,108,864 bytes; or `OutOfMemory`,
+/// `TooLong` at a record past 4,294,967,295, at a count above 1,048,576, or at a frame above 67,108,864 bytes; or `OutOfMemory`,
 /// where a growth was refused.
 pub fn parse_log(alloc: Global, bytes: Bytes) -> Result<VatLog, LogError>
     // Which log, or which fault.

@@ -11,8 +11,6 @@ use crate::body::Body;
 use crate::error::LogError;
 use crate::fields::u32_at;
 use crate::header::LogHeader;
-use crate::kind::read_kind;
-use crate::limits::MAX_RECORDS;
 use crate::record::Record;
 use crate::spelled_log::SpelledLog;
 use crate::version::{LogVersion, read_version};
@@ -35,7 +33,7 @@ pub struct LogReader {
 }
 
 impl Model for LogReader {
-    ghost use Rattle.std.specs.Prelude.{◌≡◌, length, reverse};
+    ghost use Rattle.std.specs.Prelude.{◌≡◌, ◌<◌, ◌^◌, All, length, reverse};
     ghost use Rattle.vat_log.specs.Fits.{record_limit};
     ghost use Rattle.vat_log.specs.Reader.{IsReadTo};
     ghost use Rattle.vat_log.specs.Runs.{ReadSoFar};
@@ -48,6 +46,7 @@ impl Model for LogReader {
     } };
 
     ghost invariant = { λ reader. (length reader.given.items ≡ reader.count)
+        × All (λ octet. octet < 2 ^ 8) reader.bytes
         × IsReadTo record_limit reader.bytes
         (record { version = reader.version; vat = reader.vat; records = reverse reader.given.items }) reader.at };
 }
@@ -110,7 +109,7 @@ impl LogReader {
         }
     }
 
-    /// How many records were given so far, 1,048,576 at most.
+    /// How many records were given so far, 4,294,967,295 at most.
     pub fn given(&self) -> usize
         ensures { result ≡ length self.now.log.records }
     {
@@ -138,11 +137,7 @@ impl LogReader {
         if self.at >= self.bytes.len() {
             return Ok(None);
         }
-        let kind = read_kind(self.bytes.as_slice(), self.at)?;
-        if self.count >= MAX_RECORDS {
-            return Err(LogError::TooLong);
-        }
-        let (entry, after) = Record::read(alloc, self.version, kind, &self.bytes, self.at + 1)?;
+        let (entry, after) = Record::next(alloc, self.version, self.count, &self.bytes, self.at)?;
         self.at = after;
         self.count += 1;
         self.given = self.given.with(entry.body());

@@ -6,11 +6,12 @@ ghost use Rattle.vat_log.specs.Ends.{EndsWith};
 ghost use Rattle.vat_log.specs.Log.{written_version};
 ghost use Rattle.vat_log.specs.Reading.{GivesInMemory, fields_at};
 ghost use Rattle.vat_log.specs.Spelling.{record_bytes};
+ghost use Rattle.vat_log.specs.Windows.{record_at};
 
 use crate::body::{Body, References, ResultReferences};
 use crate::error::LogError;
-use crate::kind::RecordKind;
-use crate::limits::{MAX_COUNT, MAX_FRAME};
+use crate::kind::{RecordKind, read_kind};
+use crate::limits::{MAX_COUNT, MAX_FRAME, MAX_RECORDS};
 use crate::reading::body_of;
 use crate::version::LogVersion;
 use bytes::Bytes;
@@ -65,7 +66,30 @@ impl Record {
         Ok(Record { body })
     }
 
+    /// The record that begins at this place, where so many stand in front of it, and the place after it.
+    #[tactic(auto, unfolding(crate::specs::Windows::record_at, crate::specs::Fits::record_limit))]
+    #[inline]
+    pub(crate) fn next(
+        alloc: Global,
+        version: LogVersion,
+        count: usize,
+        bytes: &Bytes,
+        at: usize,
+    ) -> Result<(Record, usize), LogError>
+        requires octets { All (λ octet. octet < 2 ^ 8) bytes.now }
+        requires before_end { at < length bytes.now }
+        ensures gives { GivesInMemory (λ x. (x.0, x.1)) result (record_at version count bytes.now at) }
+        ensures within { IfOk result (λ x. x.1 ≤ length bytes.now) }
+    {
+        let kind = read_kind(bytes.as_slice(), at)?;
+        if count >= MAX_RECORDS {
+            return Err(LogError::TooLong);
+        }
+        Record::read(alloc, version, kind, bytes, at + 1)
+    }
+
     /// The record of this kind whose fields begin at this place, and the place after them.
+    #[inline(never)]
     pub(crate) fn read(
         alloc: Global,
         version: LogVersion,

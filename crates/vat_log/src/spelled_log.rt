@@ -67,10 +67,10 @@ impl SpelledLog {
         self.header.vat
     }
 
-    /// How many records there are, 1,048,576 at most.
+    /// How many records there are, 4,294,967,295 at most.
     pub fn len(&self) -> usize
         ensures value { result ≡ length self.now.records }
-        ensures bound { result ≤ 1048576 }
+        ensures bound { result ≤ 4294967295 }
     {
         self.count
     }

@@ -107,7 +107,7 @@ fn store_lent(
 ///
 /// # Errors
 ///
-/// `TooLong` where there are more than 1,048,576 records; or `OutOfMemory`, where a growth was refused.
+/// `TooLong` where there are more than 4,294,967,295 records; or `OutOfMemory`, where a growth was refused.
 pub fn write_log(alloc: Global, vat: u32, records: &[Record]) -> Result<VatLog, LogError>
     // Which log, or that there are too many records.
     ensures exact { GivesInMemory (λ log. log) result
@@ -123,7 +123,7 @@ pub fn write_log(alloc: Global, vat: u32, records: &[Record]) -> Result<VatLog, 
 ///
 /// # Errors
 ///
-/// `TooLong` where there are more than 1,048,576 records; or `OutOfMemory`, where a growth was refused.
+/// `TooLong` where there are more than 4,294,967,295 records; or `OutOfMemory`, where a growth was refused.
 pub fn write_lent_log(alloc: Global, vat: u32, records: &[&Record]) -> Result<VatLog, LogError>
     // Which log, or that there are too many records.
     ensures exact { GivesInMemory (λ log. log) result
@@ -144,7 +144,7 @@ pub fn write_lent_log(alloc: Global, vat: u32, records: &[&Record]) -> Result<Va
 ///
 /// # Errors
 ///
-/// `TooLong` where there are more than 1,048,576 records; or `OutOfMemory`, where a growth was refused.
+/// `TooLong` where there are more than 4,294,967,295 records; or `OutOfMemory`, where a growth was refused.
 pub fn write_later_log(alloc: Global, vat: u32, records: &[Record]) -> Result<VatLog, LogError>
     // Which log, or that there are too many records.
     ensures exact { GivesInMemory (λ log. log) result
@@ -160,7 +160,7 @@ pub fn write_later_log(alloc: Global, vat: u32, records: &[Record]) -> Result<Va
 ///
 /// # Errors
 ///
-/// `TooLong` where there are more than 1,048,576 records; or `OutOfMemory`, where a growth was refused.
+/// `TooLong` where there are more than 4,294,967,295 records; or `OutOfMemory`, where a growth was refused.
 pub fn write_lent_later_log(
     alloc: Global,
     vat: u32,

@@ -70,7 +70,7 @@ impl LogWriter {
     ///
     /// # Errors
     ///
-    /// `TooLong` where the log has 1,048,576 records; or `OutOfMemory`, where a growth was refused.
+    /// `TooLong` where the log has 4,294,967,295 records; or `OutOfMemory`, where a growth was refused.
     #[tactic(auto, unfolding(crate::specs::Fits::record_limit))]
     pub fn push(&mut self, entry: Record) -> Result<(), (LogError, Record)>
         ensures vat { self.new.vat ≡ self.old.vat }

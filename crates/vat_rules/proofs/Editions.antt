@@ -14,10 +14,10 @@ use Rattle.vat_log.specs.declared.version.LogVersion.{LogVersion}
 use Rattle.vat_log.specs.declared.version.LogVersion.TheVariants.{One, Two, Three}
 use Rattle.vat_log.specs.declared.body.Body.{Body}
 use Rattle.vat_log.specs.declared.body.Body.TheVariants as body
-use Rattle.vat_view.specs.declared.record.table_key.TableKey.{TableKey}
-use Rattle.vat_view.specs.Past.{Past, point, id, is, names, last_since}
-use Rattle.vat_view.specs.Questions.{opens, opening, call_at, call_of, question_returned_lightly, returns_lightly, is_returned_lightly}
-use Rattle.vat_view.specs.Views.{view_of_target}
+use Rattle.decoded_records.specs.declared.table_key.TableKey.{TableKey}
+use Rattle.decoded_records.specs.Past.{Past, point, id, is, names, last_since}
+use Rattle.decoded_records.specs.Questions.{opens, opening, call_at, call_of, question_returned_lightly, returns_lightly, is_returned_lightly}
+use Rattle.decoded_records.specs.Views.{view_of_target}
 use Rattle.vat_view.specs.Connections.{abort_sent_on, aborts, is_aborted, is_aborted_here, reached_over, is_another, is_elsewhere, LeadsElsewhere}
 use Rattle.vat_rules.specs.declared.rule.Rule.TheVariants as rule
 use Rattle.vat_rules.specs.declared.outcome.Why.{Why}
@@ -28,7 +28,7 @@ use Rattle.vat_rules.specs.OfConnections.{IsOpen, KeepsEmbargo}
 use Rattle.vat_rules.specs.OfResults.{ReturnsTaken, ReturnsKnown}
 use Rattle.vat_rules.specs.LogFacts.{Told}
 use Rattle.vat_rules.specs.Events.{Reader, event_of, event_or_none, events_before, past_at}
-use Rattle.vat_view.specs.Decoding.{made_with}
+use Rattle.decoded_records.specs.Decoding.{made_with}
 use Rattle.vat_rules.specs.Telling.{entries_back, is_delivery, told_of}
 use Rattle.vat_rules.specs.First.{AllGood, IsFirst}
 use Rattle.vat_rules.specs.Audit.{read_as, why_of, reads_by, reads_within, edition_of_version, edition_of, IsTrueOf}

@@ -10,7 +10,7 @@ use Rattle.vat_log.specs.declared.body.Body.{Body}
 use Rattle.vat_rules.specs.Types.{Edition, DecodedRecord}
 use Rattle.vat_rules.specs.declared.outcome.Outcome.TheVariants.{Good, Broken}
 use Rattle.vat_rules.specs.declared.rule.Rule.{Rule}
-use Rattle.vat_view.specs.Past.{Past}
+use Rattle.decoded_records.specs.Past.{Past}
 use Rattle.vat_rules.specs.Rules.{rules}
 use Rattle.vat_rules.specs.LogFacts.{Entry, Told}
 use Rattle.vat_rules.specs.Events.{Reader, event_of, event_or_none, events_before, past_at}

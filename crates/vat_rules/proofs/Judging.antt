@@ -1,11 +1,11 @@
 -- A record that meets each rule.
 use Rattle.std.proofs.Common.{refl}
 use Rattle.vat_rules.specs.Types.{Edition, DecodedRecord, Host, Vow, Fulfil, Break, Make, Field, Deliver, Answer, AnswerBy, Fault, Wire}
-use Rattle.vat_view.specs.Past.{Past}
+use Rattle.decoded_records.specs.Past.{Past}
 use Rattle.vat_rules.specs.declared.rule.Rule.{Rule}
 use Rattle.vat_rules.specs.declared.rule.Rule.TheVariants as rule
 use Rattle.std.specs.Prelude.{true, false}
-use Rattle.vat_view.specs.Bindings.{NotesEach}
+use Rattle.decoded_records.specs.Bindings.{NotesEach}
 use Rattle.vat_rules.specs.Rules.{Meets}
 use Rattle.vat_rules.specs.OfCaps.{Describes, BindsEach}
 use Rattle.vat_rules.specs.Judged.{IsGoodBy}

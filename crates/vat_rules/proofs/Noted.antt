@@ -2,9 +2,9 @@
 use Rattle.std.proofs.Common.{◌≡◌, ℕ, List, ◌++◌, map, refl, sym, subst, Bool, true, false, Option}
 use Rattle.std.proofs.lemmas.List.{append-nil}
 use Rattle.std.specs.Prelude.{Result, IfOk}
-use Rattle.vat_view.specs.Past.{Past}
-use Rattle.vat_view.specs.Views.{view_of_reference}
-use Rattle.vat_view.specs.Bindings.{new_references, named_references}
+use Rattle.decoded_records.specs.Past.{Past}
+use Rattle.decoded_records.specs.Views.{view_of_reference}
+use Rattle.decoded_records.specs.Bindings.{new_references, named_references}
 use Rattle.vat_rules.specs.Types.{RpcMessage, DecodedRecord, Wire, View}
 
 all_noted : (sent : Bool) (k c : ℕ) (rs : List ℕ) (m : RpcMessage) → new_references (Wire sent k c rs m) ++ named_references (Wire sent k c rs m) ≡ rs

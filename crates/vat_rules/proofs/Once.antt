@@ -10,19 +10,19 @@ use Rattle.vat_rules.specs.Judged.{IsGood}
 use Rattle.vat_rules.specs.OfCalls.{distinct_paths}
 use Rattle.vat_rules.specs.OfPromises.{IsUnkept, is_unresolved}
 use Rattle.vat_rules.proofs.Judging.{good_sound}
-use Rattle.vat_view.specs.declared.request.Request.{Request}
-use Rattle.vat_view.specs.declared.record.table_key.TableKey.{TableKey}
-use Rattle.vat_view.specs.Past.{Past, point, id, is, names, same_id, last_answer, last_where, last_since, Each}
-use Rattle.vat_view.specs.Questions.{opens, opening, call_at, returns, is_opened, is_returned, return_of}
-use Rattle.vat_view.specs.Uses.{UsesQuestions}
-use Rattle.vat_view.specs.Views.{view_of_reference, view_of_target}
-use Rattle.vat_view.specs.Calls.{moves, delivers, boots, settles, has_passed, is_at_vat, is_served, is_settled}
-use Rattle.vat_view.specs.Bindings.{new_calls, contains, is_bound_call}
+use Rattle.decoded_records.specs.declared.request.Request.{Request}
+use Rattle.decoded_records.specs.declared.table_key.TableKey.{TableKey}
+use Rattle.decoded_records.specs.Past.{Past, point, id, is, names, same_id, last_answer, last_where, last_since, Each}
+use Rattle.decoded_records.specs.Questions.{opens, opening, call_at, returns, is_opened, is_returned, return_of}
+use Rattle.decoded_records.specs.Uses.{UsesQuestions}
+use Rattle.decoded_records.specs.Views.{view_of_reference, view_of_target}
+use Rattle.decoded_records.specs.Calls.{moves, delivers, boots, settles, has_passed, is_at_vat, is_served, is_settled}
+use Rattle.decoded_records.specs.Bindings.{new_calls, contains, is_bound_call}
 use Rattle.vat_view.specs.Sound.{IsSound}
-use Rattle.vat_view.specs.Lives.{birth, begins, began_promised, promise_resolved, is_in_life, is_resolved}
+use Rattle.decoded_records.specs.Lives.{birth, begins, began_promised, promise_resolved, is_in_life, is_resolved}
 use Rattle.vat_view.specs.Walks.{Next, stays, is_promise, keeps, resolves, answers, next, TurnsOnce}
 use Rattle.vat_view.specs.Laws.{EachAfter}
-use Rattle.vat_view.proofs.Naming.{same_id_is, same_id_self, names_is}
+use Rattle.decoded_records.proofs.Naming.{same_id_is, same_id_self, names_is}
 use Rattle.vat_view.proofs.Unbound.{unknown, IsUnknown}
 use Rattle.vat_view.proofs.Unresolved.{resolve_turns_once}
 

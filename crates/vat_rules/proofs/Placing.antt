@@ -2,7 +2,7 @@
 use Rattle.std.proofs.Common.{◌≡◌, ◌<◌, ℕ, ◌+◌, List, [], ◌∷◌, ◌++◌, length, take, get_or, refl, sym, ◌∙◌, ap, arith}
 use Rattle.std.proofs.lemmas.List.{take_more, length-take-le, append-nil}
 use Rattle.vat_rules.specs.Types.{Descriptor, NoCap}
-use Rattle.vat_view.specs.Views.{places_from}
+use Rattle.decoded_records.specs.Views.{places_from}
 
 -- the places of two tables, one after the other
 places_both : (k : ℕ) (xs ys : List Descriptor) → places_from k (xs ++ ys) ≡ (places_from k xs ++ places_from (k + length xs) ys)

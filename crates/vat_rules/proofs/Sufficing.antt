@@ -3,12 +3,12 @@ use Rattle.std.proofs.Common.{◌≡◌, inl, inr, ◌≤◌, ℕ, List, [], ◌
 use Rattle.std.proofs.lemmas.Bool.{false≢true}
 use Rattle.std.specs.Prelude.{IsTrue, not, ◌||◌}
 use Rattle.std.specs.List.{AllByRecursion, filter, filter_map, list_all, zip}
-use Rattle.vat_view.specs.Past.{Past}
-use Rattle.vat_view.specs.Questions.{is_late, is_unfinished}
-use Rattle.vat_view.specs.Lives.{descriptors, is_in_life, keeps_kind}
-use Rattle.vat_view.specs.Uses.{question_described, number_described}
-use Rattle.vat_view.specs.Views.{places, places_from, references}
-use Rattle.vat_view.specs.Bindings.{Refers, NotesEach}
+use Rattle.decoded_records.specs.Past.{Past}
+use Rattle.decoded_records.specs.Questions.{is_late, is_unfinished}
+use Rattle.decoded_records.specs.Lives.{descriptors, is_in_life, keeps_kind}
+use Rattle.decoded_records.specs.Uses.{question_described, number_described}
+use Rattle.decoded_records.specs.Views.{places, places_from, references}
+use Rattle.decoded_records.specs.Bindings.{Refers, NotesEach}
 use Rattle.vat_rules.specs.Types.{Edition, RpcMessage, Bootstrap, Call, Return, Finish, Resolve, Release, Disembargo, Abort, DecodedRecord, Fulfil, Break, Deliver, Answer, AnswerBy, Fault, Wire}
 use Rattle.vat_rules.specs.declared.rule.Rule.{Rule}
 use Rattle.vat_rules.specs.declared.rule.Rule.TheVariants as rule

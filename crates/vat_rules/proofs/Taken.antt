@@ -2,7 +2,7 @@
 use Rattle.std.proofs.Common.{◌≡◌, ℕ, ◌+◌, ◌<◌, List, [], ◌∷◌, ◌++◌, sym, ◌∙◌, ap}
 use Rattle.std.specs.Prelude.{Some, Err, slice_get, reverse}
 use Rattle.vat_log.specs.declared.body.Body.{Body}
-use Rattle.vat_view.specs.Past.{Past}
+use Rattle.decoded_records.specs.Past.{Past}
 use Rattle.vat_rules.specs.Types.{Edition, DecodedRecord}
 use Rattle.vat_rules.specs.LogFacts.{Entry}
 use Rattle.vat_rules.specs.declared.taking.Refusal.{Refusal}

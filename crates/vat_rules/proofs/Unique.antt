@@ -9,7 +9,7 @@ use Rattle.vat_rules.specs.declared.rule.Rule.{Rule}
 use Rattle.vat_rules.specs.declared.outcome.Why.{Why}
 use Rattle.vat_rules.specs.declared.outcome.Outcome.{Outcome}
 use Rattle.vat_rules.specs.declared.outcome.Outcome.TheVariants.{Good, Broken, Outside}
-use Rattle.vat_view.specs.Past.{Past}
+use Rattle.decoded_records.specs.Past.{Past}
 use Rattle.vat_rules.specs.Rules.{rules}
 use Rattle.vat_rules.specs.Events.{Reader, event_of, past_at}
 use Rattle.vat_rules.specs.First.{IsReadAs, IsGoodAt, AllGood, IsFirst}

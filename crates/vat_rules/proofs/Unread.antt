@@ -9,7 +9,7 @@ use Rattle.rpc_view.specs.declared.view_error.ViewError.{ViewError}
 use Rattle.rpc_view.specs.declared.view_error.ViewError.TheVariants as errors
 use Rattle.vat_log.specs.declared.body.Body.{Body}
 use Rattle.vat_log.specs.declared.body.Body.TheVariants as body
-use Rattle.vat_view.specs.Decoding.{made_with, decoded_by}
+use Rattle.decoded_records.specs.Decoding.{made_with, decoded_by}
 use Rattle.vat_rules.specs.Types.{Edition, DecodedRecord, Wire}
 use Rattle.vat_rules.specs.declared.outcome.Why.{Why}
 use Rattle.vat_rules.specs.Events.{event_of}

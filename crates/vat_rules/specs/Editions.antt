@@ -2,9 +2,9 @@
 use Rattle.std.specs.Prelude.{◌≡◌, ℕ, false}
 use Rattle.cap_reader.specs.declared.limits.Limits.{Limits}
 use Rattle.vat_log.specs.Log.{Log}
-use Rattle.vat_view.specs.declared.record.table_key.TableKey.{TableKey}
-use Rattle.vat_view.specs.Past.{Past}
-use Rattle.vat_view.specs.Questions.{is_returned_lightly}
+use Rattle.decoded_records.specs.declared.table_key.TableKey.{TableKey}
+use Rattle.decoded_records.specs.Past.{Past}
+use Rattle.decoded_records.specs.Questions.{is_returned_lightly}
 use Rattle.vat_rules.specs.declared.outcome.Outcome.TheVariants.{Good}
 use Rattle.vat_rules.specs.Types.{First, Later, DecodedRecord}
 use Rattle.vat_rules.specs.LogFacts.{Told}

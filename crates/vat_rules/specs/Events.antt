@@ -3,8 +3,8 @@ use Rattle.std.specs.Prelude.{ℕ, List, take, reverse, Option, Some, None, Resu
 use Rattle.std.specs.List.{filter_map}
 use Rattle.vat_log.specs.declared.body.Body.{Body}
 use Rattle.vat_rules.specs.Types.{RpcMessage, DecodedRecord}
-use Rattle.vat_view.specs.Decoding.{decoded_by}
-use Rattle.vat_view.specs.Past.{Past}
+use Rattle.decoded_records.specs.Decoding.{decoded_by}
+use Rattle.decoded_records.specs.Past.{Past}
 use Rattle.vat_rules.specs.declared.outcome.Why.{Why}
 
 -- how frames are read: a frame's message, or why it is outside

@@ -2,7 +2,7 @@
 use Rattle.std.specs.Prelude.{◌≡◌, ◌⊎◌, List, [], ◌∷◌}
 use Rattle.vat_rules.specs.declared.rule.Rule.{Rule}
 use Rattle.vat_rules.specs.Types.{Edition, Later, DecodedRecord}
-use Rattle.vat_view.specs.Past.{Past}
+use Rattle.decoded_records.specs.Past.{Past}
 use Rattle.vat_rules.specs.Rules.{Meets}
 
 -- a record is good by an edition where every rule holds

@@ -3,9 +3,9 @@ use Rattle.std.specs.Prelude.{◌≡◌, ℕ, List, [], ◌∷◌, Bool, true, n
 use Rattle.std.specs.List.{list_any}
 use Rattle.std.specs.Str.{bytes_eq as same_path}
 use Rattle.vat_rules.specs.Types.{Call, DecodedRecord, Host, Vow, Fulfil, Break, Make, Field, Deliver, Answer, AnswerBy, Fault, Wire, Object}
-use Rattle.vat_view.specs.Past.{Past}
-use Rattle.vat_view.specs.Views.{view_of_target}
-use Rattle.vat_view.specs.Calls.{request_of, goal_of, is_at_vat, is_served, is_settled}
+use Rattle.decoded_records.specs.Past.{Past}
+use Rattle.decoded_records.specs.Views.{view_of_target}
+use Rattle.decoded_records.specs.Calls.{request_of, goal_of, is_at_vat, is_served, is_settled}
 use Rattle.vat_rules.specs.Ways.{LeadsTo}
 
 -- (this project's own: a call that was passed on or delivered has gone)

@@ -2,12 +2,12 @@
 use Rattle.std.specs.Prelude.{◌≡◌, ℕ, [], Bool, true, false, Option, Some, None, IsTrue, slice_get}
 use Rattle.std.specs.List.{AllByRecursion}
 use Rattle.vat_rules.specs.Types.{Descriptor, NoCap, SenderHosted, Return, DecodedRecord, Wire, View, Object, Import}
-use Rattle.vat_view.specs.Past.{Past}
+use Rattle.decoded_records.specs.Past.{Past}
 use Rattle.vat_view.specs.Arrivals.{came_hosted}
-use Rattle.vat_view.specs.Questions.{is_late}
-use Rattle.vat_view.specs.Lives.{descriptors, KeepsKinds}
-use Rattle.vat_view.specs.Views.{references, placed_references, view_of_reference, view_of_descriptor}
-use Rattle.vat_view.specs.Bindings.{NotesEach}
+use Rattle.decoded_records.specs.Questions.{is_late}
+use Rattle.decoded_records.specs.Lives.{descriptors, KeepsKinds}
+use Rattle.decoded_records.specs.Views.{references, placed_references, view_of_reference, view_of_descriptor}
+use Rattle.decoded_records.specs.Bindings.{NotesEach}
 use Rattle.vat_rules.specs.Ways.{LeadsTo, EndsIn}
 
 -- a frame went out

@@ -1,9 +1,9 @@
 -- The rules on a connection as a whole: when it has ended, and when an embargo may be asked for and lifted.
 use Rattle.std.specs.Prelude.{true, false, not, is_some, IsTrue, IsSomeAnd, ⊤}
 use Rattle.vat_rules.specs.Types.{Edition, Later, Abort, Sender, Receiver, Disembargo, DecodedRecord, Wire}
-use Rattle.vat_view.specs.Past.{Past, id}
-use Rattle.vat_view.specs.Views.{view_of_target}
-use Rattle.vat_view.specs.Loopbacks.{loopback_of, embargoed_view, IsHeldUp}
+use Rattle.decoded_records.specs.Past.{Past, id}
+use Rattle.decoded_records.specs.Views.{view_of_target}
+use Rattle.decoded_records.specs.Loopbacks.{loopback_of, embargoed_view, IsHeldUp}
 use Rattle.vat_view.specs.Connections.{is_aborted, is_aborted_here, LeadsOver, LeadsElsewhere}
 use Rattle.vat_rules.specs.Ways.{LeadsTo}
 

@@ -1,10 +1,10 @@
 -- The rules on promises: own ones, which are kept or broken once, and those sent or received, which are resolved once.
 use Rattle.std.specs.Prelude.{◌≡◌, Bool, true, false, not, ◌&&◌, ◌||◌, Option, Some, IsTrue, slice_get, option_map, unwrap_or, ⊤}
 use Rattle.vat_rules.specs.Types.{Resolve, DecodedRecord, Fulfil, Break, Wire, View, Promise}
-use Rattle.vat_view.specs.declared.record.table_key.TableKey.{TableKey}
-use Rattle.vat_view.specs.Past.{Past, id}
-use Rattle.vat_view.specs.Lives.{birth, began_promised, descriptors, is_in_life, is_resolved}
-use Rattle.vat_view.specs.Views.{view_of_reference, view_of_number, view_of_descriptor}
+use Rattle.decoded_records.specs.declared.table_key.TableKey.{TableKey}
+use Rattle.decoded_records.specs.Past.{Past, id}
+use Rattle.decoded_records.specs.Lives.{birth, began_promised, descriptors, is_in_life, is_resolved}
+use Rattle.decoded_records.specs.Views.{view_of_reference, view_of_number, view_of_descriptor}
 use Rattle.vat_view.specs.Walks.{next, stays}
 use Rattle.vat_rules.specs.Ways.{LeadsOnTo}
 use Rattle.vat_rules.specs.OfCaps.{is_cap_at}

@@ -2,11 +2,11 @@
 use Rattle.std.specs.Prelude.{◌≡◌, ◌⊎◌, ℕ, List, true, false, Option, Some, IsTrue, IsFalse, IsSomeAnd, slice_get, ⊤}
 use Rattle.std.specs.List.{AllByRecursion}
 use Rattle.vat_rules.specs.Types.{Edition, First, Later, Results, Exception, Canceled, Elsewhere, TakeFrom, Bootstrap, Call, Return, Finish, Resolve, Release, Disembargo, Abort, DecodedRecord, Host, Vow, Fulfil, Break, Make, Field, Deliver, Answer, AnswerBy, Fault, Wire, FieldOf}
-use Rattle.vat_view.specs.Past.{Past, id}
-use Rattle.vat_view.specs.Questions.{is_finished, is_late, is_tail, opening, call_at, call_of}
-use Rattle.vat_view.specs.Lives.{descriptors}
-use Rattle.vat_view.specs.Views.{view_of_descriptor}
-use Rattle.vat_view.specs.Calls.{is_known, answered_by}
+use Rattle.decoded_records.specs.Past.{Past, id}
+use Rattle.decoded_records.specs.Questions.{is_finished, is_late, is_tail, opening, call_at, call_of}
+use Rattle.decoded_records.specs.Lives.{descriptors}
+use Rattle.decoded_records.specs.Views.{view_of_descriptor}
+use Rattle.decoded_records.specs.Calls.{is_known, answered_by}
 use Rattle.vat_rules.specs.Ways.{LeadsOnTo}
 use Rattle.vat_rules.specs.OfCaps.{is_cap_at}
 

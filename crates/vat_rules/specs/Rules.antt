@@ -1,10 +1,10 @@
 -- The rules, each by its name, in the order in which they are tried.
 use Rattle.std.specs.Prelude.{List, [], ◌∷◌}
 use Rattle.vat_rules.specs.Types.{Edition, DecodedRecord}
-use Rattle.vat_view.specs.Past.{Past}
-use Rattle.vat_view.specs.Lives.{GivesBackHeld}
-use Rattle.vat_view.specs.Uses.{OpensFree, UsesQuestions, UsesNumbers}
-use Rattle.vat_view.specs.Bindings.{Refers}
+use Rattle.decoded_records.specs.Past.{Past}
+use Rattle.decoded_records.specs.Lives.{GivesBackHeld}
+use Rattle.decoded_records.specs.Uses.{OpensFree, UsesQuestions, UsesNumbers}
+use Rattle.decoded_records.specs.Bindings.{Refers}
 use Rattle.vat_rules.specs.declared.rule.Rule.{Rule}
 use Rattle.vat_rules.specs.declared.rule.Rule.TheVariants as rule
 use Rattle.vat_rules.specs.OfCalls.{IsHere, GoesToGoal, MayAnswer}

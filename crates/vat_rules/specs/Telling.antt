@@ -3,12 +3,12 @@ use Rattle.std.specs.Prelude.{List, [], ◌∷◌, ◌++◌, map, reverse, lengt
 use Rattle.std.specs.Option.{option_or}
 use Rattle.vat_log.specs.declared.body.Body.{Body}
 use Rattle.vat_rules.specs.Types.{DecodedRecord, Deliver, View}
-use Rattle.vat_view.specs.Past.{Past}
-use Rattle.vat_view.specs.Questions.{question_returned, question_finished, question_taken, is_late}
-use Rattle.vat_view.specs.Lives.{promise_resolved}
-use Rattle.vat_view.specs.Uses.{number_released}
-use Rattle.vat_view.specs.Views.{field_view, view_of_reference, view_of_number, view_of_target, views_of_descriptors}
-use Rattle.vat_view.specs.Bindings.{new_references, named_references}
+use Rattle.decoded_records.specs.Past.{Past}
+use Rattle.decoded_records.specs.Questions.{question_returned, question_finished, question_taken, is_late}
+use Rattle.decoded_records.specs.Lives.{promise_resolved}
+use Rattle.decoded_records.specs.Uses.{number_released}
+use Rattle.decoded_records.specs.Views.{field_view, view_of_reference, view_of_number, view_of_target, views_of_descriptors}
+use Rattle.decoded_records.specs.Bindings.{new_references, named_references}
 use Rattle.vat_rules.specs.LogFacts.{Facts, Entry, Told}
 use Rattle.vat_rules.specs.Events.{Reader, events_before}
 

@@ -9,7 +9,7 @@ pub use Rattle.rpc_view.specs.declared.message.Loopback.{Loopback}
 pub use Rattle.rpc_view.specs.declared.message.Loopback.TheVariants.{Sender, Receiver}
 pub use Rattle.rpc_view.specs.declared.message.RpcMessage.{RpcMessage}
 pub use Rattle.rpc_view.specs.declared.message.RpcMessage.TheVariants.{Bootstrap, Call, Return, Finish, Resolve, Release, Disembargo, Abort}
-pub use Rattle.vat_view.specs.declared.record.decoded.DecodedRecord.{DecodedRecord}
-pub use Rattle.vat_view.specs.declared.record.decoded.DecodedRecord.TheVariants.{Host, Vow, Fulfil, Break, Make, Field, Deliver, Answer, AnswerBy, Fault, Wire}
-pub use Rattle.vat_view.specs.declared.view.View.{View}
-pub use Rattle.vat_view.specs.declared.view.View.TheVariants.{Object, Promise, Field as FieldOf, Import}
+pub use Rattle.decoded_records.specs.declared.decoded.DecodedRecord.{DecodedRecord}
+pub use Rattle.decoded_records.specs.declared.decoded.DecodedRecord.TheVariants.{Host, Vow, Fulfil, Break, Make, Field, Deliver, Answer, AnswerBy, Fault, Wire}
+pub use Rattle.decoded_records.specs.declared.view.View.{View}
+pub use Rattle.decoded_records.specs.declared.view.View.TheVariants.{Object, Promise, Field as FieldOf, Import}

@@ -1,7 +1,7 @@
 -- Where views lead that may be missing.
 use Rattle.std.specs.Prelude.{Option, IsSomeAnd}
 use Rattle.vat_rules.specs.Types.{View}
-use Rattle.vat_view.specs.Past.{Past}
+use Rattle.decoded_records.specs.Past.{Past}
 use Rattle.vat_view.specs.Walks.{Leads, LeadsByTurns, IsEnd}
 
 -- there are both views, and the one leads to the other

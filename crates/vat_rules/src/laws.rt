@@ -1,9 +1,9 @@
 //! Laws of logs, which hold of every log and not of one call.
 
 ghost use Rattle.std.specs.Prelude.{ℕ, ◌≤◌, ◌++◌, List};
-ghost use Rattle.vat_view.specs.Past.{Past, Each};
-ghost use Rattle.vat_view.specs.Questions.{opens, returns, finishes};
-ghost use Rattle.vat_view.specs.declared.record.table_key.TableKey.{TableKey};
+ghost use Rattle.decoded_records.specs.Past.{Past, Each};
+ghost use Rattle.decoded_records.specs.Questions.{opens, returns, finishes};
+ghost use Rattle.decoded_records.specs.declared.table_key.TableKey.{TableKey};
 ghost use Rattle.vat_rules.specs.Types.{DecodedRecord, View};
 ghost use Rattle.vat_view.specs.Walks.{TurnsOnce, Leads};
 ghost use Rattle.vat_view.specs.Laws.{EachAfter, count_since};

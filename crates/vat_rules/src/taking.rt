@@ -1,7 +1,7 @@
 //! One record more of a log: judged, and applied where it is good.
 
 ghost use Rattle.std.specs.Prelude.{◌≡◌, ◌∷◌, IfOk, OnOk, OnErr, MatchOption, MatchResult};
-ghost use Rattle.vat_view.specs.Past.{Past};
+ghost use Rattle.decoded_records.specs.Past.{Past};
 ghost use Rattle.vat_view.specs.Sound.{IsSound};
 ghost use Rattle.vat_rules.specs.Rules.{rules};
 ghost use Rattle.vat_rules.specs.Judged.{IsGoodBy, BreaksFirst};

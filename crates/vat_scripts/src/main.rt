@@ -6,8 +6,6 @@
 #![tactic(auto)]
 
 mod asking;
-#[cfg(test)]
-mod tests;
 
 use asking::answer;
 use std::rt::Files;

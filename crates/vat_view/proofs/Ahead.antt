@@ -3,9 +3,9 @@ use Rattle.std.proofs.Common.{◌≡◌, refl, sym, ◌∙◌, ap, ap₂, ℕ, i
 use Rattle.std.specs.Prelude.{is_some}
 use Rattle.std.specs.Option.{option_or}
 use Rattle.std.proofs.lemmas.Bool.{and_parts, cases_Bool, false≢true, eqb-true}
-use Rattle.vat_view.specs.declared.tables.questions.Questions.{Questions}
-use Rattle.vat_view.specs.declared.tables.exports_imports.ExportsImports.{ExportsImports}
-use Rattle.vat_view.specs.declared.tables.calls.Calls.{Calls}
+use Rattle.number_tables.specs.declared.questions.Questions.{Questions}
+use Rattle.number_tables.specs.declared.exports_imports.ExportsImports.{ExportsImports}
+use Rattle.number_tables.specs.declared.calls.Calls.{Calls}
 use Rattle.vat_view.specs.declared.tables.turns.settlements.Settlements.{Settlements}
 use Rattle.vat_view.specs.declared.tables.turns.settlements.Settling.{Settling}
 use Rattle.vat_view.specs.declared.walks.landing.Landing.{Landing}
@@ -14,10 +14,11 @@ use Rattle.vat_view.specs.declared.tables.references.Shortcut.{Shortcut}
 use Rattle.vat_view.specs.declared.record.unsettled.Unsettled.{Unsettled}
 use Rattle.vat_view.specs.declared.record.unsettled.Unsettled.TheVariants.{Promise as PromiseToKeep, Results as ResultsOf, Import as ImportToResolve}
 use Rattle.vat_view.specs.Types.{DecodedRecord, View, Object, Promise, FieldOf, Import}
-use Rattle.vat_view.specs.Past.{Past}
-use Rattle.vat_view.specs.Bindings.{Refers}
+use Rattle.decoded_records.specs.Past.{Past}
+use Rattle.decoded_records.specs.Bindings.{Refers}
 use Rattle.vat_view.specs.Glue.Tables.{bound_at, AreBound}
-use Rattle.vat_view.specs.Glue.TurnTables.{same_pending, field_path, Turning, landing_of, target_in, turned_in, number_in, settled_with, settled_at, waiting, settles, handing, handover_at, SaysSameTurns, IsNoted, by_handover, call_behind_by, turning_by, landed_by, turns_of, own_leap, ahead_at, call_ahead_in, IsOwnOrOld, IsOwnOrOldCall, HaveAhead}
+use Rattle.vat_view.specs.Glue.TurnTables.{same_pending, Turning, landing_of, target_in, turned_in, number_in, settled_with, settled_at, waiting, settles, handing, handover_at, SaysSameTurns, IsNoted, by_handover, call_behind_by, turning_by, landed_by, turns_of, own_leap, ahead_at, call_ahead_in, IsOwnOrOld, IsOwnOrOldCall, HaveAhead}
+use Rattle.decoded_records.specs.Glue.Parts.{field_path}
 use Rattle.vat_view.specs.Glue.Kept.{AreKept}
 use Rattle.vat_view.proofs.Walking.{cases_option, none_some}
 use Rattle.vat_view.proofs.Lasting.{view_step}

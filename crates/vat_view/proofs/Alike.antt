@@ -3,16 +3,17 @@ use Rattle.std.proofs.Common.{◌≡◌, refl, sym, ◌∙◌, ap, ap₂, List, 
 use Rattle.std.specs.Prelude.{Decides}
 use Rattle.std.specs.List.{list_all}
 use Rattle.std.specs.Option.{option_or, option_map_or}
-use Rattle.vat_view.specs.declared.tables.questions.Questions.{Questions}
-use Rattle.vat_view.specs.declared.tables.exports_imports.ExportsImports.{ExportsImports}
+use Rattle.number_tables.specs.declared.questions.Questions.{Questions}
+use Rattle.number_tables.specs.declared.exports_imports.ExportsImports.{ExportsImports}
 use Rattle.vat_view.specs.declared.record.introduced.Introduced.{Introduced}
 use Rattle.vat_view.specs.declared.tables.references.BoundReferences.{BoundReferences}
-use Rattle.vat_view.specs.declared.tables.calls.Calls.{Calls}
+use Rattle.number_tables.specs.declared.calls.Calls.{Calls}
 use Rattle.vat_view.specs.declared.tables.turns.resolves.Resolves.{Resolves}
 use Rattle.vat_view.specs.Types.{Descriptor, SenderHosted, SenderPromise, DecodedRecord, Wire, TableKey}
-use Rattle.vat_view.specs.Past.{Past}
-use Rattle.vat_view.specs.Lives.{Birth, birth, gives_back, number_introduced, descriptors, is_resolved, is_of_kind, keeps_kind, KeepsKinds}
-use Rattle.vat_view.specs.Glue.Tables.{held_origin, begun_origin, origin_of, origins, AreBegun}
+use Rattle.decoded_records.specs.Past.{Past}
+use Rattle.decoded_records.specs.Lives.{Birth, birth, gives_back, number_introduced, descriptors, is_resolved, is_of_kind, keeps_kind, KeepsKinds}
+use Rattle.number_tables.specs.Glue.LifeTables.{held_origin}
+use Rattle.vat_view.specs.Glue.Tables.{begun_origin, origin_of, origins, AreBegun}
 use Rattle.vat_view.specs.Glue.KindTables.{resolve_at, AreResolved, resolved_since, of_kind_by, keeps_by}
 use Rattle.vat_view.specs.Glue.Kept.{AreKept}
 use Rattle.vat_view.proofs.Describing.{sender_keeps, origin_after}

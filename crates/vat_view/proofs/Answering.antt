@@ -2,24 +2,26 @@
 use Rattle.std.proofs.Common.{◌≡◌, ◌+◌, ◌≤◌, inl, inr, refl, sym, ◌∙◌, ap, ap₂, subst, ℕ, List, [], ◌∷◌, map, length, count_by, Bool, true, false, not, ◌&&◌, ◌||◌, Option, Some, None, if◌then◌else◌, option_map, option_and_then, arith}
 use Rattle.std.specs.Prelude.{is_some, Decides, slice_get, Result, Ok, Err, IfOk}
 use Rattle.std.proofs.lemmas.Bool.{cases_Bool, and_parts, false≢true}
-use Rattle.vat_view.specs.declared.tables.questions.Questions.{Questions}
-use Rattle.vat_view.specs.declared.tables.exports_imports.ExportsImports.{ExportsImports}
+use Rattle.number_tables.specs.declared.questions.Questions.{Questions}
+use Rattle.number_tables.specs.declared.exports_imports.ExportsImports.{ExportsImports}
 use Rattle.vat_view.specs.declared.record.introduced.Introduced.{Introduced}
 use Rattle.vat_view.specs.declared.tables.references.BoundReferences.{BoundReferences}
-use Rattle.vat_view.specs.declared.tables.calls.Calls.{Calls}
+use Rattle.number_tables.specs.declared.calls.Calls.{Calls}
 use Rattle.vat_view.specs.Types.{Descriptor, Target, Imported, Promised, TakeFrom, Return, Finish, DecodedRecord, Wire, View, FieldOf, TableKey}
-use Rattle.vat_view.specs.Past.{Past, Point, point, id, same_id, last_since, Each}
-use Rattle.vat_view.specs.Questions.{opens, returns, finishes, releases, takes_results, opening, return_of, is_opened, is_returned, is_returned_lightly, is_finished, is_released, is_tail, is_taken, is_unfinished, is_unreturned, is_late, closes, call_at, call_of}
-use Rattle.vat_view.specs.Lives.{introductions_at, gives_back, GivesBackHeld, descriptors}
-use Rattle.vat_view.specs.Views.{view_of_reference, target_view, target_of, view_of_target, descriptor_view, view_of_descriptor, views_of_descriptors}
-use Rattle.vat_view.specs.Calls.{call_taken_from}
-use Rattle.vat_view.specs.Uses.{UsesQuestions}
-use Rattle.vat_view.specs.Bindings.{is_bound}
+use Rattle.decoded_records.specs.Past.{Past, Point, point, id, same_id, last_since, Each}
+use Rattle.decoded_records.specs.Questions.{opens, returns, finishes, releases, takes_results, opening, return_of, is_opened, is_returned, is_returned_lightly, is_finished, is_released, is_tail, is_taken, is_unfinished, is_unreturned, is_late, closes, call_at, call_of}
+use Rattle.decoded_records.specs.Lives.{introductions_at, gives_back, GivesBackHeld, descriptors}
+use Rattle.decoded_records.specs.Views.{view_of_reference, target_view, target_of, view_of_target, descriptor_view, view_of_descriptor, views_of_descriptors}
+use Rattle.decoded_records.specs.Calls.{call_taken_from}
+use Rattle.decoded_records.specs.Uses.{UsesQuestions}
+use Rattle.decoded_records.specs.Bindings.{is_bound}
 use Rattle.vat_view.specs.Sound.{IsSound}
-use Rattle.vat_view.specs.Glue.Tables.{question_at, bound_at, late_by, given_back_by, results_released_in, params_introduced_in, results_introduced_in, count_released, call_by, origins_if, origins, first_in, AreBegun, view_by, count_at}
-use Rattle.vat_view.specs.Glue.Asking.{free_in, finished_in, tail_in, taken_in, opening_call_in, target_by, targeted_by, taken_from_by, given_by}
+use Rattle.number_tables.specs.Glue.QuestionTables.{question_at, late_by, given_back_by, results_released_in, params_introduced_in, results_introduced_in, free_in, finished_in, tail_in, taken_in, opening_call_in, call_by}
+use Rattle.vat_view.specs.Glue.Tables.{bound_at, count_released, origins_if, origins, first_in, AreBegun, view_by}
+use Rattle.number_tables.specs.Glue.LifeTables.{count_at}
+use Rattle.vat_view.specs.Glue.Asking.{target_by, targeted_by, taken_from_by, given_by}
 use Rattle.vat_view.specs.Glue.Kept.{AreKept}
-use Rattle.vat_view.proofs.Naming.{same_id_is}
+use Rattle.decoded_records.proofs.Naming.{same_id_is}
 use Rattle.vat_view.proofs.Knowing.{known_from, asked_at}
 use Rattle.vat_view.proofs.Stepping.{gives_parts}
 use Rattle.vat_view.proofs.Lasting.{view_bound}

@@ -5,18 +5,21 @@ use Rattle.std.specs.List.{zip, cons_option}
 use Rattle.std.specs.Option.{option_or, option_to_list}
 use Rattle.std.proofs.lemmas.List.Sums.{sum_by-cons}
 use Rattle.std.proofs.lemmas.Bool.{and_parts, cases_Bool, false≢true, not-true, eqb-true, or_parts}
-use Rattle.vat_view.specs.declared.tables.question.Question.{Question}
-use Rattle.vat_view.specs.declared.tables.questions.Questions.{Questions}
-use Rattle.vat_view.specs.declared.tables.exports_imports.ExportsImports.{ExportsImports}
+use Rattle.number_tables.specs.declared.question.Question.{Question}
+use Rattle.number_tables.specs.declared.questions.Questions.{Questions}
+use Rattle.number_tables.specs.declared.exports_imports.ExportsImports.{ExportsImports}
 use Rattle.vat_view.specs.declared.record.introduced.Introduced.{Introduced}
 use Rattle.vat_view.specs.declared.tables.references.BoundReferences.{BoundReferences}
 use Rattle.vat_view.specs.Types.{Descriptor, NoCap, SenderHosted, SenderPromise, ReceiverHosted, ReceiverAnswer, RpcMessage, DecodedRecord, Host, Vow, Field, Wire, View, Object, Promise, FieldOf, TableKey}
-use Rattle.vat_view.specs.Past.{Past}
-use Rattle.vat_view.specs.Lives.{descriptors}
-use Rattle.vat_view.specs.Views.{view_of_reference, descriptor_view, described_at, places_from, placed_references}
-use Rattle.vat_view.specs.Bindings.{Refers, contains, is_distinct, is_bound, new_references}
-use Rattle.vat_view.specs.Glue.Tables.{question_at, is_cap, bound_at, bound_by, origins, AreBegun, view_by, reference_by, bound_one, bound_from, bindings, IsTabled, AreBound}
-use Rattle.vat_view.proofs.Originating.{get_drop, cons_append}
+use Rattle.decoded_records.specs.Past.{Past}
+use Rattle.decoded_records.specs.Lives.{descriptors}
+use Rattle.decoded_records.specs.Views.{view_of_reference, descriptor_view, described_at, places_from, placed_references}
+use Rattle.decoded_records.specs.Bindings.{Refers, contains, is_distinct, is_bound, new_references}
+use Rattle.number_tables.specs.Glue.QuestionTables.{question_at}
+use Rattle.decoded_records.specs.Glue.Origins.{is_cap}
+use Rattle.vat_view.specs.Glue.Tables.{bound_at, bound_by, origins, AreBegun, view_by, reference_by, bound_one, bound_from, bindings, IsTabled, AreBound}
+use Rattle.vat_view.proofs.Originating.{get_drop}
+use Rattle.decoded_records.proofs.Listing.{cons_append}
 use Rattle.vat_view.proofs.Lasting.{view_bound, all_not}
 use Rattle.vat_view.proofs.Binding.{bound_apart}
 use Rattle.vat_view.proofs.Describing.{described_known}

@@ -4,15 +4,17 @@ use Rattle.std.specs.Prelude.{find, is_none, slice_get}
 use Rattle.std.specs.List.{position_from, filter_map}
 use Rattle.std.specs.Option.{option_or}
 use Rattle.std.proofs.lemmas.Bool.{cases_Bool, false≢true, ltb-true, ltb-false}
-use Rattle.vat_view.specs.declared.record.origin.Origin.{Origin}
+use Rattle.decoded_records.specs.declared.origin.Origin.{Origin}
 use Rattle.vat_view.specs.Types.{DecodedRecord, TableKey}
-use Rattle.vat_view.specs.Past.{Past, point, same_id, names, last_answer}
-use Rattle.vat_view.specs.Questions.{is_late}
-use Rattle.vat_view.specs.Lives.{Birth, begins, descriptors, number_introduced, introduces, held, is_in_life}
-use Rattle.vat_view.specs.Views.{places}
-use Rattle.vat_view.specs.Glue.Tables.{origin_of, origins_from, origins, raised_origin}
+use Rattle.decoded_records.specs.Past.{Past, point, same_id, names, last_answer}
+use Rattle.decoded_records.specs.Questions.{is_late}
+use Rattle.decoded_records.specs.Lives.{Birth, begins, descriptors, number_introduced, introduces, held, is_in_life}
+use Rattle.decoded_records.specs.Views.{places}
+use Rattle.vat_view.specs.Glue.Tables.{origin_of, origins}
+use Rattle.decoded_records.specs.Glue.Origins.{origins_from}
+use Rattle.number_tables.specs.Glue.LifeTables.{raised_origin}
 use Rattle.vat_view.proofs.Originating.{origins_counted, first_origin, origin_there}
-use Rattle.vat_view.proofs.Raising.{held_on, none_counted, positive}
+use Rattle.number_tables.proofs.Raising.{held_on, none_counted, positive}
 
 -- the list with the origins introduces as often
 pub counted_origins : (i : TableKey) (before : Past) (e : DecodedRecord) → count_by (λ x. same_id i x.0) (origins before e) ≡ introduces i before e

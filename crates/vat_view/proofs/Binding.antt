@@ -3,7 +3,7 @@ use Rattle.std.proofs.Common.{◌≡◌, inl, inr, refl, ◌∙◌, ap, ℕ, ◌
 use Rattle.std.specs.Prelude.{Result, Ok, Err, OnErr}
 use Rattle.std.proofs.lemmas.Bool.{or_parts}
 use Rattle.vat_view.specs.Types.{View}
-use Rattle.vat_view.specs.Bindings.{contains}
+use Rattle.decoded_records.specs.Bindings.{contains}
 use Rattle.vat_view.specs.Glue.Tables.{bound_by}
 use Rattle.vat_view.specs.Glue.TurnTables.{IsOwnOrOld}
 use Rattle.vat_view.specs.declared.tables.references.BoundReferences.{BoundReferences}

@@ -18,7 +18,8 @@ use Rattle.vat_view.specs.declared.walks.landing.Landing.{Landing}
 use Rattle.vat_view.specs.declared.walks.landing.Landing.TheVariants.{Reference as ToReference, Call as ToCall}
 use Rattle.vat_view.specs.Types.{View, Object, Promise, FieldOf, Import}
 use Rattle.vat_view.specs.Glue.Tables.{bound_at}
-use Rattle.vat_view.specs.Glue.TurnTables.{field_path, Turning, landing_of, landing_view, settled_at, handover_at, by_handover, handovers_len, call_behind_by, turning_by, landed_by, bound_len, most_turns, turns_of, after_turns}
+use Rattle.decoded_records.specs.Glue.Parts.{field_path}
+use Rattle.vat_view.specs.Glue.TurnTables.{Turning, landing_of, landing_view, settled_at, handover_at, by_handover, handovers_len, call_behind_by, turning_by, landed_by, bound_len, most_turns, turns_of, after_turns}
 use Rattle.vat_view.proofs.Walking.{IsFew, cases_option, none_some, some_same, reached_more}
 use Rattle.vat_view.proofs.Settled.{turn_landing}
 

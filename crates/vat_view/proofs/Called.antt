@@ -2,23 +2,23 @@
 use Rattle.std.proofs.Common.{◌≡◌, inl, inr, refl, sym, ◌∙◌, ap, ap₂, subst, ℕ, ◌==◌, ◌∷◌, Bool, true, false, ◌||◌, Option, Some, None, if◌then◌else◌}
 use Rattle.std.specs.Prelude.{option_and_then, unwrap_or}
 use Rattle.std.proofs.lemmas.Bool.{cases_Bool, eqb-true}
-use Rattle.vat_view.specs.declared.tables.questions.Questions.{Questions}
-use Rattle.vat_view.specs.declared.tables.exports_imports.ExportsImports.{ExportsImports}
+use Rattle.number_tables.specs.declared.questions.Questions.{Questions}
+use Rattle.number_tables.specs.declared.exports_imports.ExportsImports.{ExportsImports}
 use Rattle.vat_view.specs.declared.tables.references.BoundReferences.{BoundReferences}
-use Rattle.vat_view.specs.declared.tables.calls.Calls.{Calls}
-use Rattle.vat_view.specs.declared.tables.call_state.CallState.{CallState}
-use Rattle.vat_view.specs.Glue.CallTables.{CallEffect}
-use Rattle.vat_view.specs.Glue.CallTables.{Begins}
+use Rattle.number_tables.specs.declared.calls.Calls.{Calls}
+use Rattle.number_tables.specs.declared.call_state.CallState.{CallState}
+use Rattle.vat_view.specs.Glue.CallTables.{CallEffect, Begins, call_state_of, effect_by, effect_of, after_effect}
 use Rattle.vat_view.specs.Types.{DecodedRecord}
-use Rattle.vat_view.specs.Past.{Past}
-use Rattle.vat_view.specs.Questions.{is_late, call_at, opening}
-use Rattle.vat_view.specs.Views.{view_of_reference, view_of_target}
-use Rattle.vat_view.specs.Calls.{request_of, goal_of, is_at_vat, is_served, is_settled, is_known, has_passed, boots, call_taken_from}
-use Rattle.vat_view.specs.Bindings.{is_bound_call}
+use Rattle.decoded_records.specs.Past.{Past}
+use Rattle.decoded_records.specs.Questions.{is_late, call_at, opening}
+use Rattle.decoded_records.specs.Views.{view_of_reference, view_of_target}
+use Rattle.decoded_records.specs.Calls.{request_of, goal_of, is_at_vat, is_served, is_settled, is_known, has_passed, boots, call_taken_from}
+use Rattle.decoded_records.specs.Bindings.{is_bound_call}
 use Rattle.vat_view.specs.Sound.{IsSound}
-use Rattle.vat_view.specs.Glue.Tables.{question_at, bound_at, late_by, AreTabled}
-use Rattle.vat_view.specs.Glue.Asking.{opening_call_in, targeted_by, taken_from_by}
-use Rattle.vat_view.specs.Glue.CallTables.{call_state_at, call_state_of, effect_by, effect_of, after_effect, request_in, goal_in, at_vat_in, served_in, settled_in, known_in}
+use Rattle.number_tables.specs.Glue.QuestionTables.{question_at, late_by, opening_call_in}
+use Rattle.vat_view.specs.Glue.Tables.{bound_at, AreTabled}
+use Rattle.vat_view.specs.Glue.Asking.{targeted_by, taken_from_by}
+use Rattle.number_tables.specs.Glue.CallStates.{call_state_at, request_in, goal_in, at_vat_in, served_in, settled_in, known_in}
 use Rattle.vat_view.specs.Glue.Kept.{AreKept}
 use Rattle.vat_view.proofs.Answering.{targeted_known, late_is, taken_from_known, opening_call_known}
 use Rattle.vat_view.proofs.Calling.{news_same, progress_step, begins_unbound}

@@ -4,18 +4,18 @@ use Rattle.std.specs.Prelude.{is_some, unwrap_or}
 use Rattle.std.specs.List.{list_all}
 use Rattle.std.specs.Option.{option_or}
 use Rattle.std.proofs.lemmas.Bool.{and_parts, eqb-true, not-true}
-use Rattle.vat_view.specs.declared.tables.call_state.CallState.{CallState}
-use Rattle.vat_view.specs.declared.tables.call_state.CallChange.{CallChange}
-use Rattle.vat_view.specs.declared.tables.call_state.CallChange.TheVariants.{Left, Delivered, Faulted, Answered, Known}
-use Rattle.vat_view.specs.Glue.CallTables.{Nothing, Begins}
+use Rattle.number_tables.specs.declared.call_state.CallState.{CallState}
+use Rattle.number_tables.specs.declared.call_state.CallChange.{CallChange}
+use Rattle.number_tables.specs.declared.call_state.CallChange.TheVariants.{Left, Delivered, Faulted, Answered, Known}
+use Rattle.vat_view.specs.Glue.CallTables.{Nothing, Begins, call_state_of, arriving_call, bootstrap_call, change_of_call, sent_effect, received_effect, effect_from, effect_of, after_effect}
 use Rattle.vat_view.specs.Types.{Bootstrap, Call, Return, Results, Exception, Canceled, TakeFrom, DecodedRecord, Make, Deliver, Answer, AnswerBy, Fault, Wire, View, Request, TableKey}
-use Rattle.vat_view.specs.Past.{Past, Point, point, id, is, last_answer, last_where, Each}
-use Rattle.vat_view.specs.Questions.{opening, call_at, is_late}
-use Rattle.vat_view.specs.Views.{view_of_reference, view_of_target}
-use Rattle.vat_view.specs.Calls.{request_of, moves, delivers, boots, settles, knows, has_passed, is_at_vat, is_served, is_settled, is_known, call_taken_from}
-use Rattle.vat_view.specs.Bindings.{Refers, is_bound_call}
+use Rattle.decoded_records.specs.Past.{Past, Point, point, id, is, last_answer, last_where, Each}
+use Rattle.decoded_records.specs.Questions.{opening, call_at, is_late}
+use Rattle.decoded_records.specs.Views.{view_of_reference, view_of_target}
+use Rattle.decoded_records.specs.Calls.{request_of, moves, delivers, boots, settles, knows, has_passed, is_at_vat, is_served, is_settled, is_known, call_taken_from}
+use Rattle.decoded_records.specs.Bindings.{Refers, is_bound_call}
 use Rattle.vat_view.specs.Sound.{IsSound}
-use Rattle.vat_view.specs.Glue.CallTables.{call_state_of, after_change, arriving_call, bootstrap_call, change_of_call, sent_effect, received_effect, effect_from, effect_of, after_effect}
+use Rattle.number_tables.specs.Glue.CallStates.{after_change}
 use Rattle.vat_view.proofs.Unbound.{IsUnknown, unknown}
 
 -- ---- news by the tables

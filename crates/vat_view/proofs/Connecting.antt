@@ -4,7 +4,7 @@ use Rattle.std.specs.Prelude.{◌||◌, is_some}
 use Rattle.std.specs.Option.{option_or}
 use Rattle.vat_view.specs.declared.tables.connections.Connections.{Connections}
 use Rattle.vat_view.specs.Types.{Bootstrap, Call, DecodedRecord, Wire}
-use Rattle.vat_view.specs.Past.{Past, Point, point, is}
+use Rattle.decoded_records.specs.Past.{Past, Point, point, is}
 use Rattle.vat_view.specs.Connections.{aborted_by, aborts, abort_sent_on, asks}
 use Rattle.vat_view.specs.Glue.ConnectionTables.{call_sent_on, on_for, asked_at, aborted_at, aborted_here_at, AreConnected}
 

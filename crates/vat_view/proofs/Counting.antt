@@ -1,8 +1,8 @@
 -- No more goes than came.
 use Rattle.std.proofs.Common.{◌≤◌, [], ◌∷◌, arith}
 use Rattle.vat_view.specs.Types.{TableKey}
-use Rattle.vat_view.specs.Past.{Past, Each}
-use Rattle.vat_view.specs.Lives.{introduced_count, released_count, GivesBackHeld}
+use Rattle.decoded_records.specs.Past.{Past, Each}
+use Rattle.decoded_records.specs.Lives.{introduced_count, released_count, GivesBackHeld}
 
 pub no_more_went : (past : Past) → Each GivesBackHeld past → (i : TableKey) → released_count i past ≤ introduced_count i past
 no_more_went [] h i = omega arith

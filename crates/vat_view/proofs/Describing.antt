@@ -5,19 +5,21 @@ use Rattle.std.specs.List.{filter_map}
 use Rattle.std.specs.Option.{option_or}
 use Rattle.std.proofs.lemmas.Bool.{cases_Bool, false≢true, ltb-true, ltb-false, lt-ltb, eqb-true, eq-eqb}
 use Rattle.std.proofs.lemmas.List.Sums.{sum_by-cons}
-use Rattle.vat_view.specs.declared.record.origin.Origin.{Origin}
-use Rattle.vat_view.specs.declared.tables.questions.Questions.{Questions}
-use Rattle.vat_view.specs.declared.tables.exports_imports.ExportsImports.{ExportsImports}
+use Rattle.decoded_records.specs.declared.origin.Origin.{Origin}
+use Rattle.number_tables.specs.declared.questions.Questions.{Questions}
+use Rattle.number_tables.specs.declared.exports_imports.ExportsImports.{ExportsImports}
 use Rattle.vat_view.specs.declared.record.introduced.Introduced.{Introduced}
 use Rattle.vat_view.specs.declared.tables.references.BoundReferences.{BoundReferences}
 use Rattle.vat_view.specs.Types.{Descriptor, NoCap, SenderHosted, SenderPromise, ReceiverHosted, ReceiverAnswer, RpcMessage, Bootstrap, Call, Return, Finish, Release, DecodedRecord, Wire, View, FieldOf, TableKey}
-use Rattle.vat_view.specs.Past.{Past, point, id, same_id, last_answer}
-use Rattle.vat_view.specs.Questions.{opens, returns, opening, return_of, is_late}
-use Rattle.vat_view.specs.Lives.{Birth, birth, begins, descriptors, number_introduced, introduces, introductions_at, gives_back, held, is_in_life}
-use Rattle.vat_view.specs.Views.{view_of_reference, view_given, view_of_number, descriptor_view, placed_references}
-use Rattle.vat_view.specs.Glue.Tables.{question_at, bound_at, origin_of, origins, raised_origin, held_origin, begun_origin, first_in, AreBegun, view_from, number_by, call_by, view_by, IsTabled, AreBound}
-use Rattle.vat_view.proofs.Naming.{same_id_is}
-use Rattle.vat_view.proofs.Raising.{none_counted}
+use Rattle.decoded_records.specs.Past.{Past, point, id, same_id, last_answer}
+use Rattle.decoded_records.specs.Questions.{opens, returns, opening, return_of, is_late}
+use Rattle.decoded_records.specs.Lives.{Birth, birth, begins, descriptors, number_introduced, introduces, introductions_at, gives_back, held, is_in_life}
+use Rattle.decoded_records.specs.Views.{view_of_reference, view_given, view_of_number, descriptor_view, placed_references}
+use Rattle.number_tables.specs.Glue.QuestionTables.{question_at, call_by}
+use Rattle.vat_view.specs.Glue.Tables.{bound_at, origin_of, origins, begun_origin, first_in, AreBegun, view_from, number_by, view_by, IsTabled, AreBound}
+use Rattle.number_tables.specs.Glue.LifeTables.{raised_origin, held_origin}
+use Rattle.decoded_records.proofs.Naming.{same_id_is}
+use Rattle.number_tables.proofs.Raising.{none_counted}
 use Rattle.vat_view.proofs.Beginning.{counted_origins, begun as begun_there, introduced_now, not_late}
 use Rattle.vat_view.proofs.Lasting.{birth_kept}
 use Rattle.vat_view.proofs.Meaning.{given, held_known, call_known}

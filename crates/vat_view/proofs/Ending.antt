@@ -3,14 +3,15 @@ use Rattle.std.proofs.Common.{◌≡◌, ◌↔◌, ◌≤◌, refl, sym, ◌∙
 use Rattle.std.specs.Prelude.{is_none}
 use Rattle.std.proofs.lemmas.Bool.{false≢true}
 use Rattle.vat_view.specs.declared.tables.turns.settlements.Settlements.{Settlements}
-use Rattle.vat_view.specs.declared.tables.questions.Questions.{Questions}
-use Rattle.vat_view.specs.declared.tables.exports_imports.ExportsImports.{ExportsImports}
+use Rattle.number_tables.specs.declared.questions.Questions.{Questions}
+use Rattle.number_tables.specs.declared.exports_imports.ExportsImports.{ExportsImports}
 use Rattle.vat_view.specs.declared.tables.references.BoundReferences.{BoundReferences}
 use Rattle.vat_view.specs.Types.{View}
-use Rattle.vat_view.specs.Past.{Past}
+use Rattle.decoded_records.specs.Past.{Past}
 use Rattle.vat_view.specs.Walks.{Next, stays, on_to, next, Leads, LeadsByTurns, IsEnd, turned_to}
 use Rattle.vat_view.specs.Glue.Tables.{bound_at, AreTabled}
-use Rattle.vat_view.specs.Glue.TurnTables.{field_path, Turning, goes_to, AreSettled, settled_at, call_behind_by, goes_by, turn_by, most_turns, after_turns, Reaches, ReachesByTurns, EndsBy}
+use Rattle.decoded_records.specs.Glue.Parts.{field_path}
+use Rattle.vat_view.specs.Glue.TurnTables.{Turning, goes_to, AreSettled, settled_at, call_behind_by, goes_by, turn_by, most_turns, after_turns, Reaches, ReachesByTurns, EndsBy}
 use Rattle.vat_view.proofs.Walking.{some_same, none_some, reached_none, reached_more, reached_same, one_last, endless, step, leads_reach, reached_leads, by_turns_reach, reached_by_turns}
 use Rattle.vat_view.proofs.Settled.{goes_known}
 use Rattle.vat_view.proofs.Bounded.{few, turn_number}

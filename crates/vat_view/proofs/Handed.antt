@@ -5,9 +5,9 @@ use Rattle.std.proofs.lemmas.Bool.{cases_Bool, eq-eqb, ne_eqb}
 use Rattle.vat_view.specs.declared.record.unsettled.Unsettled.TheVariants.{Results as ResultsOf}
 use Rattle.vat_view.specs.declared.tables.turns.handovers.Handover.{Handover}
 use Rattle.vat_view.specs.Types.{Return, TakeFrom, DecodedRecord, AnswerBy, Wire}
-use Rattle.vat_view.specs.Past.{Past, Point, point, id, record_index}
-use Rattle.vat_view.specs.Questions.{call_at, opening}
-use Rattle.vat_view.specs.Calls.{answerer, answered_by, call_taken_from}
+use Rattle.decoded_records.specs.Past.{Past, Point, point, id, record_index}
+use Rattle.decoded_records.specs.Questions.{call_at, opening}
+use Rattle.decoded_records.specs.Calls.{answerer, answered_by, call_taken_from}
 use Rattle.vat_view.specs.Glue.TurnTables.{is_this, settlement_of, settler, handing, handover_of, by_handover}
 use Rattle.vat_view.proofs.Landed.{is_results}
 

@@ -7,16 +7,16 @@ use Rattle.std.specs.BTreeMap.Range.{range_contains}
 use Rattle.std.proofs.lemmas.Bool.{and_parts, false≢true, eqb-true, eq-eqb, lt-ltb, ltb-true}
 use Rattle.std.proofs.lemmas.Slice.Eq.{bytes_eq-Decides}
 use Rattle.std.proofs.lemmas.List.Folds.{Any-from_list_any}
-use Rattle.vat_view.specs.declared.tables.calls.Calls.{Calls}
+use Rattle.number_tables.specs.declared.calls.Calls.{Calls}
 use Rattle.vat_view.specs.declared.tables.turns.goal_key.GoalKey.{GoalKey}
 use Rattle.vat_view.specs.declared.tables.waits.queued_call.QueuedCall.{QueuedCall}
 use Rattle.vat_view.specs.declared.tables.waits.waiting_calls.Receipt.{Receipt}
 use Rattle.vat_view.specs.declared.tables.waits.waiting_calls.WaitingCalls.{WaitingCalls}
 use Rattle.vat_view.specs.declared.tables.waits.loopbacks.Unechoed.{Unechoed}
 use Rattle.vat_view.specs.Types.{View, Object, Promise, FieldOf, Import}
-use Rattle.vat_view.specs.Glue.CallTables.{call_state_at, goal_in}
+use Rattle.number_tables.specs.Glue.CallStates.{call_state_at, goal_in, same_view, same_target}
 use Rattle.vat_view.specs.Glue.Queues.{goal_key_of, queued_at, queued_cmp, is_queued, from_first, up_to}
-use Rattle.vat_view.specs.Glue.LoopTables.{receipt_at, same_view, same_target, held_by, AreQueued, Holding}
+use Rattle.vat_view.specs.Glue.LoopTables.{receipt_at, held_by, AreQueued, Holding}
 use Rattle.vat_view.proofs.Queueing.{found_within, tied_within, tied_call}
 
 join : (a b : Bool) → a ≡ true → b ≡ true → (a && b) ≡ true

@@ -12,7 +12,8 @@ use Rattle.vat_view.specs.declared.walks.landing.Landing.{Landing}
 use Rattle.vat_view.specs.declared.walks.landing.Landing.TheVariants.{Reference as ToReference, Call as ToCall}
 use Rattle.vat_view.specs.Types.{View, FieldOf}
 use Rattle.vat_view.specs.Glue.Tables.{bound_at}
-use Rattle.vat_view.specs.Glue.TurnTables.{field_path, Turning, landing_of, landing_view, landed_reference, landed_call, landed_by, reference_by, call_onward_by, call_ahead_in, IsOwnOrOldCall, IsCallAhead, AreCallsAhead, turning_by, settled_with, by_handover, number_in, handover_at, target_in, turned_in, turns_of, after_turns, Reaches, TurnsAndThen, TurnsOn, ReachesByTurns, own_leap, ahead_in, ahead_at, onward_by, IsOwnOrOld, IsAhead, AreAhead, HaveAhead}
+use Rattle.decoded_records.specs.Glue.Parts.{field_path}
+use Rattle.vat_view.specs.Glue.TurnTables.{Turning, landing_of, landing_view, landed_reference, landed_call, landed_by, reference_by, call_onward_by, call_ahead_in, IsOwnOrOldCall, IsCallAhead, AreCallsAhead, turning_by, settled_with, by_handover, number_in, handover_at, target_in, turned_in, turns_of, after_turns, Reaches, TurnsAndThen, TurnsOn, ReachesByTurns, own_leap, ahead_in, ahead_at, onward_by, IsOwnOrOld, IsAhead, AreAhead, HaveAhead}
 use Rattle.vat_view.proofs.Walking.{cases_option, none_some, some_same, dead, reached_more, reached_at, reached_none}
 use Rattle.vat_view.proofs.Settled.{turn_landing}
 

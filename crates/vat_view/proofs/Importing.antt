@@ -6,8 +6,8 @@ use Rattle.std.specs.Option.{option_or}
 use Rattle.std.proofs.lemmas.Bool.{cases_Bool, false≢true, or_parts, eqb-true, ne_eqb}
 use Rattle.vat_view.specs.declared.tables.arrivals.Arrivals.{Arrivals}
 use Rattle.vat_view.specs.Types.{Descriptor, NoCap, SenderHosted, SenderPromise, ReceiverHosted, ReceiverAnswer, RpcMessage, DecodedRecord, Wire, TableKey}
-use Rattle.vat_view.specs.Past.{Past, record_at}
-use Rattle.vat_view.specs.Lives.{descriptors, descriptors_of}
+use Rattle.decoded_records.specs.Past.{Past, record_at}
+use Rattle.decoded_records.specs.Lives.{descriptors, descriptors_of}
 use Rattle.vat_view.specs.Arrivals.{Arrival, brings, brought_at, arrived}
 use Rattle.vat_view.specs.Glue.ArrivalTables.{hosted_in, arriving_over, arrival_over, brought_over, arrival_at, AreArrived}
 

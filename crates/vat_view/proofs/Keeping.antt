@@ -1,7 +1,7 @@
 -- A record for the tables.
 use Rattle.std.proofs.Common.{◌≡◌, ℕ, ◌+◌, ◌∷◌, length, arith}
 use Rattle.vat_view.specs.Types.{DecodedRecord}
-use Rattle.vat_view.specs.Past.{Past}
+use Rattle.decoded_records.specs.Past.{Past}
 use Rattle.vat_view.specs.Sound.{IsSound}
 use Rattle.vat_view.specs.Glue.Tables.{IsFit}
 

@@ -6,9 +6,9 @@ use Rattle.std.specs.Ordering.{nat_cmp, bool_cmp, ordering_then, is_eq}
 use Rattle.std.specs.Cmp.{unsigned_ties}
 use Rattle.std.specs.Bool.{beq}
 use Rattle.vat_view.specs.Types.{TableKey}
-use Rattle.vat_view.specs.Past.{same_id}
-use Rattle.vat_view.specs.Glue.Tables.{id_cmp}
-use Rattle.vat_view.proofs.Naming.{same_id_is}
+use Rattle.decoded_records.specs.Past.{same_id}
+use Rattle.decoded_records.specs.Glue.Parts.{id_cmp}
+use Rattle.decoded_records.proofs.Naming.{same_id_is}
 
 then_eq : (a b : Ordering) → is_eq (ordering_then a b) ≡ (is_eq a && is_eq b)
 then_eq Less b = refl

@@ -2,13 +2,14 @@
 use Rattle.std.proofs.Common.{◌≡◌, refl, ◌∙◌, ap, true, not, Option, Some, None, option_map}
 use Rattle.std.specs.Prelude.{is_some}
 use Rattle.std.proofs.lemmas.Bool.{and_parts, false≢true}
-use Rattle.vat_view.specs.declared.tables.question.Question.{Question}
+use Rattle.number_tables.specs.declared.question.Question.{Question}
 use Rattle.vat_view.specs.Types.{Return, Finish, DecodedRecord, Wire, TableKey}
-use Rattle.vat_view.specs.Past.{Past, Point, id}
-use Rattle.vat_view.specs.Questions.{asks_elsewhere, noted_call, opening, return_of, is_opened, is_returned, is_returned_lightly, is_finished, is_released, is_taken, is_unfinished, is_late, closes}
-use Rattle.vat_view.specs.Lives.{introductions, introductions_at}
-use Rattle.vat_view.specs.Uses.{UsesQuestions}
-use Rattle.vat_view.specs.Glue.Tables.{question_known, results_released_in, params_introduced_in, results_introduced_in, late_by, given_back_by}
+use Rattle.decoded_records.specs.Past.{Past, Point, id}
+use Rattle.decoded_records.specs.Questions.{asks_elsewhere, noted_call, opening, return_of, is_opened, is_returned, is_returned_lightly, is_finished, is_released, is_taken, is_unfinished, is_late, closes}
+use Rattle.decoded_records.specs.Lives.{introductions, introductions_at}
+use Rattle.decoded_records.specs.Uses.{UsesQuestions}
+use Rattle.vat_view.specs.Glue.Tables.{question_known}
+use Rattle.number_tables.specs.Glue.QuestionTables.{results_released_in, params_introduced_in, results_introduced_in, late_by, given_back_by}
 
 -- what is known of a question at an opening
 abbrev pub known_from : TableKey → Past → Point → Question

@@ -8,18 +8,20 @@ use Rattle.std.proofs.lemmas.List.Sums.{sum_by-cons}
 use Rattle.std.proofs.lemmas.Option.{slice_get_past}
 use Rattle.std.proofs.lemmas.Bool.{and_parts, or_left, or_right, or_parts, cases_Bool, not-true, eqb-true, eq-eqb, ne_eqb, both_ways}
 use Rattle.vat_view.specs.Types.{Descriptor, NoCap, SenderHosted, SenderPromise, ReceiverHosted, ReceiverAnswer, RpcMessage, Outcome, Return, Resolve, Results, Exception, Canceled, Elsewhere, TakeFrom, DecodedRecord, Fulfil, Break, Answer, AnswerBy, Fault, Wire, View, Object, Promise, FieldOf, Import}
-use Rattle.vat_view.specs.Past.{Past, Point, id, point, is, record_index, last_answer, last_where, Each}
-use Rattle.vat_view.specs.Questions.{is_late, is_over, call_at, call_of, opening}
-use Rattle.vat_view.specs.Calls.{call_taken_from}
-use Rattle.vat_view.specs.Lives.{Birth, birth, descriptors, descriptors_of}
-use Rattle.vat_view.specs.Views.{view_of_reference, view_of_descriptor, binds, descriptor_view, described_at, placed_references, places, places_from, references}
-use Rattle.vat_view.specs.Bindings.{Refers, NotesEach, contains, is_distinct, is_bound, is_bound_call, new_references}
+use Rattle.decoded_records.specs.Past.{Past, Point, id, point, is, record_index, last_answer, last_where, Each}
+use Rattle.decoded_records.specs.Questions.{is_late, is_over, call_at, call_of, opening}
+use Rattle.decoded_records.specs.Calls.{call_taken_from}
+use Rattle.decoded_records.specs.Lives.{Birth, birth, descriptors, descriptors_of}
+use Rattle.decoded_records.specs.Views.{view_of_reference, view_of_descriptor, binds, descriptor_view, described_at, placed_references, places, places_from, references}
+use Rattle.decoded_records.specs.Bindings.{Refers, NotesEach, contains, is_distinct, is_bound, is_bound_call, new_references}
 use Rattle.vat_view.specs.Sound.{IsSound}
 use Rattle.vat_view.specs.Walks.{Next, turns, stops, stays, on_to, is_promise, keeps, began_at, resolves, result_at, answers, turn, next}
-use Rattle.vat_view.specs.Glue.Tables.{is_cap, reference_by}
+use Rattle.decoded_records.specs.Glue.Origins.{is_cap}
+use Rattle.vat_view.specs.Glue.Tables.{reference_by}
 use Rattle.vat_view.specs.declared.record.unsettled.Unsettled.{Unsettled}
 use Rattle.vat_view.specs.declared.record.unsettled.Unsettled.TheVariants.{Promise as PromiseToKeep, Results as ResultsOf, Import as ImportToResolve}
-use Rattle.vat_view.specs.Glue.TurnTables.{is_this, field_path, promise_of, import_at, unless_elsewhere, settlement_of, reference_at, turn_target, Settler, goes, settler, call_behind, settler_at_point, settler_of, LandsBound}
+use Rattle.vat_view.specs.Glue.TurnTables.{is_this, promise_of, import_at, unless_elsewhere, settlement_of, reference_at, turn_target, Settler, goes, settler, call_behind, settler_at_point, settler_of, LandsBound}
+use Rattle.decoded_records.specs.Glue.Parts.{field_path}
 use Rattle.vat_view.proofs.Originating.{noted_at, get_drop, noted_first, tail_drop, places_cons}
 use Rattle.vat_view.proofs.Viewed.{places_above, cap_here, cap_later, zip_noted, all_at}
 use Rattle.vat_view.proofs.Lasting.{binds_new, all_not}

@@ -5,11 +5,11 @@ use Rattle.std.specs.List.{list_all, zip}
 use Rattle.std.specs.Option.{option_or}
 use Rattle.std.proofs.lemmas.Bool.{and_parts, or_left, or_right, cases_Bool, false≢true, not-true, eqb-true, both_ways}
 use Rattle.vat_view.specs.Types.{DecodedRecord, Host, Vow, Field, Wire, View, Object, Promise, FieldOf, TableKey}
-use Rattle.vat_view.specs.Past.{Past, last_answer}
-use Rattle.vat_view.specs.Questions.{is_late}
-use Rattle.vat_view.specs.Lives.{Birth, birth, begins, is_in_life}
-use Rattle.vat_view.specs.Views.{view_of_reference, binds, view_given, view_of_number, placed_references, places, described_at}
-use Rattle.vat_view.specs.Bindings.{Refers, contains, is_bound, new_references}
+use Rattle.decoded_records.specs.Past.{Past, last_answer}
+use Rattle.decoded_records.specs.Questions.{is_late}
+use Rattle.decoded_records.specs.Lives.{Birth, birth, begins, is_in_life}
+use Rattle.decoded_records.specs.Views.{view_of_reference, binds, view_given, view_of_number, placed_references, places, described_at}
+use Rattle.decoded_records.specs.Bindings.{Refers, contains, is_bound, new_references}
 use Rattle.vat_view.specs.Laws.{LivesOn, EachAfter}
 
 lives_last : (i : TableKey) (later : List DecodedRecord) (past : Past) → LivesOn i later past → is_in_life i (later ++ past) ≡ true

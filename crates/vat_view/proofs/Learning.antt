@@ -4,21 +4,25 @@ use Rattle.std.specs.Prelude.{Result, Ok, Err, OnErr, is_err, count_by}
 use Rattle.std.specs.List.{filter_map}
 use Rattle.std.specs.Option.{option_or}
 use Rattle.std.proofs.lemmas.Bool.{false≢true}
-use Rattle.vat_view.specs.declared.tables.questions.Questions.{Questions}
-use Rattle.vat_view.specs.declared.tables.exports_imports.ExportsImports.{ExportsImports}
+use Rattle.number_tables.specs.declared.questions.Questions.{Questions}
+use Rattle.number_tables.specs.declared.exports_imports.ExportsImports.{ExportsImports}
 use Rattle.vat_view.specs.declared.record.introduced.Introduced.{Introduced}
 use Rattle.vat_view.specs.declared.record.introduced.Introduced.TheVariants.{Nothing}
-use Rattle.vat_view.specs.declared.record.origin.Origin.{Origin}
-use Rattle.vat_view.specs.declared.tables.question.Question.{Question}
+use Rattle.decoded_records.specs.declared.origin.Origin.{Origin}
+use Rattle.number_tables.specs.declared.question.Question.{Question}
 use Rattle.vat_view.specs.declared.tables.references.BoundReferences.{BoundReferences}
 use Rattle.vat_view.specs.Types.{DecodedRecord, Wire, View, TableKey}
-use Rattle.vat_view.specs.Past.{Past, same_id}
-use Rattle.vat_view.specs.Uses.{UsesQuestions}
-use Rattle.vat_view.specs.Questions.{question_opened, is_late}
-use Rattle.vat_view.specs.Lives.{descriptors, number_introduced, introductions, GivesBackHeld}
-use Rattle.vat_view.specs.Bindings.{contains, new_references}
-use Rattle.vat_view.specs.Glue.Plain.{has_message, own_bindings, received_bindings}
-use Rattle.vat_view.specs.Glue.Tables.{question_at, noted_by, given_back_by, count_released, late_by, bound_at, bound_by, bound_from, view_by, count_at, origin_at, origins_from, origins_if, origins, first_in, AreBegun, bindings, IsTabled, AreTabled, IsFit}
+use Rattle.decoded_records.specs.Past.{Past, same_id}
+use Rattle.decoded_records.specs.Uses.{UsesQuestions}
+use Rattle.decoded_records.specs.Questions.{question_opened, is_late}
+use Rattle.decoded_records.specs.Lives.{descriptors, number_introduced, introductions, GivesBackHeld}
+use Rattle.decoded_records.specs.Bindings.{contains, new_references}
+use Rattle.decoded_records.specs.Glue.Parts.{has_message}
+use Rattle.vat_view.specs.Glue.Plain.{own_bindings, received_bindings}
+use Rattle.number_tables.specs.Glue.QuestionTables.{question_at, given_back_by, late_by}
+use Rattle.vat_view.specs.Glue.Tables.{noted_by, count_released, bound_at, bound_by, bound_from, view_by, origins_if, origins, first_in, AreBegun, bindings, IsTabled, AreTabled, IsFit}
+use Rattle.number_tables.specs.Glue.LifeTables.{count_at, origin_at}
+use Rattle.decoded_records.specs.Glue.Origins.{origins_from}
 use Rattle.vat_view.proofs.Knowing.{late_known}
 use Rattle.vat_view.proofs.Stepping.{tabled_close}
 use Rattle.vat_view.proofs.Arriving.{all_bound, keys_new, bindings_apart, restored}

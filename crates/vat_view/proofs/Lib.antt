@@ -1,11 +1,8 @@
-pub mod Naming
 pub mod Once
 pub mod Counting
 pub mod Keys
 pub mod Knowing
 pub mod Stepping
-pub mod Siding
-pub mod Raising
 pub mod Originating
 pub mod Beginning
 pub mod Lasting

@@ -2,24 +2,25 @@
 use Rattle.std.proofs.Common.{◌≡◌, ◌==◌, ◌<◌, inl, inr, refl, sym, ◌∙◌, ap, ap₂, subst, ℕ, ◌∷◌, length, Bool, true, false, Option, Some, None, if◌then◌else◌, option_map, option_and_then}
 use Rattle.std.specs.Prelude.{Decides, is_some}
 use Rattle.std.proofs.lemmas.Bool.{cases_Bool, eqb-true, false≢true}
-use Rattle.vat_view.specs.declared.tables.questions.Questions.{Questions}
-use Rattle.vat_view.specs.declared.tables.exports_imports.ExportsImports.{ExportsImports}
+use Rattle.number_tables.specs.declared.questions.Questions.{Questions}
+use Rattle.number_tables.specs.declared.exports_imports.ExportsImports.{ExportsImports}
 use Rattle.vat_view.specs.declared.tables.references.BoundReferences.{BoundReferences}
-use Rattle.vat_view.specs.declared.tables.calls.Calls.{Calls}
+use Rattle.number_tables.specs.declared.calls.Calls.{Calls}
 use Rattle.vat_view.specs.declared.tables.waits.waiting_calls.Receipt.{Receipt}
 use Rattle.vat_view.specs.declared.tables.waits.waiting_calls.WaitingCalls.{WaitingCalls}
-use Rattle.vat_view.specs.declared.tables.question.Question.{Question}
+use Rattle.number_tables.specs.declared.question.Question.{Question}
 use Rattle.vat_view.specs.declared.tables.waits.loopbacks.Unechoed.{Unechoed}
 use Rattle.vat_view.specs.declared.tables.waits.embargoes.Embargoes.{Embargoes}
 use Rattle.vat_view.specs.Types.{Return, Exception, Canceled, Disembargo, Sender, DecodedRecord, Wire, View, TableKey}
-use Rattle.vat_view.specs.Past.{Past, Point, point, id, is, names, record_index}
-use Rattle.vat_view.specs.Questions.{call_at, opening}
-use Rattle.vat_view.specs.Views.{view_of_target}
-use Rattle.vat_view.specs.Calls.{goal_of, has_passed, is_at_vat}
-use Rattle.vat_view.specs.Loopbacks.{sender_loopback, receiver_loopback, loopback_of, embargoed_view, receives_call, IsHeldUp}
-use Rattle.vat_view.specs.Bindings.{Refers}
-use Rattle.vat_view.specs.Glue.Tables.{bound_at, question_at}
-use Rattle.vat_view.specs.Glue.Asking.{opening_call_in, targeted_by}
+use Rattle.decoded_records.specs.Past.{Past, Point, point, id, is, names, record_index}
+use Rattle.decoded_records.specs.Questions.{call_at, opening}
+use Rattle.decoded_records.specs.Views.{view_of_target}
+use Rattle.decoded_records.specs.Calls.{goal_of, has_passed, is_at_vat}
+use Rattle.decoded_records.specs.Loopbacks.{sender_loopback, receiver_loopback, loopback_of, embargoed_view, receives_call, IsHeldUp}
+use Rattle.decoded_records.specs.Bindings.{Refers}
+use Rattle.vat_view.specs.Glue.Tables.{bound_at}
+use Rattle.number_tables.specs.Glue.QuestionTables.{question_at, opening_call_in}
+use Rattle.vat_view.specs.Glue.Asking.{targeted_by}
 use Rattle.vat_view.specs.Glue.Kept.{AreKept}
 use Rattle.vat_view.specs.Glue.Queues.{queued_at, is_queued, has_joined}
 use Rattle.vat_view.specs.Glue.LoopTables.{Change, change_of_calls, change_of_loopbacks, looped_by, loopback_at, loopback_target_in, looped_at, put_by, receipt_of, receipt_here, receipt_at, call_received_by, call_taken_by, put_call, queued_by, change_by, AreQueued, Holding, SaysSame, IsChangedBy, AreWaiting}

@@ -2,16 +2,18 @@
 use Rattle.std.proofs.Common.{◌≡◌, ◌<◌, ◌≤◌, inl, inr, refl, sym, ◌∙◌, ap, ℕ, ◌==◌, Bool, true, false, not, ◌&&◌, ◌||◌, Option, Some, None, if◌then◌else◌, option_map, option_and_then, arith}
 use Rattle.std.specs.Prelude.{find, is_some}
 use Rattle.std.proofs.lemmas.Bool.{cases_Bool, ltb-true, ltb-false, eq-eqb}
-use Rattle.vat_view.specs.declared.tables.questions.Questions.{Questions}
-use Rattle.vat_view.specs.declared.tables.exports_imports.ExportsImports.{ExportsImports}
+use Rattle.number_tables.specs.declared.questions.Questions.{Questions}
+use Rattle.number_tables.specs.declared.exports_imports.ExportsImports.{ExportsImports}
 use Rattle.vat_view.specs.Types.{View, TableKey}
-use Rattle.vat_view.specs.Past.{Past, Point, last_answer}
-use Rattle.vat_view.specs.Questions.{opening, is_returned, is_finished, call_at, call_of}
-use Rattle.vat_view.specs.Lives.{Birth, birth, begins, held, is_in_life}
-use Rattle.vat_view.specs.Views.{view_given, number_view, placed_references}
-use Rattle.vat_view.specs.Glue.Tables.{question_known, count_at, origin_at, origin_of, held_origin, view_from, number_by, call_by, IsTabled}
+use Rattle.decoded_records.specs.Past.{Past, Point, last_answer}
+use Rattle.decoded_records.specs.Questions.{opening, is_returned, is_finished, call_at, call_of}
+use Rattle.decoded_records.specs.Lives.{Birth, birth, begins, held, is_in_life}
+use Rattle.decoded_records.specs.Views.{view_given, number_view, placed_references}
+use Rattle.vat_view.specs.Glue.Tables.{question_known, origin_of, view_from, number_by, IsTabled}
+use Rattle.number_tables.specs.Glue.QuestionTables.{call_by}
+use Rattle.number_tables.specs.Glue.LifeTables.{count_at, origin_at, held_origin}
 use Rattle.vat_view.proofs.Knowing.{known_from}
-use Rattle.vat_view.proofs.Raising.{positive}
+use Rattle.number_tables.proofs.Raising.{positive}
 
 mapped : (named : ℕ → Option View) (o : Option (ℕ × ℕ)) → option_and_then named (option_map (λ n. n.0) o) ≡ option_and_then (λ n. named n.0) o
 mapped named (Some n) = refl

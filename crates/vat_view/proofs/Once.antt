@@ -3,11 +3,11 @@ use Rattle.std.proofs.Common.{◌≡◌, ◌≤◌, ◌+◌, refl, sym, subst, �
 use Rattle.std.specs.Prelude.{is_some, IfSome}
 use Rattle.std.proofs.lemmas.Bool.{and_parts, false≢true, not-true}
 use Rattle.vat_view.specs.Types.{Finish, DecodedRecord, Wire, TableKey}
-use Rattle.vat_view.specs.Past.{Past, Point, point, id, names, last_since, Each}
-use Rattle.vat_view.specs.Questions.{question_returned, opens, returns, finishes, is_opened, is_returned, is_finished, is_unreturned, is_unfinished}
-use Rattle.vat_view.specs.Uses.{UsesQuestions}
+use Rattle.decoded_records.specs.Past.{Past, Point, point, id, names, last_since, Each}
+use Rattle.decoded_records.specs.Questions.{question_returned, opens, returns, finishes, is_opened, is_returned, is_finished, is_unreturned, is_unfinished}
+use Rattle.decoded_records.specs.Uses.{UsesQuestions}
 use Rattle.vat_view.specs.Laws.{count_since}
-use Rattle.vat_view.proofs.Naming.{same_id_is}
+use Rattle.decoded_records.proofs.Naming.{same_id_is}
 
 none_at : (s t : Bool) (p : Point) (o : Option Point) (n : ℕ) → (is_some o ≡ false → n ≡ 0) → is_some (if s then None else if t then Some p else o) ≡ false →
     (if s then 0 else (if t then 1 else 0) + n) ≡ 0

@@ -1,41 +1,19 @@
 -- What a record introduces, with the origins: as the code lists them, and as looking back finds them.
-use Rattle.std.proofs.Common.{◌≡◌, ◌+◌, ◌≤◌, inl, inr, refl, sym, ◌∙◌, ap, ap₂, ℕ, zero, suc, ◌==◌, List, [], ◌∷◌, ◌++◌, length, drop, add-zero, count_by, cond, Bool, true, false, Option, Some, None, if◌then◌else◌, option_map, arith, ◌⊎◌}
+use Rattle.std.proofs.Common.{◌≡◌, ◌+◌, ◌≤◌, inl, inr, refl, sym, ◌∙◌, ap, ℕ, zero, suc, ◌==◌, List, [], ◌∷◌, drop, add-zero, count_by, cond, Bool, true, false, Option, Some, None, if◌then◌else◌, option_map, arith, ◌⊎◌}
 use Rattle.std.specs.Prelude.{find, slice_get, filter_map}
 use Rattle.std.specs.List.{zip, cons_option, position_from}
-use Rattle.std.specs.Option.{option_to_list}
 use Rattle.std.proofs.lemmas.Bool.{cases_Bool, false≢true, ne_eqb, eq-eqb}
 use Rattle.std.proofs.lemmas.List.Sums.{sum_by-cons}
-use Rattle.vat_view.specs.declared.record.origin.Origin.{Origin}
+use Rattle.decoded_records.specs.declared.origin.Origin.{Origin}
 use Rattle.vat_view.specs.Types.{Descriptor, NoCap, SenderHosted, SenderPromise, ReceiverHosted, ReceiverAnswer, DecodedRecord, Wire, TableKey}
-use Rattle.vat_view.specs.Past.{same_id, names}
-use Rattle.vat_view.specs.Lives.{number_introduced, is_promised}
-use Rattle.vat_view.specs.Views.{places_from, references}
-use Rattle.vat_view.specs.Glue.Tables.{is_cap, origin_by, origins_from}
+use Rattle.decoded_records.specs.Past.{same_id, names}
+use Rattle.decoded_records.specs.Lives.{number_introduced, is_promised}
+use Rattle.decoded_records.specs.Views.{places_from, references}
+use Rattle.decoded_records.specs.Glue.Origins.{is_cap, origins_from}
 
-pub cons_append : {A : Type 0} (o : Option A) (xs ys : List A) → cons_option o (xs ++ ys) ≡ cons_option o xs ++ ys
-cons_append None xs ys = refl
-cons_append (Some x) xs ys = refl
-
--- ---- as the code lists them
+-- ---- how many
 
 module _ (n : ℕ) (e : DecodedRecord) where
-  pub origins_more : (ds : List Descriptor) (p b : ℕ) (d : Descriptor) →
-      origins_from n e p b (ds ++ d ∷ []) ≡ origins_from n e p b ds ++ option_to_list (origin_by n e (p + length ds) (b + count_by is_cap ds) d)
-  origins_more [] p b d = alone (origin_by n e p b d) ∙ ap₂ (λ x y. option_to_list (origin_by n e x y d)) (sym (add-zero p)) (sym (add-zero b))
-    where
-      alone : (o : Option (TableKey × Origin)) → cons_option o [] ≡ option_to_list o
-      alone None = refl
-      alone (Some x) = refl
-  origins_more (x ∷ ds) p b d =
-      let counted = sum_by-cons (λ d. cond (is_cap d) 1 0) x ds in
-      let place : p + 1 + length ds ≡ p + length (x ∷ ds) = omega arith in
-      let noted : b + cond (is_cap x) 1 0 + count_by is_cap ds ≡ b + count_by is_cap (x ∷ ds) = omega (arith, counted) in
-      ap (λ xs. cons_option (origin_by n e p b x) xs)
-      (origins_more ds (p + 1) (b + (if is_cap x then 1 else 0)) d ∙ ap₂ (λ y z. origins_from n e (p + 1) (b + (if is_cap x then 1 else 0)) ds ++ option_to_list (origin_by n e y z d)) place noted)
-      ∙ cons_append (origin_by n e p b x) (origins_from n e (p + 1) (b + (if is_cap x then 1 else 0)) ds) (option_to_list (origin_by n e (p + length (x ∷ ds)) (b + count_by is_cap (x ∷ ds)) d))
-
-  -- ---- how many
-
   module _ (i : TableKey) where
     counted_cons : (o : Option TableKey) (f : Origin) (xs : List (TableKey × Origin)) (ys : List TableKey) → count_by (λ x. same_id i x.0) xs ≡ count_by (same_id i) ys →
         count_by (λ x. same_id i x.0) (cons_option (option_map (λ j. (j, f)) o) xs) ≡ count_by (same_id i) (cons_option o ys)

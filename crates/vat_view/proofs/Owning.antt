@@ -2,10 +2,10 @@
 use Rattle.std.proofs.Common.{◌≡◌, refl, sym, false, arith}
 use Rattle.std.proofs.lemmas.Bool.{false≢true}
 use Rattle.vat_view.specs.Types.{DecodedRecord, Wire, TableKey}
-use Rattle.vat_view.specs.Past.{Past}
-use Rattle.vat_view.specs.Lives.{gives_back, GivesBackHeld}
-use Rattle.vat_view.specs.Uses.{UsesQuestions, UsesNumbers}
-use Rattle.vat_view.specs.Glue.Plain.{has_message}
+use Rattle.decoded_records.specs.Past.{Past}
+use Rattle.decoded_records.specs.Lives.{gives_back, GivesBackHeld}
+use Rattle.decoded_records.specs.Uses.{UsesQuestions, UsesNumbers}
+use Rattle.decoded_records.specs.Glue.Parts.{has_message}
 
 pub own_uses_questions : (before : Past) (e : DecodedRecord) → has_message e ≡ false → UsesQuestions before e
 own_uses_questions before (Wire s k c rs m) h = absurd (false≢true (sym h))

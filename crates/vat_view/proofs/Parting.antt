@@ -2,10 +2,10 @@
 use Rattle.std.proofs.Common.{◌≡◌, refl, sym, ℕ, Bool, true, false, Option, Some, None, if◌then◌else◌}
 use Rattle.std.specs.Prelude.{is_some}
 use Rattle.std.proofs.lemmas.Bool.{false≢true}
-use Rattle.vat_view.specs.declared.tables.call_state.CallChange.{CallChange}
-use Rattle.vat_view.specs.declared.tables.call_state.CallChange.TheVariants.{Left, Known}
+use Rattle.number_tables.specs.declared.call_state.CallChange.{CallChange}
+use Rattle.number_tables.specs.declared.call_state.CallChange.TheVariants.{Left, Known}
 use Rattle.vat_view.specs.Types.{Bootstrap, Call, Return, Results, Exception, Canceled, TakeFrom, DecodedRecord, Make, Wire, View, TableKey}
-use Rattle.vat_view.specs.Past.{id}
+use Rattle.decoded_records.specs.Past.{id}
 use Rattle.vat_view.specs.Glue.CallTables.{Nothing, change_of_call, effect_from, begins_call, begun_from, moved, step_from, begins_of, moves_of}
 
 moved_alone : (step : CallChange) (o : Option ℕ) → moves_of (moved step o) ≡ change_of_call step o

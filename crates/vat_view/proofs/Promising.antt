@@ -3,14 +3,15 @@ use Rattle.std.proofs.Common.{◌≡◌, ◌<◌, ◌≤◌, inl, inr, refl, sym
 use Rattle.std.specs.Prelude.{is_some, nat_lt}
 use Rattle.std.specs.Option.{option_or}
 use Rattle.std.proofs.lemmas.Bool.{cases_Bool, lt-ltb, le-ltb}
-use Rattle.vat_view.specs.declared.record.origin.Origin.{Origin}
-use Rattle.vat_view.specs.declared.tables.questions.Questions.{Questions}
-use Rattle.vat_view.specs.declared.tables.exports_imports.ExportsImports.{ExportsImports}
+use Rattle.decoded_records.specs.declared.origin.Origin.{Origin}
+use Rattle.number_tables.specs.declared.questions.Questions.{Questions}
+use Rattle.number_tables.specs.declared.exports_imports.ExportsImports.{ExportsImports}
 use Rattle.vat_view.specs.declared.tables.turns.resolves.Resolves.{Resolves}
 use Rattle.vat_view.specs.Types.{DecodedRecord, TableKey}
-use Rattle.vat_view.specs.Past.{Past, Point, point, names, record_index, last_answer, last_where, last_since}
-use Rattle.vat_view.specs.Lives.{Birth, birth, begins, promise_resolved, is_resolved, is_in_life, began_promised}
-use Rattle.vat_view.specs.Glue.Tables.{held_origin, origin_of, IsTabled}
+use Rattle.decoded_records.specs.Past.{Past, Point, point, names, record_index, last_answer, last_where, last_since}
+use Rattle.decoded_records.specs.Lives.{Birth, birth, begins, promise_resolved, is_resolved, is_in_life, began_promised}
+use Rattle.number_tables.specs.Glue.LifeTables.{held_origin}
+use Rattle.vat_view.specs.Glue.Tables.{origin_of, IsTabled}
 use Rattle.vat_view.specs.Glue.KindTables.{resolve_at, last_resolve, AreResolved, resolved_since}
 use Rattle.vat_view.proofs.Meaning.{held_known}
 use Rattle.vat_view.proofs.Viewed.{birth_of, begins_parts, cases_option}

@@ -16,11 +16,11 @@ use Rattle.vat_view.specs.declared.tables.waits.queued_call.QueuedCall.{QueuedCa
 use Rattle.vat_view.specs.contracts.tables.turns.goal_key.GoalKeyOrd.TheImpl as heading_order
 use Rattle.vat_view.specs.contracts.tables.turns.goal_key.GoalKeyOrd.TheImpl.Laws as heading_laws
 use Rattle.vat_view.specs.contracts.tables.waits.queued_call.QueuedCallOrd.TheImpl.Laws as queued_laws
-use Rattle.vat_view.specs.declared.tables.calls.Calls.{Calls}
+use Rattle.number_tables.specs.declared.calls.Calls.{Calls}
 use Rattle.vat_view.specs.declared.tables.waits.waiting_calls.Receipt.{Receipt}
 use Rattle.vat_view.specs.declared.tables.waits.waiting_calls.WaitingCalls.{WaitingCalls}
-use Rattle.vat_view.specs.Past.{is as taken_is}
-use Rattle.vat_view.specs.Glue.CallTables.{call_state_at, goal_in}
+use Rattle.decoded_records.specs.Past.{is as taken_is}
+use Rattle.number_tables.specs.Glue.CallStates.{call_state_at, goal_in}
 use Rattle.vat_view.specs.Glue.Queues.{queued_at, queued_cmp, is_queued, ahead_of}
 use Rattle.vat_view.specs.Glue.LoopTables.{receipt_at, HasLeft}
 

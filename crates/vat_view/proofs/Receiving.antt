@@ -6,12 +6,12 @@ use Rattle.std.specs.Option.{option_or}
 use Rattle.std.proofs.lemmas.Bool.{cases_Bool, and_parts, or_parts, false≢true, eqb-true, eq-eqb, not-true}
 use Rattle.vat_view.specs.declared.tables.waits.waiting_calls.Receipt.{Receipt}
 use Rattle.vat_view.specs.Types.{Call, Return, Exception, Canceled, DecodedRecord, Make, Deliver, Fault, Wire, Request}
-use Rattle.vat_view.specs.Past.{Past, Point, point, id, is, record_index, last_answer, last_where, last_since, Each}
-use Rattle.vat_view.specs.Questions.{call_at, opening}
-use Rattle.vat_view.specs.Views.{view_of_reference, view_of_target}
-use Rattle.vat_view.specs.Calls.{brings, request_of, goal_of, moves, has_passed, is_at_vat}
-use Rattle.vat_view.specs.Loopbacks.{receives_call}
-use Rattle.vat_view.specs.Bindings.{Refers, contains, new_calls, is_bound_call}
+use Rattle.decoded_records.specs.Past.{Past, Point, point, id, is, record_index, last_answer, last_where, last_since, Each}
+use Rattle.decoded_records.specs.Questions.{call_at, opening}
+use Rattle.decoded_records.specs.Views.{view_of_reference, view_of_target}
+use Rattle.decoded_records.specs.Calls.{brings, request_of, goal_of, moves, has_passed, is_at_vat}
+use Rattle.decoded_records.specs.Loopbacks.{receives_call}
+use Rattle.decoded_records.specs.Bindings.{Refers, contains, new_calls, is_bound_call}
 use Rattle.vat_view.specs.Sound.{IsSound}
 use Rattle.vat_view.specs.Glue.LoopTables.{receipt, receipt_of, receipt_here, call_received_by, call_taken_by, put_call}
 use Rattle.vat_view.proofs.Viewed.{cases_option}

@@ -6,7 +6,7 @@ use Rattle.vat_view.specs.declared.tables.arrivals.Arrivals.{Arrivals}
 use Rattle.vat_view.specs.declared.tables.connections.Connections.{Connections}
 use Rattle.vat_view.specs.declared.walks.reachable.Sought.TheVariants.{Over, Elsewhere}
 use Rattle.vat_view.specs.Types.{Edition, First, Later, View, Object, Promise, FieldOf, Import}
-use Rattle.vat_view.specs.Past.{Past, is}
+use Rattle.decoded_records.specs.Past.{Past, is}
 use Rattle.vat_view.specs.Walks.{Next, next, Leads, turned_to}
 use Rattle.vat_view.specs.Connections.{reached_over, is_elsewhere}
 use Rattle.vat_view.specs.Glue.ArrivalTables.{AreArrived}

@@ -1,8 +1,8 @@
 -- The table of turns after a record, and what it says of views.
 use Rattle.std.proofs.Common.{◌≡◌, ◌<◌, ◌≤◌, inl, inr, refl, sym, ◌∙◌, ap, ap₂, ℕ, ◌==◌, List, [], ◌∷◌, length, Bool, true, false, Option, Some, None, if◌then◌else◌, option_map, option_and_then, arith}
 use Rattle.std.proofs.lemmas.Bool.{cases_Bool, ltb-true, ltb-false, eq-eqb}
-use Rattle.vat_view.specs.declared.tables.questions.Questions.{Questions}
-use Rattle.vat_view.specs.declared.tables.exports_imports.ExportsImports.{ExportsImports}
+use Rattle.number_tables.specs.declared.questions.Questions.{Questions}
+use Rattle.number_tables.specs.declared.exports_imports.ExportsImports.{ExportsImports}
 use Rattle.vat_view.specs.declared.tables.references.BoundReferences.{BoundReferences}
 use Rattle.vat_view.specs.declared.tables.turns.settlements.Settlements.{Settlements}
 use Rattle.vat_view.specs.declared.tables.turns.settlements.Settling.{Settling}
@@ -11,16 +11,19 @@ use Rattle.vat_view.specs.declared.tables.turns.handovers.Handover.{Handover}
 use Rattle.vat_view.specs.declared.record.unsettled.Unsettled.TheVariants.{Promise as PromiseToKeep, Results as ResultsOf, Import as ImportToResolve}
 use Rattle.vat_view.specs.Types.{Return, Resolve, DecodedRecord, Fulfil, Break, Answer, AnswerBy, Fault, Wire, View, Object, Promise, FieldOf, Import, TableKey}
 use Rattle.std.specs.Option.{option_or}
-use Rattle.vat_view.specs.Past.{Past, Point, id, point, record_index, last_answer}
-use Rattle.vat_view.specs.Questions.{call_at, opening}
-use Rattle.vat_view.specs.Lives.{Birth, birth, begins, held, is_in_life}
-use Rattle.vat_view.specs.Views.{view_of_reference}
-use Rattle.vat_view.specs.Calls.{call_taken_from}
+use Rattle.decoded_records.specs.Past.{Past, Point, id, point, record_index, last_answer}
+use Rattle.decoded_records.specs.Questions.{call_at, opening}
+use Rattle.decoded_records.specs.Lives.{Birth, birth, begins, held, is_in_life}
+use Rattle.decoded_records.specs.Views.{view_of_reference}
+use Rattle.decoded_records.specs.Calls.{call_taken_from}
 use Rattle.vat_view.specs.Walks.{on_to, next, turned_to}
-use Rattle.vat_view.specs.Glue.Tables.{question_at, count_at, origin_at, origin_of, held_origin, bound_at, AreTabled, IsFit}
-use Rattle.vat_view.specs.Glue.TurnTables.{is_this, field_path, promise_of, import_at, unless_elsewhere, results_by, import_by, settlement_of, settled_by, turn_target, target_in, Settler, Turning, turning_of, goes, goes_to, landing_of, landing_view, settler, settler_at_point, settler_of, last_settler, settled_as, settles, handing, handover_of, handover_at, handover_after, SaysSameTurns, IsNoted, by_handover, AreSettled, call_behind_by, turning_by, goes_by}
+use Rattle.number_tables.specs.Glue.QuestionTables.{question_at}
+use Rattle.number_tables.specs.Glue.LifeTables.{count_at, origin_at, held_origin}
+use Rattle.vat_view.specs.Glue.Tables.{origin_of, bound_at, AreTabled, IsFit}
+use Rattle.vat_view.specs.Glue.TurnTables.{is_this, promise_of, import_at, unless_elsewhere, results_by, import_by, settlement_of, settled_by, turn_target, target_in, Settler, Turning, turning_of, goes, goes_to, landing_of, landing_view, settler, settler_at_point, settler_of, last_settler, settled_as, settles, handing, handover_of, handover_at, handover_after, SaysSameTurns, IsNoted, by_handover, AreSettled, call_behind_by, turning_by, goes_by}
+use Rattle.decoded_records.specs.Glue.Parts.{field_path}
 use Rattle.vat_view.proofs.Knowing.{known_from}
-use Rattle.vat_view.proofs.Raising.{positive}
+use Rattle.number_tables.proofs.Raising.{positive}
 use Rattle.vat_view.proofs.Landed.{going_step, lands_bound}
 use Rattle.vat_view.proofs.Handed.{answerer_settles, handed_step, matched}
 

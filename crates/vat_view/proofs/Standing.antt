@@ -2,16 +2,17 @@
 -- may turn views asks nothing and aborts no connection.
 use Rattle.std.proofs.Common.{◌≡◌, inl, refl, sym, ℕ, true, false, Option, Some, None, if◌then◌else◌}
 use Rattle.std.proofs.lemmas.Bool.{false≢true}
-use Rattle.vat_view.specs.declared.tables.question.Question.{Question}
-use Rattle.vat_view.specs.declared.tables.exports_imports.ExportsImports.{ExportsImports}
+use Rattle.number_tables.specs.declared.question.Question.{Question}
+use Rattle.number_tables.specs.declared.exports_imports.ExportsImports.{ExportsImports}
 use Rattle.vat_view.specs.declared.tables.turns.settlements.Settlements.{Settlements}
 use Rattle.vat_view.specs.declared.tables.turns.settlements.Settling.{Settling}
 use Rattle.vat_view.specs.declared.tables.turns.turned.Turned.TheVariants.{Nowhere}
 use Rattle.vat_view.specs.declared.tables.connections.Connections.{Connections}
 use Rattle.vat_view.specs.Types.{Return, Resolve, DecodedRecord, Fulfil, Break, Answer, AnswerBy, Fault, Wire, View, Object, Promise, FieldOf, Import, TableKey}
-use Rattle.vat_view.specs.Lives.{promise_resolved}
+use Rattle.decoded_records.specs.Lives.{promise_resolved}
 use Rattle.vat_view.specs.Glue.Asking.{taken_from_by}
-use Rattle.vat_view.specs.Glue.TurnTables.{may_turn, field_path, turn_target, settled_by, settled_at, settles, SaysSameTurns, IsNoted}
+use Rattle.vat_view.specs.Glue.TurnTables.{may_turn, turn_target, settled_by, settled_at, settles, SaysSameTurns, IsNoted}
+use Rattle.decoded_records.specs.Glue.Parts.{field_path}
 use Rattle.vat_view.proofs.Connecting.{SaysMore}
 
 pub settles_none : (named : ℕ → Option View) (lives : ExportsImports) (known : TableKey → Option Question) (e : DecodedRecord) → may_turn e ≡ false → None ≡ settled_by named lives known e

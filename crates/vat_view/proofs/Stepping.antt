@@ -1,16 +1,18 @@
 -- What one record more does to what looking back finds.
 use Rattle.std.proofs.Common.{ap₂, ◌<◌, ◌≡◌, ◌≤◌, ◌+◌, ◌-◌, refl, sym, ◌∙◌, ap, ℕ, List, ◌∷◌, Bool, true, false, not, Option, Some, None, if◌then◌else◌, option_map, count_by, arith}
 use Rattle.std.specs.Prelude.{is_some, Result, Ok, Err, OnOk, OnErr}
-use Rattle.vat_view.specs.declared.tables.question.Question.{Question}
-use Rattle.vat_view.specs.declared.tables.questions.Questions.{Questions}
-use Rattle.vat_view.specs.declared.tables.exports_imports.ExportsImports.{ExportsImports}
+use Rattle.number_tables.specs.declared.question.Question.{Question}
+use Rattle.number_tables.specs.declared.questions.Questions.{Questions}
+use Rattle.number_tables.specs.declared.exports_imports.ExportsImports.{ExportsImports}
 use Rattle.vat_view.specs.Types.{Results, Exception, Canceled, Elsewhere, TakeFrom, Bootstrap, Call, Return, Finish, Release, DecodedRecord, Wire, TableKey}
-use Rattle.vat_view.specs.Past.{Past, Point, point, id, same_id, names, last_answer, last_since}
-use Rattle.vat_view.specs.Questions.{question_opened, asks_elsewhere, noted_call, opens, returns_lightly, releases, takes_results, opening, return_of, finish_of, is_returned, is_returned_lightly, is_finished, is_released, is_taken, closes}
-use Rattle.vat_view.specs.Lives.{begins, introductions, introductions_at, introduces, gives_back, introduced_count, released_count, held, is_in_life, GivesBackHeld}
-use Rattle.vat_view.specs.Uses.{UsesQuestions}
-use Rattle.vat_view.specs.Glue.Tables.{question_at, question_known, count_at, origin_at, origin_of, origins, raised_origin, count_released, given_back_by, just_opened, with_return, with_light_return, with_finish, with_release, with_taken, changed_if, noted_by, IsPut, IsSameQuestions, IsTabled}
-use Rattle.vat_view.specs.declared.record.origin.Origin.{Origin}
+use Rattle.decoded_records.specs.Past.{Past, Point, point, id, same_id, names, last_answer, last_since}
+use Rattle.decoded_records.specs.Questions.{question_opened, asks_elsewhere, noted_call, opens, returns_lightly, releases, takes_results, opening, return_of, finish_of, is_returned, is_returned_lightly, is_finished, is_released, is_taken, closes}
+use Rattle.decoded_records.specs.Lives.{begins, introductions, introductions_at, introduces, gives_back, introduced_count, released_count, held, is_in_life, GivesBackHeld}
+use Rattle.decoded_records.specs.Uses.{UsesQuestions}
+use Rattle.number_tables.specs.Glue.QuestionTables.{question_at, given_back_by, just_opened, with_return, with_light_return, with_finish, with_release, with_taken, IsPut, IsSameQuestions}
+use Rattle.vat_view.specs.Glue.Tables.{question_known, origin_of, origins, count_released, changed_if, noted_by, IsTabled}
+use Rattle.number_tables.specs.Glue.LifeTables.{count_at, origin_at, raised_origin}
+use Rattle.decoded_records.specs.declared.origin.Origin.{Origin}
 use Rattle.vat_view.proofs.Beginning.{counted_origins, born_step}
 use Rattle.std.proofs.lemmas.Bool.{ltb-true}
 use Rattle.vat_view.proofs.Knowing.{known_from, closed_known}

@@ -3,8 +3,8 @@ use Rattle.std.proofs.Common.{◌≡◌, ◌+◌, ◌<◌, ◌≤◌, inl, inr, 
 use Rattle.std.proofs.lemmas.Bool.{cases_Bool}
 use Rattle.std.proofs.lemmas.List.Sums.{sum_by-append, sum_by-cons, sum_by-take-le}
 use Rattle.vat_view.specs.Types.{TableKey}
-use Rattle.vat_view.specs.Past.{same_id}
-use Rattle.vat_view.proofs.Naming.{same_id_is, same_id_self}
+use Rattle.decoded_records.specs.Past.{same_id}
+use Rattle.decoded_records.proofs.Naming.{same_id_is, same_id_self}
 
 -- one more at the end
 pub count_more : (i n : TableKey) (xs : List TableKey) → count_by (same_id i) (xs ++ n ∷ []) ≡ count_by (same_id i) xs + (if same_id i n then 1 else 0)

@@ -11,9 +11,10 @@ use Rattle.vat_view.specs.declared.tables.turns.settlements.Settlements.{Settlem
 use Rattle.vat_view.specs.declared.record.unsettled.Unsettled.TheVariants.{Results as ResultsOf, Import as ImportToResolve}
 use Rattle.vat_view.specs.declared.tables.turns.turned.Turned.TheVariants.{Nowhere, Reference as ToOne, Field as OneField, Fields as ManyFields}
 use Rattle.vat_view.specs.Types.{Descriptor, DecodedRecord, View, Object, Promise, FieldOf, Import}
-use Rattle.vat_view.specs.Lives.{descriptors}
+use Rattle.decoded_records.specs.Lives.{descriptors}
 use Rattle.vat_view.specs.Glue.FieldTargets.{target_among}
-use Rattle.vat_view.specs.Glue.TurnTables.{reference_at, answered_at, returned_at, target_in, answer_target, field_target, is_nowhere, pending_cmp, ended, ended_in, number_in, turned_in, settled_with, settled_at, settles, field_path, has_room_for_turned}
+use Rattle.vat_view.specs.Glue.TurnTables.{reference_at, answered_at, returned_at, target_in, answer_target, field_target, is_nowhere, pending_cmp, ended, ended_in, number_in, turned_in, settled_with, settled_at, settles, has_room_for_turned}
+use Rattle.decoded_records.specs.Glue.Parts.{field_path}
 use Rattle.vat_view.proofs.Landed.{reference_unmet}
 
 none_some : {A : Type 0} {x : A} → None ≡ Some x → ⊥

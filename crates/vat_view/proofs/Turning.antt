@@ -3,9 +3,9 @@ use Rattle.std.proofs.Common.{◌≡◌, ℕ, refl, sym, ◌∙◌, subst, List,
 use Rattle.std.specs.Prelude.{unwrap_or, IsSome}
 use Rattle.std.specs.Option.{option_or}
 use Rattle.vat_view.specs.Types.{DecodedRecord, Fulfil, Break, View, Object, Promise, FieldOf, Import}
-use Rattle.vat_view.specs.Views.{view_of_reference}
+use Rattle.decoded_records.specs.Views.{view_of_reference}
 use Rattle.std.proofs.lemmas.Bool.{false≢true, eqb-true}
-use Rattle.vat_view.specs.Past.{Past, last_answer}
+use Rattle.decoded_records.specs.Past.{Past, last_answer}
 use Rattle.vat_view.specs.Laws.{EachAfter}
 use Rattle.vat_view.specs.Walks.{Next, turns, stops, stays, turn, next, TurnsOnce, Leads, here, onward, LeadsByTurns, turned, IsEnd, is_promise}
 

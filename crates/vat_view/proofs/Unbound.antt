@@ -5,11 +5,11 @@ use Rattle.std.specs.List.{list_all}
 use Rattle.std.specs.Option.{option_or}
 use Rattle.std.proofs.lemmas.Bool.{cases_Bool, and_parts, and_from, or_parts, or_left, or_right, false≢true, eqb-true}
 use Rattle.vat_view.specs.Types.{Bootstrap, Call, Return, Results, Exception, Canceled, TakeFrom, DecodedRecord, Make, Deliver, Answer, AnswerBy, Fault, Wire, Request, TableKey}
-use Rattle.vat_view.specs.Past.{Past, point, id, is, last_answer, last_where, Each}
-use Rattle.vat_view.specs.Questions.{opens, opening, call_at, is_late}
-use Rattle.vat_view.specs.Views.{view_of_reference, view_of_target}
-use Rattle.vat_view.specs.Calls.{brings, request_of, takes, moves, delivers, boots, settles, knows, has_passed, is_settled, is_known, call_taken_from}
-use Rattle.vat_view.specs.Bindings.{Refers, new_calls, contains, is_bound_call}
+use Rattle.decoded_records.specs.Past.{Past, point, id, is, last_answer, last_where, Each}
+use Rattle.decoded_records.specs.Questions.{opens, opening, call_at, is_late}
+use Rattle.decoded_records.specs.Views.{view_of_reference, view_of_target}
+use Rattle.decoded_records.specs.Calls.{brings, request_of, takes, moves, delivers, boots, settles, knows, has_passed, is_settled, is_known, call_taken_from}
+use Rattle.decoded_records.specs.Bindings.{Refers, new_calls, contains, is_bound_call}
 use Rattle.vat_view.specs.Sound.{IsSound}
 
 -- no record before says anything of a call

@@ -5,10 +5,10 @@ use Rattle.std.specs.List.{position_from}
 use Rattle.std.specs.Option.{option_or}
 use Rattle.std.proofs.lemmas.Bool.{and_parts, cases_Bool, false≢true, eqb-true}
 use Rattle.vat_view.specs.Types.{Descriptor, Resolution, Resolve, DecodedRecord, Wire, Object, Promise, FieldOf, Import, TableKey}
-use Rattle.vat_view.specs.Past.{Past, point, id, names, record_index, last_answer, last_since}
-use Rattle.vat_view.specs.Lives.{Birth, birth, begins, promise_resolved, is_resolved, is_in_life, descriptors, number_introduced}
+use Rattle.decoded_records.specs.Past.{Past, point, id, names, record_index, last_answer, last_since}
+use Rattle.decoded_records.specs.Lives.{Birth, birth, begins, promise_resolved, is_resolved, is_in_life, descriptors, number_introduced}
 use Rattle.vat_view.specs.Walks.{Next, stays, began_at, resolves, next, TurnsOnce}
-use Rattle.vat_view.proofs.Naming.{same_id_self, names_is}
+use Rattle.decoded_records.proofs.Naming.{same_id_self, names_is}
 use Rattle.vat_view.proofs.Originating.{found_later}
 use Rattle.vat_view.proofs.Viewed.{begins_parts, cases_option}
 use Rattle.vat_view.proofs.Promising.{begins_number, birth_below}

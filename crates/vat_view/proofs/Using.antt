@@ -6,12 +6,12 @@ use Rattle.std.proofs.lemmas.List.Folds.{list_all-append}
 use Rattle.std.proofs.lemmas.List.Sums.{sum_by-cons}
 use Rattle.std.proofs.lemmas.Bool.{and_parts, and_from, eqb-true, eq-eqb}
 use Rattle.vat_view.specs.Types.{Descriptor, NoCap, SenderHosted, SenderPromise, ReceiverHosted, ReceiverAnswer, DecodedRecord, TableKey}
-use Rattle.vat_view.specs.Past.{Past}
-use Rattle.vat_view.specs.Questions.{question_returned, question_taken, opening, is_tail, is_taken, is_unfinished, is_unreturned, is_late}
-use Rattle.vat_view.specs.Uses.{questions_used, UsesQuestions}
-use Rattle.vat_view.specs.Bindings.{NotesEach}
-use Rattle.vat_view.specs.Views.{places_from, places, references}
-use Rattle.vat_view.specs.Glue.Tables.{is_cap}
+use Rattle.decoded_records.specs.Past.{Past}
+use Rattle.decoded_records.specs.Questions.{question_returned, question_taken, opening, is_tail, is_taken, is_unfinished, is_unreturned, is_late}
+use Rattle.decoded_records.specs.Uses.{questions_used, UsesQuestions}
+use Rattle.decoded_records.specs.Bindings.{NotesEach}
+use Rattle.decoded_records.specs.Views.{places_from, places, references}
+use Rattle.decoded_records.specs.Glue.Origins.{is_cap}
 use Rattle.vat_view.specs.Glue.Asking.{passes_if}
 
 -- one number that may be there

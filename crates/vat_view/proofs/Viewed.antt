@@ -5,18 +5,19 @@ use Rattle.std.specs.List.{list_all, zip, filter_map, cons_option, position_from
 use Rattle.std.specs.Option.{option_or}
 use Rattle.std.proofs.lemmas.Bool.{and_parts, or_left, or_right, cases_Bool, false≢true, not-true, eqb-true, eq-eqb, lt-ltb}
 use Rattle.std.proofs.lemmas.List.Sums.{sum_by-cons}
-use Rattle.vat_view.specs.declared.record.origin.Origin.{Origin}
+use Rattle.decoded_records.specs.declared.origin.Origin.{Origin}
 use Rattle.vat_view.specs.Types.{Descriptor, NoCap, SenderHosted, SenderPromise, ReceiverHosted, ReceiverAnswer, RpcMessage, DecodedRecord, Host, Vow, Field, Wire, View, Object, Promise, FieldOf, Import, TableKey}
-use Rattle.vat_view.specs.Past.{Past, point, id, same_id, names, last_answer, record_index, Each}
-use Rattle.vat_view.specs.Questions.{question_finished, question_taken, is_late, is_opened, is_returned, is_finished, is_unfinished, opening, call_at, noted_call}
-use Rattle.vat_view.specs.Lives.{Birth, birth, begins, number_introduced, introduces, held, descriptors, is_in_life, GivesBackHeld}
-use Rattle.vat_view.specs.Views.{view_of_reference, binds, view_given, number_view, field_view, descriptor_view, described_at, placed_references, places, places_from, references}
-use Rattle.vat_view.specs.Uses.{question_targeted, question_described, number_targeted, number_described, number_released}
-use Rattle.vat_view.specs.Bindings.{Refers, NotesEach, contains, is_bound, new_references}
+use Rattle.decoded_records.specs.Past.{Past, point, id, same_id, names, last_answer, record_index, Each}
+use Rattle.decoded_records.specs.Questions.{question_finished, question_taken, is_late, is_opened, is_returned, is_finished, is_unfinished, opening, call_at, noted_call}
+use Rattle.decoded_records.specs.Lives.{Birth, birth, begins, number_introduced, introduces, held, descriptors, is_in_life, GivesBackHeld}
+use Rattle.decoded_records.specs.Views.{view_of_reference, binds, view_given, number_view, field_view, descriptor_view, described_at, placed_references, places, places_from, references}
+use Rattle.decoded_records.specs.Uses.{question_targeted, question_described, number_targeted, number_described, number_released}
+use Rattle.decoded_records.specs.Bindings.{Refers, NotesEach, contains, is_bound, new_references}
 use Rattle.vat_view.specs.Sound.{IsSound}
-use Rattle.vat_view.specs.Glue.Tables.{is_cap, origin_of, origins}
-use Rattle.vat_view.proofs.Naming.{same_id_is, same_id_self}
-use Rattle.vat_view.proofs.Raising.{none_counted, positive}
+use Rattle.decoded_records.specs.Glue.Origins.{is_cap}
+use Rattle.vat_view.specs.Glue.Tables.{origin_of, origins}
+use Rattle.decoded_records.proofs.Naming.{same_id_is, same_id_self}
+use Rattle.number_tables.proofs.Raising.{none_counted, positive}
 use Rattle.vat_view.proofs.Originating.{none_introduces}
 use Rattle.vat_view.proofs.Counting.{no_more_went}
 use Rattle.vat_view.proofs.Beginning.{counted_origins, begun, introduced_now, not_late}

@@ -3,7 +3,7 @@ use Rattle.std.proofs.Common.{◌≡◌, ◌≢◌, ◌⊎◌, ℕ, zero, suc, �
 use Rattle.std.specs.Prelude.{Option, Some, None, option_and_then, if◌then◌else◌}
 use Rattle.std.proofs.lemmas.Bool.{cases_eq, cases_lt}
 use Rattle.vat_view.specs.Types.{View}
-use Rattle.vat_view.specs.Past.{Past}
+use Rattle.decoded_records.specs.Past.{Past}
 use Rattle.vat_view.specs.Walks.{Next, turns, stops, stays, next, Leads, here, onward, LeadsByTurns, turned, turned_to}
 use Rattle.vat_view.specs.Glue.TurnTables.{after_turns, Reaches, ReachesByTurns}
 

@@ -2,8 +2,8 @@
 use Rattle.std.specs.Prelude.{ℕ, Bool, true, false, Option, Some, None, option_and_then, slice_get}
 use Rattle.std.specs.Option.{option_map_or}
 use Rattle.vat_view.specs.Types.{Descriptor, SenderHosted, SenderPromise, DecodedRecord, Wire}
-use Rattle.vat_view.specs.Past.{Past, record_at}
-use Rattle.vat_view.specs.Lives.{descriptors}
+use Rattle.decoded_records.specs.Past.{Past, record_at}
+use Rattle.decoded_records.specs.Lives.{descriptors}
 
 -- how an import came in: over which connection, and whether as senderHosted
 pub record Arrival : Type 0 where

@@ -2,9 +2,9 @@
 -- of Message.abort).
 use Rattle.std.specs.Prelude.{◌≡◌, ℕ, ◌==◌, Bool, true, false, not, ◌||◌, Option, Some, None, if◌then◌else◌, option_map, IsTrue}
 use Rattle.vat_view.specs.Types.{Edition, First, Later, Bootstrap, Call, Abort, DecodedRecord, Wire, View, Object, Promise, FieldOf, Import}
-use Rattle.vat_view.specs.Past.{Past, is, last_answer}
+use Rattle.decoded_records.specs.Past.{Past, is, last_answer}
 use Rattle.vat_view.specs.Arrivals.{arrived}
-use Rattle.vat_view.specs.Calls.{has_passed}
+use Rattle.decoded_records.specs.Calls.{has_passed}
 use Rattle.vat_view.specs.Walks.{Leads}
 
 -- (rpc.capnp, Message.abort: sent when a connection is being aborted; the sender will completely close it shortly

@@ -4,16 +4,12 @@ pub mod Asking
 pub mod CallTables
 pub mod ConnectionTables
 pub mod FieldTargets
-pub mod Ids
 pub mod Kept
 pub mod KindTables
-pub mod LentSides
 pub mod LoopTables
 pub mod Plain
 pub mod Queues
 pub mod Seen
-pub mod ShortLists
-pub mod Sides
 pub mod Tables
 pub mod TurnTables
 pub mod Whole

@@ -1,8 +1,8 @@
 -- Laws: what holds of every log whose records keep the rules that are named. `src/laws.rt` promises them.
 use Rattle.std.specs.Prelude.{ℕ, ◌+◌, List, [], ◌∷◌, ◌++◌, Bool, if◌then◌else◌, IsTrue, ⊤}
 use Rattle.vat_view.specs.Types.{DecodedRecord, TableKey}
-use Rattle.vat_view.specs.Past.{Past}
-use Rattle.vat_view.specs.Lives.{is_in_life}
+use Rattle.decoded_records.specs.Past.{Past}
+use Rattle.decoded_records.specs.Lives.{is_in_life}
 
 -- how many records pass a test, of those after the last that passes another
 abbrev pub count_since : (Past → DecodedRecord → Bool) → (Past → DecodedRecord → Bool) → Past → ℕ

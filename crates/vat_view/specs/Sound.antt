@@ -1,9 +1,9 @@
 -- The rules that the laws rest on.
 use Rattle.vat_view.specs.Types.{DecodedRecord}
-use Rattle.vat_view.specs.Past.{Past}
-use Rattle.vat_view.specs.Lives.{GivesBackHeld}
-use Rattle.vat_view.specs.Uses.{UsesQuestions, UsesNumbers}
-use Rattle.vat_view.specs.Bindings.{Refers, NotesEach}
+use Rattle.decoded_records.specs.Past.{Past}
+use Rattle.decoded_records.specs.Lives.{GivesBackHeld}
+use Rattle.decoded_records.specs.Uses.{UsesQuestions, UsesNumbers}
+use Rattle.decoded_records.specs.Bindings.{Refers, NotesEach}
 
 -- a record names, uses and gives back things as it should, and notes a reference for each capability
 pub record IsSound (before : Past) (e : DecodedRecord) : Type 0 where

@@ -2,10 +2,10 @@
 use Rattle.std.specs.Prelude.{◌≡◌, ℕ, ◌==◌, List, Bool, true, false, ◌&&◌, Option, Some, None, if◌then◌else◌, unwrap_or, option_and_then, find, IsSome}
 use Rattle.std.specs.Str.{bytes_eq as same_path}
 use Rattle.vat_view.specs.Types.{Outcome, Results, Exception, Canceled, Elsewhere, TakeFrom, Bootstrap, Call, Return, Finish, Resolve, Release, Disembargo, Abort, DecodedRecord, Host, Vow, Fulfil, Break, Make, Field, Deliver, Answer, AnswerBy, Fault, Wire, View, Object, Promise, FieldOf, Import}
-use Rattle.vat_view.specs.Past.{Past, id, is, record_index, last_answer}
-use Rattle.vat_view.specs.Questions.{call_at, opening, is_late}
-use Rattle.vat_view.specs.Lives.{Birth, birth}
-use Rattle.vat_view.specs.Views.{field_view, view_of_reference, view_of_descriptor}
+use Rattle.decoded_records.specs.Past.{Past, id, is, record_index, last_answer}
+use Rattle.decoded_records.specs.Questions.{call_at, opening, is_late}
+use Rattle.decoded_records.specs.Lives.{Birth, birth}
+use Rattle.decoded_records.specs.Views.{field_view, view_of_reference, view_of_descriptor}
 
 -- where a view goes next: it turns to this view, it stops and can lead nowhere, or it stays what it is
 pub data Next : Type 0 where

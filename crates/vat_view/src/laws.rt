@@ -2,12 +2,12 @@
 
 ghost use Rattle.std.specs.Prelude.{◌≡◌, ◌⊎◌, ◌≤◌, ◌++◌, ℕ, List, Some, true, false, IsSome};
 ghost use Rattle.vat_view.specs.Types.{DecodedRecord, Fulfil, Break, Wire, Resolution, Resolve, View, Object, Promise, FieldOf, TableKey};
-ghost use Rattle.vat_view.specs.Past.{Past, Each, id};
-ghost use Rattle.vat_view.specs.Questions.{opens, returns, finishes};
-ghost use Rattle.vat_view.specs.Lives.{introduced_count, released_count, is_resolved, GivesBackHeld};
-ghost use Rattle.vat_view.specs.Uses.{UsesQuestions};
-ghost use Rattle.vat_view.specs.Views.{view_of_reference, view_of_number};
-ghost use Rattle.vat_view.specs.Bindings.{Refers, is_bound, is_bound_call};
+ghost use Rattle.decoded_records.specs.Past.{Past, Each, id};
+ghost use Rattle.decoded_records.specs.Questions.{opens, returns, finishes};
+ghost use Rattle.decoded_records.specs.Lives.{introduced_count, released_count, is_resolved, GivesBackHeld};
+ghost use Rattle.decoded_records.specs.Uses.{UsesQuestions};
+ghost use Rattle.decoded_records.specs.Views.{view_of_reference, view_of_number};
+ghost use Rattle.decoded_records.specs.Bindings.{Refers, is_bound, is_bound_call};
 ghost use Rattle.vat_view.specs.Sound.{IsSound};
 ghost use Rattle.vat_view.specs.Walks.{next, turns, stops, stays, TurnsOnce, Leads, LeadsByTurns, IsEnd};
 ghost use Rattle.vat_view.specs.Laws.{count_since, LivesOn, EachAfter};

@@ -498,7 +498,7 @@ private:
   template <typename Fields>
   void begin(uint8_t kind, Fields&& fields) {
     if (!recording) return;
-    if (log.records == 1048576) return stop("a log has no room for more records");
+    if (log.records == 4294967295) return stop("a log has no room for more records");
     size_t place = log.unwritten();
     log.kind(kind);
     fields();

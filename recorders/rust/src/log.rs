@@ -7,7 +7,7 @@ use std::path::{Path, PathBuf};
 /// How many elements a list of a record may have.
 const MOST_COUNTED: usize = 1_048_576;
 /// How many records a log may have.
-const MOST_RECORDS: u64 = 1_048_576;
+const MOST_RECORDS: u64 = 4_294_967_295;
 
 /// A record that is being made. It is written when it is whole.
 pub(crate) struct Record {

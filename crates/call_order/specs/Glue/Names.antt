@@ -8,9 +8,9 @@ use Rattle.call_order.specs.declared.names.Names.{Names}
 use Rattle.call_trace.specs.Naming.{call_named}
 use Rattle.call_trace.specs.Types.{Name, Step}
 use Rattle.run_model.specs.Steps.{call}
-use Rattle.vat_view.specs.Bindings.{is_bound_call}
-use Rattle.vat_view.specs.Calls.{is_at_vat}
-use Rattle.vat_view.specs.Past.{Past}
+use Rattle.decoded_records.specs.Bindings.{is_bound_call}
+use Rattle.decoded_records.specs.Calls.{is_at_vat}
+use Rattle.decoded_records.specs.Past.{Past}
 
 -- by vat, then by number
 abbrev pub key_cmp : ℕ × ℕ → ℕ × ℕ → Ordering

@@ -1,31 +1,41 @@
--- For the code's contracts, and no part of the meaning: turns of an order, and when what is kept is that of the steps so far.
-use Rattle.std.specs.Prelude.{◌≡◌, ℕ, List, map, option_map}
-use Rattle.agree.specs.Rows.{log_of_vat}
-use Rattle.call_order.specs.Glue.Cursors.{log_kept}
-use Rattle.call_order.specs.Glue.Lines.{AreLines}
+-- For the code's contracts, and no part of the meaning: when what is kept is that of the turns so far.
+use Rattle.std.specs.List.{zip}
+use Rattle.std.specs.Prelude.{◌≡◌, ℕ, List, [], ◌∷◌, Bool, ⊤, Option, Some, None, Ok, if◌then◌else◌}
+use Rattle.agree.specs.Rows.{Row, log_of_vat}
+use Rattle.call_order.specs.Glue.Counts.{count_of, turns_counted}
+use Rattle.call_order.specs.Glue.UnderWay.{AreUnderWay}
 use Rattle.call_order.specs.Glue.Names.{AreNamed}
 use Rattle.call_order.specs.Glue.Told.{told_of}
-use Rattle.call_order.specs.declared.cursors.Cursors.{Cursors}
+use Rattle.call_order.specs.declared.counts.Counts.{Counts}
 use Rattle.call_order.specs.declared.tables.Tables.{Tables}
 use Rattle.call_trace.specs.Running.{steps_by, IsNamedRow, MayRun}
-use Rattle.call_trace.specs.Taking.{finding_of, steps_counted_by, taken_by}
 use Rattle.call_trace.specs.Types.{Step}
+use Rattle.turn_taking.specs.Turns.{Turns}
 use Rattle.undelivered.specs.OfRuns.{moments_of}
-use Rattle.vat_rules.specs.Audit.{Found}
+use Rattle.vat_log.specs.declared.body.Body.{Body}
+use Rattle.vat_rules.specs.Events.{Reader, event_of}
 
--- the steps of the records that these turns take, each turn one, the newest first
-pub record IsSoFar (findings : List Found) (turns : List ℕ) (before : List Step) : Type 0 where
-  pub runs : MayRun (taken_by findings turns)
-  pub named : IsNamedRow (taken_by findings turns) before
-  pub each : map (λ r. r.0) (taken_by findings turns) ≡ turns
+-- the turns of these vats and records, none once memory was refused
+abbrev pub turns_unless : Bool → List ℕ → List Body → Option Turns
+turns_unless refused vats records = if refused then None else Some (zip vats records)
 
--- what is kept is that of these turns and steps
-pub record IsKept (findings : List Found) (turns : List ℕ) (before : List Step) (cursors : Cursors) (tables : Tables) : Type 0 where
-  pub logs : (v : ℕ) → log_kept cursors v ≡ option_map (λ f. (f.log, steps_counted_by v turns)) (finding_of v findings)
-  pub named : (v : ℕ) → AreNamed v (log_of_vat v (taken_by findings turns)) (steps_by v before) tables.names
-  pub lines : AreLines before tables.lines
+-- a row of these turns' records, each with its message read
+abbrev pub AreRead : Row → Turns → Type 0
+AreRead [] [] = ⊤
+AreRead (r ∷ row) (turn ∷ turns) = (r.0 ≡ turn.0) × ((read : Reader) × (event_of read turn.1 ≡ Ok r.1)) × AreRead row turns
+AreRead _ _ = ⊥
+
+-- the tables are those of the steps that a row of records takes
+pub record AreKept (row : Row) (before : List Step) (tables : Tables) : Type 0 where
+  pub named : (v : ℕ) → AreNamed v (log_of_vat v row) (steps_by v before) tables.names
+  pub under_way : AreUnderWay before tables.under_way
   pub told : (v : ℕ) → told_of tables.told v ≡ moments_of v before
 
--- these turns were taken
-abbrev pub IsReached : List Found → List ℕ → Cursors → Tables → Type 0
-IsReached findings turns cursors tables = (before : List Step) → IsSoFar findings turns before → IsKept findings turns before cursors tables
+-- the tables are those of the steps of these turns' records, where these have any
+abbrev pub AreTablesOf : Turns → Tables → Type 0
+AreTablesOf turns tables = (row : Row) (before : List Step) → AreRead row turns → MayRun row → IsNamedRow row before → AreKept row before tables
+
+-- the tables and the counts are those of these turns
+pub record IsReached (turns : Turns) (tables : Tables) (counts : Counts) : Type 0 where
+  pub steps : AreTablesOf turns tables
+  pub numbers : (v : ℕ) → count_of counts v ≡ turns_counted v turns

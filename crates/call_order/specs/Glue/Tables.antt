@@ -1,6 +1,6 @@
 -- For the code's contracts, and no part of the meaning: how one record changes the tables.
 use Rattle.std.specs.Prelude.{◌≡◌, ℕ, Option, Some, None}
-use Rattle.call_order.specs.Glue.Lines.{IsSent, one_with, IsReceived}
+use Rattle.call_order.specs.Glue.UnderWay.{IsSent, one_with, IsReceived}
 use Rattle.call_order.specs.Glue.Names.{name_in, IsCome, IsLeft}
 use Rattle.call_order.specs.Glue.Told.{IsTold}
 use Rattle.call_order.specs.declared.deeds.Deed.TheVariants as deed
@@ -17,10 +17,10 @@ IsComeBy v c (Some name) old new = IsCome v c name old new
 
 -- a deed of a vat, by its record of this number, changed the tables so
 abbrev pub IsDone : ℕ → ℕ → Deed → Tables → Tables → Type 0
-IsDone v number (deed.Make c r) old new = IsTold v (moment.Made c r) old.told new.told × (new.names ≡ old.names) × (new.lines ≡ old.lines)
+IsDone v number (deed.Make c r) old new = IsTold v (moment.Made c r) old.told new.told × (new.names ≡ old.names) × (new.under_way ≡ old.under_way)
 IsDone v number (deed.Deliver c) old new =
-    IsTold (name_in old.names v c).maker (moment.Delivered (name_in old.names v c).number (v, number)) old.told new.told × IsLeft v c old.names new.names × (new.lines ≡ old.lines)
-IsDone v number (deed.Send k c) old new = IsSent k v (name_in old.names v c) (one_with old.lines k v) old.lines new.lines × IsLeft v c old.names new.names × (new.told ≡ old.told)
-IsDone v number (deed.Receive k c) old new = ((name : Option Name) × IsReceived k v name old.lines new.lines × IsComeBy v c name old.names new.names) × (new.told ≡ old.told)
-IsDone v number (deed.End c) old new = IsLeft v c old.names new.names × (new.lines ≡ old.lines) × (new.told ≡ old.told)
+    IsTold (name_in old.names v c).maker (moment.Delivered (name_in old.names v c).number (v, number)) old.told new.told × IsLeft v c old.names new.names × (new.under_way ≡ old.under_way)
+IsDone v number (deed.Send k c) old new = IsSent k v (name_in old.names v c) (one_with old.under_way k v) old.under_way new.under_way × IsLeft v c old.names new.names × (new.told ≡ old.told)
+IsDone v number (deed.Receive k c) old new = ((name : Option Name) × IsReceived k v name old.under_way new.under_way × IsComeBy v c name old.names new.names) × (new.told ≡ old.told)
+IsDone v number (deed.End c) old new = IsLeft v c old.names new.names × (new.under_way ≡ old.under_way) × (new.told ≡ old.told)
 IsDone v number deed.Other old new = new ≡ old

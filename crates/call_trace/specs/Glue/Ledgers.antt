@@ -16,8 +16,8 @@ use Rattle.vat_rules.specs.LogFacts.{Facts, Told}
 use Rattle.vat_rules.specs.Telling.{facts_of}
 use Rattle.vat_rules.specs.declared.outcome.Outcome.{Outcome as FoundOutcome}
 use Rattle.vat_rules.specs.declared.outcome.Outcome.TheVariants as outcome
-use Rattle.vat_view.specs.Lives.{descriptors_of}
-use Rattle.vat_view.specs.Past.{Past}
+use Rattle.decoded_records.specs.Lives.{descriptors_of}
+use Rattle.decoded_records.specs.Past.{Past}
 use Rattle.run_model.specs.declared.cap.Cap.TheVariants as cap
 use Rattle.run_model.specs.declared.message.Message.TheVariants as message
 use Rattle.run_model.specs.declared.plain.Plain.TheVariants as plain

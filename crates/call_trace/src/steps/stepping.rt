@@ -7,7 +7,7 @@ ghost use Rattle.call_trace.specs.Running.{step_of};
 ghost use Rattle.call_trace.specs.Types.{Step as Steps};
 ghost use Rattle.vat_rules.specs.OfCaps.{is_received};
 ghost use Rattle.vat_rules.specs.Telling.{facts_of};
-ghost use Rattle.vat_view.specs.Past.{Past};
+ghost use Rattle.decoded_records.specs.Past.{Past};
 ghost use Rattle.run_model.specs.Has.{call_in_message};
 
 use crate::records::pushing::push_said;

@@ -295,7 +295,7 @@ fn put_line(
         }
         WireLine::TooLong { .. } => write!(
             text,
-            "note: a log has at most 1048576 records, and a frame in it at most 67108864 bytes\n"
+            "note: a log has at most 4294967295 records, and a frame in it at most 67108864 bytes\n"
         ),
         WireLine::BadFrame { end, message } => {
             put_bad_frame(alloc, text, files.of(end), message)

@@ -2,9 +2,9 @@
 use Rattle.std.specs.Prelude.{◌≡◌, List, [], Bool, true, false, not, ◌||◌}
 use Rattle.std.specs.List.{filter}
 use Rattle.vat_rules.specs.Types.{Edition, RpcMessage, Bootstrap, Call, Return, Finish, Resolve, Release, Disembargo, DecodedRecord, Fulfil, Break, Deliver, Answer, AnswerBy, Fault, Wire}
-use Rattle.vat_view.specs.Past.{Past}
-use Rattle.vat_view.specs.Lives.{descriptors}
-use Rattle.vat_view.specs.Views.{references}
+use Rattle.decoded_records.specs.Past.{Past}
+use Rattle.decoded_records.specs.Lives.{descriptors}
+use Rattle.decoded_records.specs.Views.{references}
 use Rattle.vat_rules.specs.declared.rule.Rule.{Rule}
 use Rattle.vat_rules.specs.declared.rule.Rule.TheVariants as rule
 use Rattle.vat_rules.specs.Rules.{Meets, rules}

@@ -1,7 +1,7 @@
 -- For the code's contracts, and no part of the meaning: where an audit stands that takes one record after another.
 use Rattle.std.specs.Prelude.{◌≡◌, ℕ, List, length, Option, Some, None}
 use Rattle.vat_log.specs.declared.body.Body.{Body}
-use Rattle.vat_view.specs.Past.{Past}
+use Rattle.decoded_records.specs.Past.{Past}
 use Rattle.vat_rules.specs.Types.{Edition}
 use Rattle.vat_rules.specs.Events.{Reader, past_at}
 use Rattle.vat_rules.specs.First.{AllGood, IsFirst}

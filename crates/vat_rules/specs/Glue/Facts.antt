@@ -2,9 +2,9 @@
 use Rattle.std.specs.Prelude.{ℕ, List, [], map, Option, None, slice_get, unwrap_or}
 use Rattle.std.specs.List.{zip}
 use Rattle.vat_rules.specs.Types.{DecodedRecord, View}
-use Rattle.vat_view.specs.Past.{Past}
-use Rattle.vat_view.specs.Views.{view_of_target, views_of_descriptors}
-use Rattle.vat_view.specs.Questions.{is_late}
+use Rattle.decoded_records.specs.Past.{Past}
+use Rattle.decoded_records.specs.Views.{view_of_target, views_of_descriptors}
+use Rattle.decoded_records.specs.Questions.{is_late}
 use Rattle.vat_rules.specs.Telling.{question_view, taken_view, promise_view, released_view}
 use Rattle.vat_rules.specs.LogFacts.{Facts, Entry}
 

@@ -1,8 +1,8 @@
 //! What the numbers of a record stand for.
 
 ghost use Rattle.std.specs.Prelude.{◌≡◌, ◌++◌, [], map, option_and_then, IfOk};
-ghost use Rattle.vat_view.specs.Bindings.{new_references, named_references};
-ghost use Rattle.vat_view.specs.Views.{field_view, view_of_number, view_of_reference, view_of_target, views_of_descriptors};
+ghost use Rattle.decoded_records.specs.Bindings.{new_references, named_references};
+ghost use Rattle.decoded_records.specs.Views.{field_view, view_of_number, view_of_reference, view_of_target, views_of_descriptors};
 ghost use Rattle.vat_rules.specs.Telling.{question_view, taken_view, promise_view, released_view};
 ghost use Rattle.vat_rules.specs.Glue.Facts.{facts_before};
 ghost use Rattle.vat_rules.specs.Glue.Roles.{view_in_role};

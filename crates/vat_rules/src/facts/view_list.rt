@@ -23,7 +23,7 @@ pub(crate) struct ViewList {
 
 impl Model for ViewList {
     ghost use Rattle.std.specs.Prelude.{List, Option};
-    ghost use Rattle.vat_view.specs.declared.view.View.{View};
+    ghost use Rattle.decoded_records.specs.declared.view.View.{View};
     ghost use Rattle.vat_rules.specs.Glue.Viewed.{views_of};
 
     ghost Value = { List (Option View) };

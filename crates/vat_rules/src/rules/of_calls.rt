@@ -3,8 +3,8 @@
 ghost use Rattle.std.specs.Prelude.{◌≡◌, ◌&&◌, ◌||◌, not, Decides, IfOk, IsSomeAnd, Some};
 ghost use Rattle.std.specs.Option.{option_copied};
 ghost use Rattle.vat_rules.specs.Types.{Object};
-ghost use Rattle.vat_view.specs.Views.{view_of_target};
-ghost use Rattle.vat_view.specs.Calls.{request_of, goal_of, is_at_vat, is_served, is_settled};
+ghost use Rattle.decoded_records.specs.Views.{view_of_target};
+ghost use Rattle.decoded_records.specs.Calls.{request_of, goal_of, is_at_vat, is_served, is_settled};
 ghost use Rattle.vat_rules.specs.Ways.{LeadsTo};
 ghost use Rattle.vat_rules.specs.OfCalls.{IsHere, GoesToGoal, MayAnswer};
 

@@ -3,10 +3,10 @@
 ghost use Rattle.std.specs.Prelude.{◌≡◌, ◌∷◌, [], ◌&&◌, ⊤, true, Decides, IfOk, IsTrue, MatchOption};
 ghost use Rattle.std.specs.List.{AllByRecursion, zip};
 ghost use Rattle.std.specs.Option.{option_copied};
-ghost use Rattle.vat_view.specs.Questions.{is_late};
-ghost use Rattle.vat_view.specs.Lives.{descriptors};
-ghost use Rattle.vat_view.specs.Borrowed.{as_view};
-ghost use Rattle.vat_view.specs.Views.{places, references, placed_references, view_of_reference, views_of_descriptors};
+ghost use Rattle.decoded_records.specs.Questions.{is_late};
+ghost use Rattle.decoded_records.specs.Lives.{descriptors};
+ghost use Rattle.decoded_records.specs.Borrowed.{as_view};
+ghost use Rattle.decoded_records.specs.Views.{places, references, placed_references, view_of_reference, views_of_descriptors};
 ghost use Rattle.vat_rules.specs.Ways.{EndsIn};
 ghost use Rattle.vat_rules.specs.OfCaps.{is_sent, is_received, is_light_return, is_cap_at, is_hosted, is_hosted_end, NotesView, Describes, BindsEach};
 ghost use Rattle.vat_rules.specs.Glue.Facts.{view_at, facts_before};

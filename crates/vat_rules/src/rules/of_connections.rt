@@ -2,9 +2,9 @@
 
 ghost use Rattle.std.specs.Prelude.{◌≡◌, ℕ, List, true, false, not, is_some, Decides, IsTrue, IsSomeAnd};
 ghost use Rattle.std.specs.Option.{option_copied};
-ghost use Rattle.vat_view.specs.Past.{id};
-ghost use Rattle.vat_view.specs.Views.{view_of_target};
-ghost use Rattle.vat_view.specs.Loopbacks.{loopback_of, embargoed_view, IsHeldUp};
+ghost use Rattle.decoded_records.specs.Past.{id};
+ghost use Rattle.decoded_records.specs.Views.{view_of_target};
+ghost use Rattle.decoded_records.specs.Loopbacks.{loopback_of, embargoed_view, IsHeldUp};
 ghost use Rattle.vat_view.specs.Connections.{LeadsOver, LeadsElsewhere};
 ghost use Rattle.vat_rules.specs.Types.{Wire, Abort};
 ghost use Rattle.vat_rules.specs.Ways.{LeadsTo};

@@ -1,11 +1,11 @@
 //! The rules on promises: own ones, which are kept or broken once, and those sent or received, which are resolved once.
 
 ghost use Rattle.std.specs.Prelude.{◌≡◌, true, false, not, Decides, IfOk, slice_get};
-ghost use Rattle.vat_view.specs.Past.{id};
-ghost use Rattle.vat_view.specs.Numbers.{id_of};
-ghost use Rattle.vat_view.specs.Lives.{descriptors, is_in_life};
+ghost use Rattle.decoded_records.specs.Past.{id};
+ghost use Rattle.decoded_records.specs.Numbers.{id_of};
+ghost use Rattle.decoded_records.specs.Lives.{descriptors, is_in_life};
 ghost use Rattle.std.specs.Option.{option_copied};
-ghost use Rattle.vat_view.specs.Views.{view_of_reference, view_of_descriptor, views_of_descriptors};
+ghost use Rattle.decoded_records.specs.Views.{view_of_reference, view_of_descriptor, views_of_descriptors};
 ghost use Rattle.vat_rules.specs.Telling.{promise_view};
 ghost use Rattle.vat_rules.specs.Ways.{LeadsOnTo};
 ghost use Rattle.vat_rules.specs.OfCaps.{is_cap_at};

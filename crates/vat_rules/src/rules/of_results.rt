@@ -2,9 +2,9 @@
 
 ghost use Rattle.std.specs.Prelude.{◌≡◌, Some, Decides, IfOk, IsFalse, IsSomeAnd};
 ghost use Rattle.std.specs.List.{AllByRecursion};
-ghost use Rattle.vat_view.specs.Questions.{is_tail, is_late, opening, call_at, call_of};
-ghost use Rattle.vat_view.specs.Views.{views_of_descriptors};
-ghost use Rattle.vat_view.specs.Calls.{answered_by};
+ghost use Rattle.decoded_records.specs.Questions.{is_tail, is_late, opening, call_at, call_of};
+ghost use Rattle.decoded_records.specs.Views.{views_of_descriptors};
+ghost use Rattle.decoded_records.specs.Calls.{answered_by};
 ghost use Rattle.vat_rules.specs.OfResults.{ReturnsField, ReturnsFields, ReturnsTaken, ReturnsKnown};
 
 use crate::rules::leads::leads_on_to;

@@ -25,7 +25,7 @@ pub(crate) struct Tally {
 
 impl Model for Tally {
     ghost use Rattle.std.specs.Prelude.{◌≡◌, count_by, length};
-    ghost use Rattle.vat_view.specs.Past.{Past};
+    ghost use Rattle.decoded_records.specs.Past.{Past};
     ghost use Rattle.vat_rules.specs.Telling.{is_delivery};
 
     ghost Value = { Past };

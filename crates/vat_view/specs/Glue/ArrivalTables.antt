@@ -6,8 +6,8 @@ use Rattle.vat_view.specs.declared.tables.arrivals.Arrivals.{Arrivals}
 use Rattle.vat_view.specs.declared.tables.arrivals.Brought.{Brought}
 use Rattle.vat_view.specs.declared.tables.arrivals.Brought.TheVariants as kept
 use Rattle.vat_view.specs.Types.{Descriptor, SenderHosted, SenderPromise, DecodedRecord, Wire}
-use Rattle.vat_view.specs.Past.{Past}
-use Rattle.vat_view.specs.Lives.{descriptors}
+use Rattle.decoded_records.specs.Past.{Past}
+use Rattle.decoded_records.specs.Lives.{descriptors}
 use Rattle.vat_view.specs.Arrivals.{Arrival, arrived}
 
 -- whether a descriptor is senderHosted, where it is that or senderPromise

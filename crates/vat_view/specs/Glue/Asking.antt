@@ -1,42 +1,16 @@
 -- For the code's contracts, and no part of the meaning: what the tables answer.
-use Rattle.std.specs.Prelude.{ℕ, ◌+◌, ◌&&◌, ◌||◌, Bool, true, false, not, Option, Some, None, if◌then◌else◌, option_map, option_and_then, unwrap_or, count_by}
+use Rattle.std.specs.Prelude.{ℕ, ◌+◌, Bool, true, false, not, Option, Some, None, if◌then◌else◌, option_map, option_and_then, unwrap_or, count_by}
 use Rattle.std.specs.BTreeMap.{get}
 use Rattle.std.specs.Option.{option_or}
-use Rattle.vat_view.specs.declared.tables.question.Question.{Question}
-use Rattle.vat_view.specs.declared.tables.exports_imports.ExportsImports.{ExportsImports}
+use Rattle.number_tables.specs.declared.question.Question.{Question}
+use Rattle.number_tables.specs.declared.exports_imports.ExportsImports.{ExportsImports}
 use Rattle.vat_view.specs.declared.preconditions.key_counts.KeyCounts.{KeyCounts}
 use Rattle.vat_view.specs.Types.{Target, Imported, Promised, TakeFrom, Return, Release, DecodedRecord, AnswerBy, Wire, View, FieldOf, TableKey}
-use Rattle.vat_view.specs.Past.{id, same_id}
-use Rattle.vat_view.specs.Views.{target_of}
-use Rattle.vat_view.specs.Glue.Tables.{id_cmp, number_by, call_by, late_by, count_released, given_back_by}
-
--- what a question's entry says of it
-abbrev pub free_in : Option Question → Bool
-free_in (Some known) = (known.returned && known.finished) || known.returned_lightly
-free_in None = true
-
-abbrev pub unfinished_in : Option Question → Bool
-unfinished_in (Some known) = not known.finished
-unfinished_in None = false
-
-abbrev pub finished_in : Option Question → Bool
-finished_in (Some known) = known.finished
-finished_in None = false
-
-abbrev pub unreturned_in : Option Question → Bool
-unreturned_in (Some known) = not known.returned
-unreturned_in None = false
-
-abbrev pub tail_in : Option Question → Bool
-tail_in (Some known) = known.tail
-tail_in None = false
-
-abbrev pub taken_in : Option Question → Bool
-taken_in (Some known) = known.taken
-taken_in None = false
-
-abbrev pub opening_call_in : Option Question → Option ℕ
-opening_call_in known = option_map (λ known. known.call) known
+use Rattle.decoded_records.specs.Past.{id, same_id}
+use Rattle.decoded_records.specs.Views.{target_of}
+use Rattle.decoded_records.specs.Glue.Parts.{id_cmp}
+use Rattle.vat_view.specs.Glue.Tables.{number_by, count_released}
+use Rattle.number_tables.specs.Glue.QuestionTables.{call_by, late_by, given_back_by}
 
 -- what a target stands for, sent or received on a connection
 abbrev pub target_by : (ℕ → Option View) → ExportsImports → (TableKey → Option Question) → ℕ → Bool → Target → Option View

@@ -1,40 +1,21 @@
 -- For the code's contracts, and no part of the meaning: the table of calls, and what looking back finds for each of
 -- them.
-use Rattle.std.specs.Prelude.{◌≡◌, ℕ, ◌==◌, Bool, true, false, not, Option, Some, None, if◌then◌else◌, is_some, option_map, option_and_then}
-use Rattle.rising_table.specs.Entries.{entry_at}
-use Rattle.vat_view.specs.declared.tables.question.Question.{Question}
-use Rattle.vat_view.specs.declared.tables.exports_imports.ExportsImports.{ExportsImports}
-use Rattle.vat_view.specs.declared.tables.calls.Calls.{Calls}
-use Rattle.vat_view.specs.declared.tables.call_state.CallState.{CallState}
-use Rattle.vat_view.specs.declared.tables.call_state.CallEntry.{CallEntry}
-use Rattle.vat_view.specs.declared.tables.call_state.CallChange.{CallChange}
-use Rattle.vat_view.specs.declared.tables.call_state.CallChange.TheVariants.{Left, Delivered, Faulted, Answered, Known}
-use Rattle.vat_view.specs.Types.{Bootstrap, Call, Return, Results, Exception, Canceled, TakeFrom, DecodedRecord, Make, Deliver, Answer, AnswerBy, Fault, Wire, View, Request, TableKey}
-use Rattle.vat_view.specs.Past.{Past, id}
-use Rattle.vat_view.specs.Questions.{is_late, call_at, opening}
-use Rattle.vat_view.specs.Views.{view_of_reference, view_of_target}
-use Rattle.vat_view.specs.Calls.{request_of, is_at_vat, is_served, is_settled, is_known, call_taken_from}
-use Rattle.vat_view.specs.Bindings.{is_bound_call}
-use Rattle.vat_view.specs.Glue.Tables.{late_by}
-use Rattle.vat_view.specs.Glue.Asking.{opening_call_in, targeted_by, taken_from_by}
-
--- the goal that an entry has
-abbrev pub aim_in : CallEntry → Option View
-aim_in entry = if entry.aimed then Some entry.goal else None
-
--- what an entry says of a call
-abbrev pub call_state_in : CallEntry → CallState
-call_state_in entry = record {
-  asked = if entry.came then Some (record { goal = aim_in entry; interface = entry.interface; method = entry.method }) else None;
-  at_vat = entry.at_vat;
-  served = entry.served;
-  settled = entry.settled;
-  known = entry.known;
-}
-
--- what the table has of a call
-abbrev pub call_state_at : Calls → ℕ → Option CallState
-call_state_at table c = option_map call_state_in (entry_at table.entries c)
+use Rattle.std.specs.Prelude.{◌≡◌, ℕ, ◌==◌, Bool, true, false, not, Option, Some, None, if◌then◌else◌, is_some, option_map}
+use Rattle.number_tables.specs.declared.question.Question.{Question}
+use Rattle.number_tables.specs.declared.exports_imports.ExportsImports.{ExportsImports}
+use Rattle.number_tables.specs.declared.calls.Calls.{Calls}
+use Rattle.number_tables.specs.declared.call_state.CallState.{CallState}
+use Rattle.number_tables.specs.declared.call_state.CallChange.{CallChange}
+use Rattle.number_tables.specs.declared.call_state.CallChange.TheVariants.{Left, Delivered, Faulted, Answered, Known}
+use Rattle.vat_view.specs.Types.{Bootstrap, Call, Return, Results, Exception, Canceled, TakeFrom, DecodedRecord, Make, Deliver, Answer, AnswerBy, Fault, Wire, View, TableKey}
+use Rattle.decoded_records.specs.Past.{Past, id}
+use Rattle.decoded_records.specs.Questions.{is_late, call_at, opening}
+use Rattle.decoded_records.specs.Views.{view_of_reference, view_of_target}
+use Rattle.decoded_records.specs.Calls.{request_of, is_at_vat, is_served, is_settled, is_known, call_taken_from}
+use Rattle.decoded_records.specs.Bindings.{is_bound_call}
+use Rattle.number_tables.specs.Glue.QuestionTables.{late_by, opening_call_in}
+use Rattle.vat_view.specs.Glue.Asking.{targeted_by, taken_from_by}
+use Rattle.number_tables.specs.Glue.CallStates.{call_state_at, after_change}
 
 -- what looking back finds of a call that is bound
 abbrev pub call_state_of : ℕ → Past → Option CallState
@@ -44,38 +25,6 @@ call_state_of c past =
 -- the table of calls has what looking back finds
 abbrev pub AreCalled : Past → Calls → Type 0
 AreCalled past table = (c : ℕ) → call_state_at table c ≡ call_state_of c past
-
--- what a call's entry says of it
-abbrev pub request_in : Option CallState → Option Request
-request_in (Some p) = p.asked
-request_in None = None
-
-abbrev pub goal_in : Option CallState → Option View
-goal_in progress = option_and_then (λ a. a.goal) (request_in progress)
-
-abbrev pub at_vat_in : Option CallState → Bool
-at_vat_in (Some p) = p.at_vat
-at_vat_in None = false
-
-abbrev pub served_in : Option CallState → Bool
-served_in (Some p) = p.served
-served_in None = false
-
-abbrev pub settled_in : Option CallState → Bool
-settled_in (Some p) = p.settled
-settled_in None = false
-
-abbrev pub known_in : Option CallState → Bool
-known_in (Some p) = p.known
-known_in None = false
-
--- how far a call has come after this happened to it
-abbrev pub after_change : CallChange → CallState → CallState
-after_change Left p = record p { at_vat = false }
-after_change Delivered p = record p { at_vat = false; served = true }
-after_change Faulted p = record p { at_vat = false; settled = true }
-after_change Answered p = record p { settled = true; known = true }
-after_change Known p = record p { known = true }
 
 -- a call that comes to the vat
 abbrev pub arriving_call : Option View → ℕ → ℕ → CallState

@@ -8,7 +8,7 @@ use Rattle.vat_view.specs.declared.tables.connections.Connections.{Connections}
 use Rattle.vat_view.specs.declared.walks.reachable.Sought.{Sought}
 use Rattle.vat_view.specs.declared.walks.reachable.Sought.TheVariants.{Over, Elsewhere}
 use Rattle.vat_view.specs.Types.{Edition, First, Later, Bootstrap, Call, DecodedRecord, Wire, View, FieldOf, Import}
-use Rattle.vat_view.specs.Past.{Past, is}
+use Rattle.decoded_records.specs.Past.{Past, is}
 use Rattle.vat_view.specs.Connections.{is_aborted, is_aborted_here, asked_on, is_own, is_another}
 use Rattle.vat_view.specs.Glue.ArrivalTables.{arrival_at}
 use Rattle.vat_view.specs.Glue.TurnTables.{after_turns}

@@ -1,9 +1,9 @@
 -- For the code's contracts, and no part of the meaning: all tables of a point of a log.
-use Rattle.vat_view.specs.declared.tables.questions.Questions.{Questions}
-use Rattle.vat_view.specs.declared.tables.exports_imports.ExportsImports.{ExportsImports}
+use Rattle.number_tables.specs.declared.questions.Questions.{Questions}
+use Rattle.number_tables.specs.declared.exports_imports.ExportsImports.{ExportsImports}
 use Rattle.vat_view.specs.declared.tables.references.BoundReferences.{BoundReferences}
-use Rattle.vat_view.specs.declared.tables.calls.Calls.{Calls}
-use Rattle.vat_view.specs.Past.{Past, Each}
+use Rattle.number_tables.specs.declared.calls.Calls.{Calls}
+use Rattle.decoded_records.specs.Past.{Past, Each}
 use Rattle.vat_view.specs.Sound.{IsSound}
 use Rattle.vat_view.specs.Glue.Tables.{AreTabled}
 use Rattle.vat_view.specs.Glue.CallTables.{AreCalled}

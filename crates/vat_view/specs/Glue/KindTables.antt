@@ -3,14 +3,16 @@ use Rattle.std.specs.Prelude.{◌≡◌, ℕ, nat_lt, Bool, true, false, not, �
 use Rattle.std.specs.Bool.{beq}
 use Rattle.std.specs.BTreeMap.{get}
 use Rattle.std.specs.Option.{option_or, option_map_or}
-use Rattle.vat_view.specs.declared.tables.exports_imports.ExportsImports.{ExportsImports}
+use Rattle.number_tables.specs.declared.exports_imports.ExportsImports.{ExportsImports}
 use Rattle.vat_view.specs.declared.record.introduced.Introduced.{Introduced}
-use Rattle.vat_view.specs.declared.record.origin.Origin.{Origin}
+use Rattle.decoded_records.specs.declared.origin.Origin.{Origin}
 use Rattle.vat_view.specs.declared.tables.turns.resolves.Resolves.{Resolves}
 use Rattle.vat_view.specs.Types.{Descriptor, DecodedRecord, TableKey}
-use Rattle.vat_view.specs.Past.{Past, Point, names, record_index, last_where}
-use Rattle.vat_view.specs.Lives.{number_introduced, is_promised, promise_resolved}
-use Rattle.vat_view.specs.Glue.Tables.{id_cmp, held_origin, begun_origin}
+use Rattle.decoded_records.specs.Past.{Past, Point, names, record_index, last_where}
+use Rattle.decoded_records.specs.Lives.{number_introduced, is_promised, promise_resolved}
+use Rattle.decoded_records.specs.Glue.Parts.{id_cmp}
+use Rattle.number_tables.specs.Glue.LifeTables.{held_origin}
+use Rattle.vat_view.specs.Glue.Tables.{begun_origin}
 
 -- the record that the table has for a promise
 abbrev pub resolve_at : Resolves → TableKey → Option ℕ

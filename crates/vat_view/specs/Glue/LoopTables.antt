@@ -2,24 +2,24 @@
 use Rattle.std.specs.Prelude.{◌≡◌, ◌==◌, ◌&&◌, ◌<◌, ℕ, nat_lt, Bool, true, false, Option, Some, None, if◌then◌else◌, length, option_map, option_and_then, is_some}
 use Rattle.std.specs.BTreeMap.{get}
 use Rattle.std.specs.Ordering.{nat_cmp}
-use Rattle.std.specs.Str.{bytes_eq as same_path}
-use Rattle.vat_view.specs.declared.tables.question.Question.{Question}
-use Rattle.vat_view.specs.declared.tables.exports_imports.ExportsImports.{ExportsImports}
-use Rattle.vat_view.specs.declared.tables.calls.Calls.{Calls}
+use Rattle.number_tables.specs.declared.question.Question.{Question}
+use Rattle.number_tables.specs.declared.exports_imports.ExportsImports.{ExportsImports}
+use Rattle.number_tables.specs.declared.calls.Calls.{Calls}
 use Rattle.vat_view.specs.declared.tables.waits.waiting_calls.Receipt.{Receipt}
 use Rattle.vat_view.specs.declared.tables.waits.waiting_calls.WaitingCalls.{WaitingCalls}
 use Rattle.vat_view.specs.declared.tables.waits.queued_call.QueuedCall.{QueuedCall}
 use Rattle.vat_view.specs.declared.tables.waits.loopbacks.Unechoed.{Unechoed}
 use Rattle.vat_view.specs.declared.tables.waits.loopbacks.Loopbacks.{Loopbacks}
 use Rattle.vat_view.specs.declared.tables.waits.embargoes.Embargoes.{Embargoes}
-use Rattle.vat_view.specs.Types.{Call, Return, Exception, Canceled, DecodedRecord, Deliver, Fault, Wire, View, Object, Promise, FieldOf, Import, TableKey}
-use Rattle.vat_view.specs.Past.{Past, Point, id, is, same_id, names, record_index, last_answer}
-use Rattle.vat_view.specs.Views.{view_of_target}
-use Rattle.vat_view.specs.Calls.{goal_of, is_at_vat}
-use Rattle.vat_view.specs.Loopbacks.{sender_loopback, receiver_loopback, loopback_of}
-use Rattle.vat_view.specs.Glue.Tables.{id_cmp}
-use Rattle.vat_view.specs.Glue.Asking.{opening_call_in, targeted_by}
-use Rattle.vat_view.specs.Glue.CallTables.{call_state_at, goal_in}
+use Rattle.vat_view.specs.Types.{Call, Return, Exception, Canceled, DecodedRecord, Deliver, Fault, Wire, View, TableKey}
+use Rattle.decoded_records.specs.Past.{Past, Point, id, is, same_id, names, record_index, last_answer}
+use Rattle.decoded_records.specs.Views.{view_of_target}
+use Rattle.decoded_records.specs.Calls.{goal_of, is_at_vat}
+use Rattle.decoded_records.specs.Loopbacks.{sender_loopback, receiver_loopback, loopback_of}
+use Rattle.decoded_records.specs.Glue.Parts.{id_cmp}
+use Rattle.number_tables.specs.Glue.QuestionTables.{opening_call_in}
+use Rattle.vat_view.specs.Glue.Asking.{targeted_by}
+use Rattle.number_tables.specs.Glue.CallStates.{call_state_at, goal_in, same_target}
 use Rattle.vat_view.specs.Glue.Queues.{queued_at, is_queued, Stay, OthersStay}
 
 -- ---- loopbacks
@@ -120,20 +120,6 @@ abbrev pub HasLeft : Option ℕ → WaitingCalls → Calls → WaitingCalls → 
 HasLeft taken old calls new = (call : ℕ) (r : Receipt) → is call taken ≡ true → receipt_at old call ≡ Some r → is_queued new (queued_at call r (goal_in (call_state_at calls call))) ≡ false
 
 -- ---- what holds an echo up
-
--- two views are one
-abbrev pub same_view : View → View → Bool
-same_view (Object a) (Object b) = a == b
-same_view (Promise a) (Promise b) = a == b
-same_view (FieldOf a p) (FieldOf b q) = (a == b) && same_path p q
-same_view (Import a p) (Import b q) = (a == b) && (p == q)
-same_view _ _ = false
-
--- the same of what may be none
-abbrev pub same_target : Option View → Option View → Bool
-same_target (Some a) (Some b) = same_view a b
-same_target None None = true
-same_target _ _ = false
 
 -- whether a call with this receipt, if it has one, holds up the echo of a loopback of this connection
 abbrev pub held_by : Calls → ℕ → Unechoed → ℕ → Option Receipt → Bool

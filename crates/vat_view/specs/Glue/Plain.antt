@@ -1,19 +1,15 @@
 -- For the code's contracts, and no part of the meaning: what records bind without a message and with one.
-use Rattle.std.specs.Prelude.{◌≡◌, ℕ, List, [], ◌∷◌, Bool, true, false, Option, None}
-use Rattle.vat_view.specs.declared.tables.question.Question.{Question}
-use Rattle.vat_view.specs.declared.tables.exports_imports.ExportsImports.{ExportsImports}
+use Rattle.std.specs.Prelude.{◌≡◌, ℕ, List, [], ◌∷◌, true, false, Option, None}
+use Rattle.number_tables.specs.declared.question.Question.{Question}
+use Rattle.number_tables.specs.declared.exports_imports.ExportsImports.{ExportsImports}
 use Rattle.vat_view.specs.declared.record.introduced.Introduced.{Introduced}
 use Rattle.vat_view.specs.Types.{DecodedRecord, Host, Vow, Field, Wire, View, Object, Promise, FieldOf, TableKey}
-use Rattle.vat_view.specs.Questions.{question_opened, noted_call}
-use Rattle.vat_view.specs.Lives.{descriptors}
-use Rattle.vat_view.specs.Views.{references}
-use Rattle.vat_view.specs.Bindings.{new_references, new_calls, named_references, named_calls, notes_call}
+use Rattle.decoded_records.specs.Questions.{question_opened, noted_call}
+use Rattle.decoded_records.specs.Lives.{descriptors}
+use Rattle.decoded_records.specs.Views.{references}
+use Rattle.decoded_records.specs.Bindings.{new_references, new_calls, named_references, named_calls, notes_call}
 use Rattle.vat_view.specs.Glue.Tables.{view_by, bound_from}
-
--- whether a record has a message
-abbrev pub has_message : DecodedRecord → Bool
-has_message (Wire sent k c rs m) = true
-has_message _ = false
+use Rattle.decoded_records.specs.Glue.Parts.{has_message}
 
 -- this call is noted beside a message that opens no question, and no reference is
 abbrev pub IsNotedAlone : ℕ → DecodedRecord → Type 0

@@ -12,7 +12,7 @@ use Rattle.vat_view.specs.declared.tables.waits.waiting_calls.Receipt.{Receipt}
 use Rattle.vat_view.specs.declared.tables.waits.waiting_calls.WaitingCalls.{WaitingCalls}
 use Rattle.vat_view.specs.contracts.tables.waits.queued_call.QueuedCallOrd.TheImpl as queued_order
 use Rattle.vat_view.specs.Types.{View, Object, Promise, FieldOf, Import}
-use Rattle.vat_view.specs.Past.{is}
+use Rattle.decoded_records.specs.Past.{is}
 
 -- the digest of a path that goes on with a field
 abbrev pub digest_step : ℕ → ℕ → ℕ

@@ -6,12 +6,12 @@ use Rattle.std.specs.BTreeMap.{get}
 use Rattle.std.specs.Option.{option_or}
 use Rattle.std.specs.Str.{bytes_eq as same_path}
 use Rattle.rising_table.specs.Entries.{entry_at}
-use Rattle.vat_view.specs.declared.tables.question.Question.{Question}
-use Rattle.vat_view.specs.declared.tables.exports_imports.ExportsImports.{ExportsImports}
+use Rattle.number_tables.specs.declared.question.Question.{Question}
+use Rattle.number_tables.specs.declared.exports_imports.ExportsImports.{ExportsImports}
 use Rattle.vat_view.specs.declared.tables.references.BoundReferences.{BoundReferences}
 use Rattle.vat_view.specs.declared.tables.references.Binding.{Binding}
 use Rattle.vat_view.specs.declared.tables.references.Shortcut.{Shortcut}
-use Rattle.vat_view.specs.declared.record.origin.Origin.{Origin}
+use Rattle.decoded_records.specs.declared.origin.Origin.{Origin}
 use Rattle.vat_view.specs.declared.record.unsettled.Unsettled.{Unsettled}
 use Rattle.vat_view.specs.declared.record.unsettled.Unsettled.TheVariants.{Promise as PromiseToKeep, Results as ResultsOf, Import as ImportToResolve}
 use Rattle.vat_view.specs.declared.tables.turns.settlements.Settlements.{Settlements}
@@ -27,15 +27,17 @@ use Rattle.vat_view.specs.declared.walks.landing.Landing.{Landing}
 use Rattle.vat_view.specs.declared.walks.landing.Landing.TheVariants.{Reference as ToReference, Call as ToCall}
 use Rattle.vat_view.specs.contracts.record.unsettled.UnsettledOrd.TheImpl as pending_order
 use Rattle.vat_view.specs.Types.{Outcome, Results, Elsewhere, Return, Resolve, DecodedRecord, Fulfil, Break, Answer, AnswerBy, Fault, Wire, View, Object, Promise, FieldOf, Import, TableKey}
-use Rattle.vat_view.specs.Past.{Past, Point, id, record_index, last_answer, last_where, Each}
-use Rattle.vat_view.specs.Questions.{call_at, opening}
-use Rattle.vat_view.specs.Lives.{Birth, birth}
-use Rattle.vat_view.specs.Views.{placed_references, view_of_reference}
-use Rattle.vat_view.specs.Calls.{answerer, call_taken_from}
+use Rattle.decoded_records.specs.Past.{Past, Point, id, record_index, last_answer, last_where, Each}
+use Rattle.decoded_records.specs.Questions.{call_at, opening}
+use Rattle.decoded_records.specs.Lives.{Birth, birth}
+use Rattle.decoded_records.specs.Views.{placed_references, view_of_reference}
+use Rattle.decoded_records.specs.Calls.{answerer, call_taken_from}
 use Rattle.vat_view.specs.Walks.{Next, turns, stays, on_to, next, turned_to}
-use Rattle.vat_view.specs.Bindings.{is_bound}
+use Rattle.decoded_records.specs.Bindings.{is_bound}
 use Rattle.vat_view.specs.Glue.FieldTargets.{target_among}
-use Rattle.vat_view.specs.Glue.Tables.{bound_at, held_origin}
+use Rattle.vat_view.specs.Glue.Tables.{bound_at}
+use Rattle.number_tables.specs.Glue.LifeTables.{held_origin}
+use Rattle.decoded_records.specs.Glue.Parts.{field_path}
 
 -- ---- what records settle
 
@@ -57,11 +59,6 @@ awaited_by (Object object) = None
 awaited_by (Promise p) = Some (PromiseToKeep p)
 awaited_by (FieldOf call path) = Some (ResultsOf call)
 awaited_by (Import i place) = Some (ImportToResolve i place)
-
--- the path of a field; the empty one of every other view
-abbrev pub field_path : View → List ℕ
-field_path (FieldOf call path) = path
-field_path _ = []
 
 -- the own promise for which a reference stands
 abbrev pub promise_of : Option View → Option Unsettled

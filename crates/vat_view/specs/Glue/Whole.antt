@@ -1,7 +1,7 @@
 -- For the code's contracts, and no part of the meaning: every table of a point of a log.
 use Rattle.std.specs.Prelude.{◌≡◌, ℕ, length}
 use Rattle.vat_view.specs.declared.tables.all_tables.AllTables.{AllTables}
-use Rattle.vat_view.specs.Past.{Past}
+use Rattle.decoded_records.specs.Past.{Past}
 use Rattle.vat_view.specs.Glue.ArrivalTables.{AreArrived}
 use Rattle.vat_view.specs.Glue.KindTables.{AreResolved}
 use Rattle.vat_view.specs.Glue.Kept.{AreKept}

@@ -1,7 +1,7 @@
 //! What one record tells all tables.
 
 ghost use Rattle.std.specs.Prelude.{◌≡◌, ◌∷◌, true, false, length, OnOk, OnErr};
-ghost use Rattle.vat_view.specs.Past.{Past};
+ghost use Rattle.decoded_records.specs.Past.{Past};
 ghost use Rattle.vat_view.specs.Sound.{IsSound};
 ghost use Rattle.vat_view.specs.Glue.CallTables.{begins_call};
 ghost use Rattle.vat_view.specs.Glue.Kept.{AreKept};
@@ -9,11 +9,9 @@ ghost use Rattle.vat_view.specs.Glue.TurnTables.{IsOwnOrOld};
 
 use crate::apply::calls::{begins_call, call_begun, step_of};
 use crate::apply::tables::bind_and_count;
-use crate::record::decoded::DecodedRecord;
-use crate::tables::calls::Calls;
-use crate::tables::exports_imports::ExportsImports;
-use crate::tables::questions::Questions;
 use crate::tables::references::BoundReferences;
+use decoded_records::DecodedRecord;
+use number_tables::{Calls, ExportsImports, Questions};
 use std::alloc::AllocError;
 
 /// Tells all tables of one record that begins a call, and has this number in the log. The target of the call is read

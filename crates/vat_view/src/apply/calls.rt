@@ -1,22 +1,17 @@
 //! What a record tells of calls, by the tables before it.
 
 ghost use Rattle.std.specs.Prelude.{◌≡◌, IfOk};
-ghost use Rattle.vat_view.specs.Glue.Tables.{bound_at, question_at, late_by};
-ghost use Rattle.vat_view.specs.Glue.Asking.{opening_call_in, taken_from_by};
+ghost use Rattle.vat_view.specs.Glue.Tables.{bound_at};
+ghost use Rattle.number_tables.specs.Glue.QuestionTables.{question_at, late_by, opening_call_in};
+ghost use Rattle.vat_view.specs.Glue.Asking.{taken_from_by};
 ghost use Rattle.vat_view.specs.Glue.CallTables.{arriving_call, bootstrap_call, begins_call, begun_by, moved, sent_step, received_step, step_by};
 
-use crate::apply::tables::is_late;
 use crate::lookups::meaning::view_of_reference;
 use crate::lookups::settling::taken_from_by;
-use crate::lookups::table_answers::{opening_call, view_of_target};
-use crate::record::decoded::DecodedRecord;
-use crate::record::table_key::TableKey;
-use crate::request::Request;
-use crate::tables::call_state::{CallChange, CallState};
-use crate::tables::exports_imports::ExportsImports;
-use crate::tables::questions::Questions;
+use crate::lookups::table_answers::view_of_target;
 use crate::tables::references::BoundReferences;
-use crate::view::View;
+use decoded_records::{DecodedRecord, Request, TableKey, View};
+use number_tables::{CallChange, CallState, ExportsImports, Questions, is_late, opening_call};
 use rpc_view::{Outcome, RpcMessage};
 use std::alloc::AllocError;
 

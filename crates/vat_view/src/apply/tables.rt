@@ -2,79 +2,27 @@
 
 ghost use Rattle.std.specs.Prelude.{◌≡◌, ◌+◌, ◌-◌, ◌<◌, [], ◌∷◌, ℕ, true, length, count_by, OnOk, OnErr};
 ghost use Rattle.vat_view.specs.Types.{TableKey};
-ghost use Rattle.vat_view.specs.Past.{Past, same_id, names};
-ghost use Rattle.vat_view.specs.Questions.{noted_call, asks_elsewhere, question_taken};
-ghost use Rattle.vat_view.specs.Lives.{descriptors, GivesBackHeld};
-ghost use Rattle.vat_view.specs.Uses.{UsesQuestions};
+ghost use Rattle.decoded_records.specs.Past.{Past, same_id, names};
+ghost use Rattle.decoded_records.specs.Questions.{noted_call, asks_elsewhere, question_taken};
+ghost use Rattle.decoded_records.specs.Lives.{descriptors, GivesBackHeld};
+ghost use Rattle.decoded_records.specs.Uses.{UsesQuestions};
 ghost use Rattle.vat_view.specs.Glue.TurnTables.{IsOwnOrOld};
-ghost use Rattle.vat_view.specs.Glue.Plain.{has_message, own_bindings};
-ghost use Rattle.vat_view.specs.Glue.Tables.{bound_at, bound_by, question_at, late_by, given_back_by, count_at, origin_at, raised_origin, count_released, just_opened, with_taken, changed_if, ended_by, noted_by, IsPut, IsSameQuestions, IsTabled, AreTabled, IsFit};
+ghost use Rattle.decoded_records.specs.Glue.Parts.{has_message};
+ghost use Rattle.vat_view.specs.Glue.Plain.{own_bindings};
+ghost use Rattle.vat_view.specs.Glue.Tables.{bound_at, bound_by, count_released, changed_if, ended_by, noted_by, IsTabled, AreTabled, IsFit};
+ghost use Rattle.number_tables.specs.Glue.QuestionTables.{question_at, late_by, given_back_by, just_opened, with_taken, IsPut, IsSameQuestions};
+ghost use Rattle.number_tables.specs.Glue.LifeTables.{count_at, origin_at, raised_origin};
 
-use crate::record::bindings::{introduced_by, new_references, received_bindings};
-use crate::record::decoded::DecodedRecord;
-use crate::record::effects::{
-    asks_elsewhere, descriptors, has_message, introductions, noted_call, origins,
-    question_finished, question_opened, question_released, question_returned,
-    question_returned_lightly, question_taken,
-};
-use crate::record::origin::Origin;
-use crate::record::table_key::TableKey;
-use crate::record::table_keys::TableKeys;
-use crate::tables::exports_imports::ExportsImports;
-use crate::tables::question::Question;
-use crate::tables::questions::Questions;
+use crate::record::bindings::{introduced_by, received_bindings};
 use crate::tables::references::BoundReferences;
-use crate::view::View;
+use decoded_records::{
+    DecodedRecord, Origin, TableKey, TableKeys, View, asks_elsewhere, descriptors, has_message,
+    introductions, new_references, noted_call, origins, question_finished, question_opened,
+    question_released, question_returned, question_returned_lightly, question_taken,
+};
+use number_tables::{ExportsImports, Question, Questions, given_back_by, is_late};
 use rpc_view::RpcMessage;
 use std::alloc::{AllocError, Global};
-
-/// Whether a record is a late Return.
-pub(crate) fn is_late(questions: &Questions, event: &DecodedRecord) -> bool
-    ensures { result ≡ late_by (question_at questions.now) event.now }
-{
-    let DecodedRecord::Wire {
-        sent,
-        connection,
-        message: RpcMessage::Return { answer: number, .. },
-        ..
-    } = event
-    else {
-        return false;
-    };
-    let question = TableKey::of_receiver(*sent, *connection, *number);
-    match questions.of(question) {
-        Some(known) => known.released,
-        None => false,
-    }
-}
-
-/// The introductions that a Return or a Finish gives back.
-pub(crate) fn given_back_by<'a>(questions: &'a Questions, event: &DecodedRecord) -> &'a [TableKey]
-    ensures { result.now ≡ given_back_by (question_at questions.now) event.now }
-{
-    match event {
-        DecodedRecord::Wire {
-            sent,
-            connection,
-            message: RpcMessage::Return {
-                answer: number,
-                release_param_caps: true,
-                ..
-            },
-            ..
-        } => questions.asked_in(TableKey::of_receiver(*sent, *connection, *number)),
-        DecodedRecord::Wire {
-            sent,
-            connection,
-            message: RpcMessage::Finish {
-                question: number,
-                release_result_caps: true,
-            },
-            ..
-        } => questions.brought_in(TableKey::of_sender(*sent, *connection, *number)),
-        _ => &[],
-    }
-}
 
 /// Takes from the counts what a Release gives back.
 pub(crate) fn release(lives: &mut ExportsImports, event: &DecodedRecord)

@@ -4,17 +4,14 @@ ghost use Rattle.std.specs.Prelude.{◌≡◌, option_map};
 ghost use Rattle.vat_view.specs.Types.{FieldOf};
 ghost use Rattle.vat_view.specs.Glue.Asking.{targeted_by};
 ghost use Rattle.vat_view.specs.Glue.Queues.{goal_key_of};
-ghost use Rattle.vat_view.specs.Glue.Tables.{bound_at, view_from, number_by, question_at, call_by};
+ghost use Rattle.vat_view.specs.Glue.Tables.{bound_at, view_from, number_by};
+ghost use Rattle.number_tables.specs.Glue.QuestionTables.{call_by, question_at};
 
-use crate::lookups::meaning::call_of;
-use crate::record::decoded::DecodedRecord;
-use crate::record::origin::Origin;
-use crate::record::table_key::TableKey;
-use crate::tables::exports_imports::ExportsImports;
-use crate::tables::questions::Questions;
 use crate::tables::references::BoundReferences;
 use crate::tables::turns::goal_key::{GoalKey, digest, goal_key_of};
 use cap_frame::Path;
+use decoded_records::{DecodedRecord, Origin, TableKey};
+use number_tables::{ExportsImports, Questions, call_of};
 use rpc_view::{RpcMessage, Target};
 
 /// The heading of what a number stands for, of this vat or of its peer, whose life began so.

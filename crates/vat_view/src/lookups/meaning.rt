@@ -2,15 +2,13 @@
 
 ghost use Rattle.std.specs.Prelude.{◌≡◌, option_map, IfOk};
 ghost use Rattle.vat_view.specs.Types.{FieldOf};
-ghost use Rattle.vat_view.specs.Glue.Tables.{bound_at, view_from, number_by, question_at, call_by};
+ghost use Rattle.vat_view.specs.Glue.Tables.{bound_at, view_from, number_by};
+ghost use Rattle.number_tables.specs.Glue.QuestionTables.{call_by, question_at};
 
-use crate::record::origin::Origin;
-use crate::record::table_key::TableKey;
-use crate::tables::exports_imports::ExportsImports;
-use crate::tables::questions::Questions;
 use crate::tables::references::BoundReferences;
-use crate::view::View;
 use cap_frame::Path;
+use decoded_records::{Origin, TableKey, View};
+use number_tables::{ExportsImports, Questions, call_of};
 use std::alloc::AllocError;
 
 /// The view of a reference, if it has one.
@@ -54,16 +52,6 @@ pub(crate) fn view_of_number(
     match lives.origin_of(number) {
         Some(origin) => view_from(bound, number.ours, origin),
         None => Ok(None),
-    }
-}
-
-/// The call of a question that isn't over.
-pub(crate) fn call_of(questions: &Questions, question: TableKey) -> Option<u64>
-    ensures { result ≡ call_by (question_at questions.now question) }
-{
-    match questions.of(question) {
-        Some(known) if !known.is_over() => Some(known.call),
-        _ => None,
     }
 }
 

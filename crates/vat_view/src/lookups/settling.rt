@@ -1,21 +1,18 @@
 //! What a record settles, so that views turn.
 
 ghost use Rattle.std.specs.Prelude.{◌≡◌, None, IfOk, if◌then◌else◌};
-ghost use Rattle.vat_view.specs.Glue.Tables.{bound_at, question_at, held_origin};
+ghost use Rattle.vat_view.specs.Glue.Tables.{bound_at};
+ghost use Rattle.number_tables.specs.Glue.QuestionTables.{question_at};
+ghost use Rattle.number_tables.specs.Glue.LifeTables.{held_origin};
 ghost use Rattle.vat_view.specs.Glue.Asking.{question_taken_here, named_answerer, call_taken_here, taken_from_by};
 ghost use Rattle.vat_view.specs.Glue.TurnTables.{promise_of, results_by, import_by, settled_by, may_turn, IsTurned};
 
-use crate::apply::tables::is_late;
-use crate::lookups::meaning::call_of;
 use crate::lookups::turning::turned_by;
-use crate::record::decoded::DecodedRecord;
-use crate::record::table_key::TableKey;
 use crate::record::unsettled::Unsettled;
-use crate::tables::exports_imports::ExportsImports;
-use crate::tables::questions::Questions;
 use crate::tables::references::BoundReferences;
 use crate::tables::turns::settlements::Settling;
-use crate::view::View;
+use decoded_records::{DecodedRecord, TableKey, View};
+use number_tables::{ExportsImports, Questions, call_of, is_late, opening_call};
 use rpc_view::{Outcome, RpcMessage};
 use std::alloc::{AllocError, Global};
 
@@ -52,8 +49,8 @@ fn promise_of(bound: &BoundReferences, reference: u64) -> Option<Unsettled>
 fn results_of(questions: &Questions, question: TableKey) -> Option<Unsettled>
     ensures { result ≡ results_by (question_at questions.now question) }
 {
-    match questions.of(question) {
-        Some(known) => Some(Unsettled::Results(known.call)),
+    match opening_call(questions, question) {
+        Some(call) => Some(Unsettled::Results(call)),
         None => None,
     }
 }

@@ -1,96 +1,23 @@
-//! What is asked of questions, numbers and records, by the tables.
+//! What is asked of numbers and records, by the tables.
 
 ghost use Rattle.std.specs.Prelude.{◌≡◌, ◌≤◌, ◌<◌, ◌∷◌, [], count_by, map, Decides, IfOk};
-ghost use Rattle.vat_view.specs.Past.{same_id};
+ghost use Rattle.decoded_records.specs.Past.{same_id};
 ghost use Rattle.vat_view.specs.Types.{TableKey};
-ghost use Rattle.vat_view.specs.Lives.{descriptors};
-ghost use Rattle.vat_view.specs.Glue.Tables.{question_at, count_at, bound_at, view_by};
-ghost use Rattle.vat_view.specs.Glue.Asking.{free_in, unfinished_in, finished_in, unreturned_in, tail_in, taken_in, opening_call_in, targeted_by, let_go_of, given_by};
+ghost use Rattle.decoded_records.specs.Lives.{descriptors};
+ghost use Rattle.number_tables.specs.Glue.QuestionTables.{question_at};
+ghost use Rattle.number_tables.specs.Glue.LifeTables.{count_at};
+ghost use Rattle.vat_view.specs.Glue.Tables.{bound_at, view_by};
+ghost use Rattle.vat_view.specs.Glue.Asking.{targeted_by, let_go_of, given_by};
 
-use crate::apply::tables::given_back_by;
 use crate::lookups::meaning::{field_of, view_of_number};
 use crate::preconditions::key_counts::KeyCounts;
 use crate::record::bindings::view_by;
-use crate::record::decoded::DecodedRecord;
-use crate::record::effects::descriptors;
 use crate::record::introduced::Introduced;
-use crate::record::table_key::TableKey;
-use crate::tables::exports_imports::ExportsImports;
-use crate::tables::questions::Questions;
 use crate::tables::references::BoundReferences;
-use crate::view::View;
+use decoded_records::{DecodedRecord, TableKey, View, descriptors};
+use number_tables::{ExportsImports, Questions, given_back_by};
 use rpc_view::{RpcMessage, Target};
 use std::alloc::{AllocError, Global};
-
-/// Whether a question is free: over, or behind a Return that says that no Finish is needed.
-pub(crate) fn is_free(questions: &Questions, question: TableKey) -> bool
-    ensures { result ≡ free_in (question_at questions.now question) }
-{
-    match questions.of(question) {
-        Some(known) => known.is_over() || known.returned_lightly,
-        None => true,
-    }
-}
-
-/// Whether a question is opened and not finished.
-pub(crate) fn is_unfinished(questions: &Questions, question: TableKey) -> bool
-    ensures { result ≡ unfinished_in (question_at questions.now question) }
-{
-    match questions.of(question) {
-        Some(known) => !known.finished,
-        None => false,
-    }
-}
-
-/// Whether a question is finished.
-pub(crate) fn is_finished(questions: &Questions, question: TableKey) -> bool
-    ensures { result ≡ finished_in (question_at questions.now question) }
-{
-    match questions.of(question) {
-        Some(known) => known.finished,
-        None => false,
-    }
-}
-
-/// Whether a question is opened and not returned.
-pub(crate) fn is_unreturned(questions: &Questions, question: TableKey) -> bool
-    ensures { result ≡ unreturned_in (question_at questions.now question) }
-{
-    match questions.of(question) {
-        Some(known) => !known.returned,
-        None => false,
-    }
-}
-
-/// Whether a question's last opening is a Call whose results are to be sent elsewhere.
-pub(crate) fn is_tail(questions: &Questions, question: TableKey) -> bool
-    ensures { result ≡ tail_in (question_at questions.now question) }
-{
-    match questions.of(question) {
-        Some(known) => known.tail,
-        None => false,
-    }
-}
-
-/// Whether a question's results were taken.
-pub(crate) fn is_taken(questions: &Questions, question: TableKey) -> bool
-    ensures { result ≡ taken_in (question_at questions.now question) }
-{
-    match questions.of(question) {
-        Some(known) => known.taken,
-        None => false,
-    }
-}
-
-/// The call of a question's last opening.
-pub(crate) fn opening_call(questions: &Questions, question: TableKey) -> Option<u64>
-    ensures { result ≡ opening_call_in (question_at questions.now question) }
-{
-    match questions.of(question) {
-        Some(known) => Some(known.call),
-        None => None,
-    }
-}
 
 /// What a record's target stands for.
 pub(crate) fn view_of_target(

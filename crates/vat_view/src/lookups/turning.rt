@@ -5,11 +5,10 @@ ghost use Rattle.std.specs.Str.{bytes_eq as same_path};
 ghost use Rattle.vat_view.specs.Glue.TurnTables.{reference_at, answered_at, returned_at, target_in, answer_target, field_target, IsTurned};
 
 use crate::record::bindings::reference_by;
-use crate::record::decoded::DecodedRecord;
-use crate::record::effects::{descriptors, is_cap, references};
 use crate::tables::turns::field_targets::FieldTargets;
 use crate::tables::turns::turned::Turned;
 use cap_frame::Path;
+use decoded_records::{DecodedRecord, descriptors, is_cap, references};
 use rpc_view::{Outcome, RpcMessage};
 use std::alloc::{AllocError, Global};
 

@@ -1,11 +1,11 @@
 //! How often numbers stand in a list.
 
 ghost use Rattle.std.specs.Prelude.{◌≡◌, ◌+◌, ◌-◌, ◌<◌, ◌^◌, OnOk, IfOk, if◌then◌else◌};
-ghost use Rattle.vat_view.specs.declared.record.table_key.TableKey.{TableKey};
-ghost use Rattle.vat_view.specs.Past.{same_id};
+ghost use Rattle.decoded_records.specs.declared.table_key.TableKey.{TableKey};
+ghost use Rattle.decoded_records.specs.Past.{same_id};
 ghost use Rattle.vat_view.specs.Glue.Asking.{tally_at};
 
-use crate::record::table_key::TableKey;
+use decoded_records::TableKey;
 use std::alloc::{AllocError, Global};
 use std::collections::BTreeMap;
 

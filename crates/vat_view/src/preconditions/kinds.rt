@@ -2,15 +2,13 @@
 
 ghost use Rattle.std.specs.Prelude.{◌≡◌};
 ghost use Rattle.std.specs.List.{list_all};
-ghost use Rattle.vat_view.specs.Lives.{descriptors};
+ghost use Rattle.decoded_records.specs.Lives.{descriptors};
 ghost use Rattle.vat_view.specs.Glue.KindTables.{resolved_since, of_kind_by, keeps_by};
 
-use crate::record::decoded::DecodedRecord;
-use crate::record::effects::{descriptors, is_promise, number_introduced};
 use crate::record::introduced::Introduced;
-use crate::record::origin::Origin;
-use crate::tables::exports_imports::ExportsImports;
 use crate::tables::turns::resolves::Resolves;
+use decoded_records::{DecodedRecord, Origin, descriptors, is_promise, number_introduced};
+use number_tables::ExportsImports;
 use rpc_view::Descriptor;
 
 /// Whether the last Resolve of a number came in its life, by the records where that began and where it stands.

@@ -2,13 +2,13 @@
 
 ghost use Rattle.std.specs.Prelude.{◌≡◌, not, Decides, IfOk, IfSome};
 ghost use Rattle.std.specs.List.{list_all};
-ghost use Rattle.vat_view.specs.Bindings.{Refers, is_bound, is_bound_call, is_distinct, new_references, new_calls, named_references, named_calls, notes_call};
+ghost use Rattle.decoded_records.specs.Bindings.{Refers, is_bound, is_bound_call, is_distinct, new_references, new_calls, named_references, named_calls, notes_call};
 ghost use Rattle.vat_view.specs.Glue.Plain.{IsNotedAlone, IsNamedAlone};
 
 use crate::preconditions::reference_set::ReferenceSet;
 use crate::preconditions::uses::all_three;
-use crate::record::decoded::DecodedRecord;
 use crate::state::VatState;
+use decoded_records::DecodedRecord;
 use rpc_view::RpcMessage;
 use std::alloc::{AllocError, Global};
 use vat_log::ResultReferences;

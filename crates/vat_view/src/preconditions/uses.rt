@@ -2,17 +2,15 @@
 
 ghost use Rattle.std.specs.Prelude.{◌≡◌, ◌&&◌, not, count_by, Decides};
 ghost use Rattle.std.specs.List.{list_all};
-ghost use Rattle.vat_view.specs.Questions.{question_returned, question_taken, opening, is_tail, is_taken, is_unfinished, is_unreturned};
-ghost use Rattle.vat_view.specs.Lives.{descriptors, is_in_life};
-ghost use Rattle.vat_view.specs.Uses.{question_described, questions_used, number_described, OpensFree, UsesQuestions, UsesNumbers};
-ghost use Rattle.vat_view.specs.Glue.Tables.{is_cap};
-ghost use Rattle.vat_view.specs.Bindings.{NotesEach};
+ghost use Rattle.decoded_records.specs.Questions.{question_returned, question_taken, opening, is_tail, is_taken, is_unfinished, is_unreturned};
+ghost use Rattle.decoded_records.specs.Lives.{descriptors, is_in_life};
+ghost use Rattle.decoded_records.specs.Uses.{question_described, questions_used, number_described, OpensFree, UsesQuestions, UsesNumbers};
+ghost use Rattle.decoded_records.specs.Glue.Origins.{is_cap};
+ghost use Rattle.decoded_records.specs.Bindings.{NotesEach};
 ghost use Rattle.vat_view.specs.Glue.Asking.{passes_if};
 
-use crate::record::decoded::DecodedRecord;
-use crate::record::effects::{has_message, is_cap};
-use crate::record::table_key::TableKey;
 use crate::state::VatState;
+use decoded_records::{DecodedRecord, TableKey, has_message, is_cap};
 
 /// Whether three tests all hold; a function of its own, so that the proof sees one `&&`.
 pub(crate) fn all_three(first: bool, second: bool, third: bool) -> bool

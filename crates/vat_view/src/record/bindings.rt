@@ -1,22 +1,19 @@
 //! Which references a record binds, and to which views.
 
 ghost use Rattle.std.specs.Prelude.{◌≡◌, false, IfOk};
-ghost use Rattle.vat_view.specs.Lives.{descriptors};
-ghost use Rattle.vat_view.specs.Views.{references};
-ghost use Rattle.vat_view.specs.Bindings.{new_references};
+ghost use Rattle.decoded_records.specs.Lives.{descriptors};
+ghost use Rattle.decoded_records.specs.Views.{references};
 ghost use Rattle.vat_view.specs.Glue.Plain.{received_bindings};
-ghost use Rattle.vat_view.specs.Glue.Tables.{bound_at, question_at, origins_if, AreBegun, sender_view, view_by, reference_by, bound_one, bound_from};
+ghost use Rattle.vat_view.specs.Glue.Tables.{bound_at, origins_if, AreBegun, sender_view, view_by, reference_by, bound_one, bound_from};
+ghost use Rattle.number_tables.specs.Glue.QuestionTables.{question_at};
 
 use crate::lookups::meaning::{field_of, view_from, view_of_number};
-use crate::record::decoded::DecodedRecord;
-use crate::record::effects::{descriptors, is_cap, origins, references};
 use crate::record::introduced::{FEW, Introduced};
-use crate::record::short_list::ShortList;
-use crate::record::table_key::TableKey;
-use crate::tables::exports_imports::ExportsImports;
-use crate::tables::questions::Questions;
 use crate::tables::references::BoundReferences;
-use crate::view::View;
+use decoded_records::{
+    DecodedRecord, ShortList, TableKey, View, descriptors, is_cap, origins, references,
+};
+use number_tables::{ExportsImports, Questions};
 use rpc_view::Descriptor;
 use std::alloc::{AllocError, Global};
 use std::slice;
@@ -221,22 +218,5 @@ pub(crate) fn received_bindings(
             alloc, bound, lives, begun, questions, event,
         ),
         _ => Ok(ShortList::none()),
-    }
-}
-
-/// The references that a record newly binds.
-pub(crate) fn new_references(event: &DecodedRecord) -> &[u64]
-    ensures { result.now ≡ new_references event.now }
-{
-    match event {
-        DecodedRecord::Host { reference, .. }
-        | DecodedRecord::Vow { reference }
-        | DecodedRecord::Field { reference, .. } => slice::from_ref(reference),
-        DecodedRecord::Wire {
-            sent: false,
-            references,
-            ..
-        } => references.as_slice(),
-        _ => &[],
     }
 }

@@ -1,15 +1,13 @@
 //! What one record introduces.
 
 ghost use Rattle.std.specs.Prelude.{◌≡◌};
-ghost use Rattle.vat_view.specs.Past.{same_id};
-ghost use Rattle.vat_view.specs.Lives.{descriptors};
-ghost use Rattle.vat_view.specs.Glue.Tables.{origins_from, first_in, begun_origin};
+ghost use Rattle.decoded_records.specs.Past.{same_id};
+ghost use Rattle.decoded_records.specs.Lives.{descriptors};
+ghost use Rattle.decoded_records.specs.Glue.Origins.{origins_from};
+ghost use Rattle.vat_view.specs.Glue.Tables.{first_in, begun_origin};
 
-use crate::record::decoded::DecodedRecord;
-use crate::record::effects::{descriptors, is_cap, origin_by};
-use crate::record::origin::Origin;
-use crate::record::table_key::TableKey;
-use crate::tables::exports_imports::ExportsImports;
+use decoded_records::{DecodedRecord, Origin, TableKey, descriptors, is_cap, origin_by};
+use number_tables::ExportsImports;
 
 /// The numbers that a record introduces, with their origins: where its descriptors are few these are searched from
 /// their beginning, and else a table is.

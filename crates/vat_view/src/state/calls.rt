@@ -1,13 +1,12 @@
 //! What can be asked of calls.
 
 ghost use Rattle.std.specs.Prelude.{◌≡◌, ◌<◌, IfOk};
-ghost use Rattle.vat_view.specs.declared.view.View.{View};
-ghost use Rattle.vat_view.specs.Bindings.{is_bound_call};
-ghost use Rattle.vat_view.specs.Calls.{request_of, goal_of, is_at_vat, is_served, is_settled, is_known, answered_by};
+ghost use Rattle.decoded_records.specs.declared.view.View.{View};
+ghost use Rattle.decoded_records.specs.Bindings.{is_bound_call};
+ghost use Rattle.decoded_records.specs.Calls.{request_of, goal_of, is_at_vat, is_served, is_settled, is_known, answered_by};
 
-use crate::request::Request;
 use crate::state::VatState;
-use crate::view::View;
+use decoded_records::{Request, View};
 use std::alloc::AllocError;
 
 /// What can be asked of calls.

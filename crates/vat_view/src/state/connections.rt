@@ -1,15 +1,14 @@
 //! What can be asked of connections, of imports that came in over them, and of the loopbacks on them.
 
 ghost use Rattle.std.specs.Prelude.{◌≡◌, ◌<◌, Decides, is_some};
-ghost use Rattle.vat_view.specs.declared.view.View.{View};
+ghost use Rattle.decoded_records.specs.declared.view.View.{View};
 ghost use Rattle.std.specs.Option.{option_copied};
 ghost use Rattle.vat_view.specs.Arrivals.{came_hosted};
 ghost use Rattle.vat_view.specs.Connections.{is_aborted, is_aborted_here};
-ghost use Rattle.vat_view.specs.Loopbacks.{loopback_of, embargoed_view, IsHeldUp};
+ghost use Rattle.decoded_records.specs.Loopbacks.{loopback_of, embargoed_view, IsHeldUp};
 
-use crate::record::table_key::TableKey;
 use crate::state::VatState;
-use crate::view::View;
+use decoded_records::{TableKey, View};
 
 /// What can be asked of connections.
 impl VatState {

@@ -1,16 +1,15 @@
 //! Where views lead.
 
 ghost use Rattle.std.specs.Prelude.{◌≡◌, ◌<◌, ◌↔◌, Decides, IsTrue, MatchOption, option_map};
-ghost use Rattle.vat_view.specs.declared.view.View.{View};
+ghost use Rattle.decoded_records.specs.declared.view.View.{View};
 ghost use Rattle.vat_view.specs.Walks.{next, stays, turned_to, Leads, LeadsByTurns, IsEnd};
 ghost use Rattle.vat_view.specs.Connections.{LeadsOver, LeadsElsewhere};
-ghost use Rattle.vat_view.specs.Borrowed.{as_view};
+ghost use Rattle.decoded_records.specs.Borrowed.{as_view};
 
-use crate::borrowed_view::BorrowedView;
 use crate::state::VatState;
-use crate::view::View;
 use crate::walks::hops;
 use crate::walks::reachable::{Sought, leads_to};
+use decoded_records::{BorrowedView, View};
 use rpc_view::Edition;
 
 /// What can be asked of walks from view to view.

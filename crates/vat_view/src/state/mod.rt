@@ -1,12 +1,12 @@
 //! The state of a vat's numbers after some records of its log.
 
 ghost use Rattle.std.specs.Prelude.{◌≡◌, [], ◌∷◌, Decides, IfOk, OnOk, OnErr};
-ghost use Rattle.vat_view.specs.declared.view.View.{View};
-ghost use Rattle.vat_view.specs.Numbers.{number_held, number_stands};
-ghost use Rattle.vat_view.specs.Lives.{GivesBackHeld};
-ghost use Rattle.vat_view.specs.Uses.{UsesQuestions, UsesNumbers};
-ghost use Rattle.vat_view.specs.Views.{view_of_reference, view_of_number};
-ghost use Rattle.vat_view.specs.Bindings.{Refers, NotesEach};
+ghost use Rattle.decoded_records.specs.declared.view.View.{View};
+ghost use Rattle.decoded_records.specs.Numbers.{number_held, number_stands};
+ghost use Rattle.decoded_records.specs.Lives.{GivesBackHeld};
+ghost use Rattle.decoded_records.specs.Uses.{UsesQuestions, UsesNumbers};
+ghost use Rattle.decoded_records.specs.Views.{view_of_reference, view_of_number};
+ghost use Rattle.decoded_records.specs.Bindings.{Refers, NotesEach};
 ghost use Rattle.vat_view.specs.Sound.{IsSound};
 
 mod calls;
@@ -17,12 +17,9 @@ mod questions;
 mod shortening;
 
 use crate::lookups::meaning;
-use crate::record::decoded::DecodedRecord;
-use crate::record::number::Number;
-use crate::record::table_key::TableKey;
 use crate::tables::all_tables::AllTables;
-use crate::view::View;
 use cap_frame::Path;
+use decoded_records::{DecodedRecord, Number, TableKey, View};
 use erased::Erased;
 use std::alloc::{AllocError, Global};
 use std::fmt::{self, Debug, Formatter, Write};
@@ -39,7 +36,7 @@ pub struct VatState {
 
 impl Model for VatState {
     ghost use Rattle.std.specs.Prelude.{List};
-    ghost use Rattle.vat_view.specs.declared.record.decoded.DecodedRecord.{DecodedRecord};
+    ghost use Rattle.decoded_records.specs.declared.decoded.DecodedRecord.{DecodedRecord};
     ghost use Rattle.vat_view.specs.Glue.Whole.{AreWhole};
 
     ghost Value = { List DecodedRecord };

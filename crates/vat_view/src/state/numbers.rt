@@ -1,21 +1,17 @@
 //! What can be asked of export and import numbers, references and descriptors.
 
 ghost use Rattle.std.specs.Prelude.{◌≡◌, ◌<◌, Decides, IfOk, option_map};
-ghost use Rattle.vat_view.specs.declared.view.View.{View};
-ghost use Rattle.vat_view.specs.Questions.{is_late};
-ghost use Rattle.vat_view.specs.Lives.{GivesBackHeld, KeepsKinds, birth, began_promised, is_in_life, is_resolved};
-ghost use Rattle.vat_view.specs.Views.{view_of_reference, view_of_target, descriptor_view, views_of_descriptors};
-ghost use Rattle.vat_view.specs.Bindings.{is_bound};
+ghost use Rattle.decoded_records.specs.declared.view.View.{View};
+ghost use Rattle.decoded_records.specs.Questions.{is_late};
+ghost use Rattle.decoded_records.specs.Lives.{GivesBackHeld, KeepsKinds, birth, began_promised, is_in_life, is_resolved};
+ghost use Rattle.decoded_records.specs.Views.{view_of_reference, view_of_target, descriptor_view, views_of_descriptors};
+ghost use Rattle.decoded_records.specs.Bindings.{is_bound};
 
-use crate::apply::tables;
 use crate::lookups::table_answers;
 use crate::preconditions::kinds;
 use crate::record::bindings;
-use crate::record::decoded::DecodedRecord;
-use crate::record::effects::has_message;
-use crate::record::table_key::TableKey;
 use crate::state::VatState;
-use crate::view::View;
+use decoded_records::{DecodedRecord, TableKey, View, has_message};
 use rpc_view::Descriptor;
 use std::alloc::AllocError;
 
@@ -85,7 +81,7 @@ impl VatState {
             ≡ descriptor_view (view_of_reference self.now) self.now event.now descriptor.now) }
     {
         let alloc = self.allocator();
-        let late = tables::is_late(&self.tables.questions, event);
+        let late = number_tables::is_late(&self.tables.questions, event);
         let begun = bindings::introduced_by(alloc, late, self.count, event)?;
         bindings::view_by(
             &self.tables.bound,
@@ -110,7 +106,7 @@ impl VatState {
         ensures { IfOk result (λ views. views.items ≡ views_of_descriptors self.now event.now) }
     {
         let alloc = self.allocator();
-        let late = tables::is_late(&self.tables.questions, event);
+        let late = number_tables::is_late(&self.tables.questions, event);
         let begun = bindings::introduced_by(alloc, late, self.count, event)?;
         table_answers::views_of_descriptors(
             alloc,
@@ -148,7 +144,7 @@ impl VatState {
         ensures { IfOk result (λ keeps. Decides keeps (KeepsKinds self.now event.now)) }
     {
         let alloc = self.allocator();
-        let late = tables::is_late(&self.tables.questions, event);
+        let late = number_tables::is_late(&self.tables.questions, event);
         let begun = bindings::introduced_by(alloc, late, self.count, event)?;
         Ok(kinds::keeps_kinds(&self.tables.lives, &begun, &self.tables.resolves, event))
     }

@@ -1,17 +1,14 @@
 //! How walks are made shorter before a record is applied.
 
 ghost use Rattle.std.specs.Prelude.{◌≡◌, ◌<◌};
-ghost use Rattle.vat_view.specs.Loopbacks.{embargoed_view};
+ghost use Rattle.decoded_records.specs.Loopbacks.{embargoed_view};
 
-use crate::borrowed_view::BorrowedView;
-use crate::record::decoded::DecodedRecord;
-use crate::record::number::Number;
-use crate::record::table_key::TableKey;
 use crate::state::VatState;
 use crate::walks::shortcuts::{
     WayOn, shorten, shorten_calls, view_of_number, way_after, way_from, way_from_reference,
 };
 use cap_frame::Path;
+use decoded_records::{BorrowedView, DecodedRecord, Number, TableKey};
 use rpc_view::{Loopback, Outcome, Payload, RpcMessage, Target};
 
 /// How walks are made shorter before a record is applied.

@@ -1,28 +1,25 @@
 //! All tables of a vat's numbers.
 
 ghost use Rattle.std.specs.Prelude.{◌≡◌, ◌+◌, [], ◌∷◌, length, true, false, Some, is_some, IsTrue, OnOk, OnErr};
-ghost use Rattle.vat_view.specs.Past.{Past};
+ghost use Rattle.decoded_records.specs.Past.{Past};
 ghost use Rattle.vat_view.specs.Sound.{IsSound};
-ghost use Rattle.vat_view.specs.Loopbacks.{sender_loopback};
+ghost use Rattle.decoded_records.specs.Loopbacks.{sender_loopback};
 ghost use Rattle.vat_view.specs.Glue.ArrivalTables.{arriving_over};
 ghost use Rattle.vat_view.specs.Glue.TurnTables.{may_turn};
 ghost use Rattle.vat_view.specs.Glue.Whole.{AreNoted, AreTold, AreWhole};
 
 use crate::apply::apply_record::apply_record;
 use crate::lookups::settling::{may_turn, settling_of};
-use crate::record::decoded::DecodedRecord;
-use crate::record::effects::{descriptors, promise_resolved};
 use crate::tables::arrivals::{Arrivals, arriving_over};
-use crate::tables::calls::Calls;
 use crate::tables::connections::Connections;
-use crate::tables::exports_imports::ExportsImports;
-use crate::tables::questions::Questions;
 use crate::tables::references::BoundReferences;
 use crate::tables::turns::resolves::Resolves;
 use crate::tables::turns::settlements::Settlements;
 use crate::tables::waits::embargoes::Embargoes;
 use crate::tables::waits::loopbacks::{asks_for_echo, sender_loopback};
 use crate::tables::waits::waiting_calls::call_taken_by;
+use decoded_records::{DecodedRecord, descriptors, promise_resolved};
+use number_tables::{Calls, ExportsImports, Questions};
 use std::alloc::{AllocError, Global};
 
 /// What is kept of the records that were applied.

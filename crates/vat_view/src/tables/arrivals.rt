@@ -3,11 +3,10 @@
 ghost use Rattle.std.specs.Prelude.{◌≡◌, ◌==◌, ℕ, None, false, map, option_map, is_some, IfOk, OnOk, OnErr, if◌then◌else◌};
 ghost use Rattle.std.specs.List.{list_any};
 ghost use Rattle.std.specs.Option.{option_map_or};
-ghost use Rattle.vat_view.specs.Lives.{descriptors};
+ghost use Rattle.decoded_records.specs.Lives.{descriptors};
 ghost use Rattle.vat_view.specs.Glue.ArrivalTables.{hosted_in, arriving_over, brought_over, connection_in, hosted_by, arrival_at};
 
-use crate::record::decoded::DecodedRecord;
-use crate::record::effects::descriptors;
+use decoded_records::{DecodedRecord, descriptors};
 use rising_table::RisingTable;
 use rpc_view::Descriptor;
 use std::alloc::{AllocError, Global};

@@ -2,11 +2,11 @@
 
 ghost use Rattle.std.specs.Prelude.{◌≡◌, ◌||◌, ℕ, None, Some, false, OnOk, IsTrue};
 ghost use Rattle.std.specs.Option.{option_or};
-ghost use Rattle.vat_view.specs.Past.{is};
+ghost use Rattle.decoded_records.specs.Past.{is};
 ghost use Rattle.vat_view.specs.Connections.{aborted_by, abort_sent_on};
 ghost use Rattle.vat_view.specs.Glue.ConnectionTables.{asked_at, marked_at, aborted_at, aborted_here_at, call_sent_on, on_for, has_asked, has_room};
 
-use crate::record::decoded::DecodedRecord;
+use decoded_records::DecodedRecord;
 use rising_table::RisingTable;
 use rpc_view::RpcMessage;
 use std::alloc::{AllocError, Global};

@@ -3,12 +3,11 @@
 ghost use Rattle.std.specs.Prelude.{◌≡◌, ◌==◌, ◌⊎◌, ℕ, None, Some, OnOk, OnErr, true, false, map, is_some, option_map, if◌then◌else◌, IsTrue};
 ghost use Rattle.std.specs.Option.{option_copied};
 ghost use Rattle.vat_view.specs.declared.tables.references.Shortcut.{Shortcut};
-ghost use Rattle.vat_view.specs.Bindings.{contains};
+ghost use Rattle.decoded_records.specs.Bindings.{contains};
 ghost use Rattle.vat_view.specs.Glue.Tables.{bound_at, bound_by};
 ghost use Rattle.vat_view.specs.Glue.TurnTables.{bound_len, own_leap, ahead_at, view_ahead_at, IsOwnOrOld};
 
-use crate::record::short_list::ShortList;
-use crate::view::View;
+use decoded_records::{ShortList, View};
 use rising_table::RisingTable;
 use std::alloc::{AllocError, Global};
 

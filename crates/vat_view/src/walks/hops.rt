@@ -2,14 +2,14 @@
 
 ghost use Rattle.std.specs.Prelude.{◌≡◌, ◌↔◌, ◌<◌, ◌^◌, IsTrue, Some, IfSome, MatchOption, None, if◌then◌else◌, is_none, option_map};
 ghost use Rattle.vat_view.specs.Types.{View, FieldOf};
-ghost use Rattle.vat_view.specs.Borrowed.{as_view};
+ghost use Rattle.decoded_records.specs.Borrowed.{as_view};
 ghost use Rattle.vat_view.specs.Glue.Tables.{bound_at};
 ghost use Rattle.vat_view.specs.Glue.TurnTables.{settled_at, goes_by, turn_by, landed_by, reference_by, turns_of, most_turns, after_turns, Reaches, TurnsAndThen, TurnsOn, ReachesByTurns, EndsBy, HaveAhead, view_ahead_at};
 
-use crate::borrowed_view::BorrowedView;
 use crate::tables::references::BoundReferences;
 use crate::tables::turns::settlements::Settlements;
 use crate::walks::landing::Landing;
+use decoded_records::BorrowedView;
 
 /// Whether no record settled a view.
 pub(crate) fn stays(turns: &Settlements, view: BorrowedView<'_>) -> bool

@@ -1,19 +1,19 @@
 //! Walks to views of a kind.
 
 ghost use Rattle.std.specs.Prelude.{◌≡◌, ◌↔◌, IsTrue};
-ghost use Rattle.vat_view.specs.Past.{is};
-ghost use Rattle.vat_view.specs.Borrowed.{as_view};
+ghost use Rattle.decoded_records.specs.Past.{is};
+ghost use Rattle.decoded_records.specs.Borrowed.{as_view};
 ghost use Rattle.vat_view.specs.Glue.Tables.{bound_at};
 ghost use Rattle.vat_view.specs.Connections.{is_own, is_another};
 ghost use Rattle.vat_view.specs.Glue.TurnTables.{turn_by, HaveAhead};
 ghost use Rattle.vat_view.specs.Glue.ConnectionTables.{over_by, is_elsewhere_by, sought_by, ReachesOne};
 
-use crate::borrowed_view::BorrowedView;
 use crate::tables::arrivals::Arrivals;
 use crate::tables::connections::Connections;
 use crate::tables::references::BoundReferences;
 use crate::tables::turns::settlements::Settlements;
 use crate::walks::hops::{further, most_turns, turned_to};
+use decoded_records::BorrowedView;
 use rpc_view::Edition;
 
 /// Which views a walk seeks.

@@ -4,13 +4,12 @@ ghost use Rattle.std.specs.Prelude.{◌≡◌, ℕ, Some, IfSome};
 ghost use Rattle.vat_view.specs.Glue.Tables.{bound_at};
 ghost use Rattle.vat_view.specs.Glue.TurnTables.{turns_of, onward_by, call_onward_by, joined, IsJoined, SaysSameTurns, HaveAhead, IsCallAhead};
 
-use crate::borrowed_view::BorrowedView;
-use crate::record::table_key::TableKey;
-use crate::tables::exports_imports::ExportsImports;
 use crate::tables::references::{BoundReferences, Shortcut};
 use crate::tables::turns::settlements::Settlements;
 use crate::walks::hops::{landed_by, reference_by, turned_to, view_of};
 use crate::walks::landing::Landing;
+use decoded_records::{BorrowedView, TableKey};
+use number_tables::ExportsImports;
 
 /// How high a reference or a call stands among others: half of all stand at 0, a quarter at 1, and so on, in no order.
 fn level(number: u64) -> u32 {

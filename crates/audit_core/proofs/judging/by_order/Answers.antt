@@ -1,10 +1,10 @@
-use Rattle.std.proofs.Common.{List, sym, ap, ◌∙◌, subst}
+use Rattle.std.proofs.Common.{◌≤◌, List, length, sym, ap, ◌∙◌, subst}
 use Rattle.vat_log.specs.Log.{Log}
 use Rattle.vat_rules.specs.Audit.{Found}
 use Rattle.merge_order.specs.Fits.{IsFitting}
 use Rattle.call_trace.specs.Findings.{MayBeNamed}
 use Rattle.case_book.specs.Case.{Contents}
-use Rattle.audit_core.specs.Report.{records_in}
+use Rattle.audit_core.specs.Report.{HoldsOfEach, records_in}
 use Rattle.audit_core.proofs.Naming.{may_be_named}
 use Rattle.audit_core.proofs.Whole.{logs_are}
 use Rattle.audit_core.proofs.Explaining.{few_steps, early_report, yes_report}
@@ -17,8 +17,8 @@ name_run-requires c =
 
 pub order_fault-requires : goal.order_fault-requires
 order_fault-requires c =
-    few_steps c.args.findings.now.case.logs c.args.order.now c.in_ok-run.run' c.count_records-records.result c.requires.fits c.in_ok-run.ensures.by_order
-    (c.count_records-records.ensures.count ∙ ap records_in c.logs.ensures.lent ∙ ap (λ (held : Contents). records_in held.logs) c.case.ensures.lent) c.count_records-records.ensures.few
+    few_steps c.args.findings.now.case.logs c.args.order.now c.in_ok-run.run' c.requires.fits c.in_ok-run.ensures.by_order
+    (subst (HoldsOfEach (λ (log : Log). length log.records ≤ 4294967295)) (c.logs.ensures.lent ∙ ap (λ (held : Contents). held.logs) c.case.ensures.lent) c.count_records-records.ensures.each)
 
 pub yes-requires-clause-all : goal.yes-requires-clause-all
 yes-requires-clause-all c = c.count_records-records.ensures.count ∙ ap records_in c.logs.ensures.lent ∙ ap (λ (held : Contents). records_in held.logs) c.case.ensures.lent

@@ -1,6 +1,6 @@
 use Rattle.std.proofs.Common.{◌∙◌, refl, ap, subst, sym, List}
 use Rattle.std.specs.Prelude.{◌↔◌, AllPairs, Contains, reverse}
-use Rattle.vat_view.specs.Past.{Past}
+use Rattle.decoded_records.specs.Past.{Past}
 use Rattle.left_open.specs.Types.{Open}
 use Rattle.left_open.specs.Left.{IsOpen, ComesBefore}
 use Rattle.left_open.specs.Glue.{begun_in, opened_from}

@@ -1,5 +1,5 @@
 use Rattle.std.proofs.Common.{◌-◌, refl, sym, length}
-use Rattle.vat_view.specs.Past.{names}
+use Rattle.decoded_records.specs.Past.{names}
 use Rattle.left_open.specs.Glue.{begun_in}
 use Rattle.left_open.proofs.Stepping.{lives_back}
 use Rattle.left_open.proofs.watching.note_each.Goals as goal

@@ -1,6 +1,6 @@
 use Rattle.std.proofs.Common.{◌∙◌, sym}
 use Rattle.std.proofs.lemmas.Bool.{eq-eqb, ne_eqb}
-use Rattle.vat_view.specs.Lives.{held, number_introduced}
+use Rattle.decoded_records.specs.Lives.{held, number_introduced}
 use Rattle.left_open.proofs.Stepping.{begins_new, begins_none}
 use Rattle.left_open.proofs.watching.number_begun.Goals as goal
 

@@ -1,6 +1,6 @@
 use Rattle.std.proofs.Common.{◌≡◌, take}
 use Rattle.std.specs.Prelude.{reverse}
-use Rattle.vat_view.specs.Past.{Each}
+use Rattle.decoded_records.specs.Past.{Each}
 use Rattle.vat_view.specs.Sound.{IsSound}
 use Rattle.left_open.specs.Glue.{IsWatched}
 use Rattle.left_open.proofs.watching.watch.Given as goal

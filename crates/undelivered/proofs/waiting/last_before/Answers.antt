@@ -1,5 +1,4 @@
-use Rattle.std.proofs.Common.{◌≡◌, [], None, sym, subst}
-use Rattle.undelivered.specs.Glue.{IsLastBefore}
+use Rattle.std.proofs.Common.{◌≡◌, []}
 use Rattle.undelivered.proofs.Keys.{none_before, last_before}
 use Rattle.undelivered.proofs.waiting.last_before.Goals as goal
 

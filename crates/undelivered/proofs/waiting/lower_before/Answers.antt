@@ -1,5 +1,5 @@
-use Rattle.std.proofs.Common.{◌≡◌, ◌≤◌, true, false, sym, ◌∙◌, arith}
-use Rattle.undelivered.specs.Glue.{has_at_most}
+use Rattle.std.proofs.Common.{◌≡◌, true, false, arith}
+use Rattle.undelivered.specs.Places.{has_at_most}
 use Rattle.undelivered.proofs.Lowering.{none_yet, one_more, all_lowered, rest_is_low}
 use Rattle.std.specs.BTreeMap.{get}
 use Rattle.undelivered.specs.Glue.{key_cmp}

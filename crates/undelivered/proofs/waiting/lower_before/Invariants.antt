@@ -1,7 +1,6 @@
-use Rattle.std.proofs.Common.{◌≡◌, ◌&&◌, ℕ, Some, eqb, ltb, ◌≤◌, cond}
+use Rattle.std.proofs.Common.{◌≡◌, ℕ, ◌≤◌}
 use Rattle.std.specs.BTreeMap.{get}
-use Rattle.std.specs.Option.{option_map}
-use Rattle.undelivered.specs.Glue.{key_cmp, lesser}
+use Rattle.undelivered.specs.Glue.{key_cmp}
 use Rattle.undelivered.proofs.Lowering.{lowered_from}
 use Rattle.undelivered.proofs.waiting.lower_before.Given as goal
 

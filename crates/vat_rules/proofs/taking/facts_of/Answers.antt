@@ -1,7 +1,7 @@
 use Rattle.std.proofs.Common.{◌∙◌, ap, ap₂, map, sym, ◌++◌}
 use Rattle.std.specs.Prelude.{Result, Ok, Err, IfOk}
-use Rattle.vat_view.specs.Bindings.{new_references, named_references}
-use Rattle.vat_view.specs.Views.{view_of_reference}
+use Rattle.decoded_records.specs.Bindings.{new_references, named_references}
+use Rattle.decoded_records.specs.Views.{view_of_reference}
 use Rattle.vat_rules.specs.Glue.Facts.{with_references}
 use Rattle.vat_rules.proofs.Owning.{own_facts}
 use Rattle.vat_rules.proofs.taking.facts_of.Goals as goal

@@ -4,7 +4,7 @@ ghost use Rattle.std.specs.Prelude.{◌≡◌};
 ghost use Rattle.std.specs.Option.{option_copied};
 ghost use Rattle.vat_view.specs.Glue.Queues.{digest_step, digest_of, goal_key_of};
 
-use crate::view::View;
+use decoded_records::View;
 
 /// A call's goal with a digest in the place of a path, so that it takes no memory. Goals that are one have one
 /// heading. Two goals with one heading differ in their paths at most, and no two paths of up to three fields have one

@@ -1,11 +1,11 @@
 //! The table of Resolves.
 
 ghost use Rattle.std.specs.Prelude.{◌≡◌, None, Some, OnOk, IsTrue, if◌then◌else◌};
-ghost use Rattle.vat_view.specs.declared.record.table_key.TableKey.{TableKey};
-ghost use Rattle.vat_view.specs.Past.{names};
+ghost use Rattle.decoded_records.specs.declared.table_key.TableKey.{TableKey};
+ghost use Rattle.decoded_records.specs.Past.{names};
 ghost use Rattle.vat_view.specs.Glue.KindTables.{resolve_at, has_room_to_resolve};
 
-use crate::record::table_key::TableKey;
+use decoded_records::TableKey;
 use std::alloc::{AllocError, Global};
 use std::collections::BTreeMap;
 

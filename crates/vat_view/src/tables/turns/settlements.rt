@@ -4,12 +4,13 @@ ghost use Rattle.std.specs.Prelude.{◌≡◌, ◌==◌, ◌<◌, ◌^◌, ◌�
 ghost use Rattle.std.specs.BTreeMap.{get};
 ghost use Rattle.rising_table.specs.Entries.{entry_at};
 ghost use Rattle.vat_view.specs.declared.record.unsettled.Unsettled.{Unsettled};
-ghost use Rattle.vat_view.specs.declared.view.View.{View};
+ghost use Rattle.decoded_records.specs.declared.view.View.{View};
 ghost use Rattle.vat_view.specs.declared.tables.turns.turned.Turned.{Turned};
 ghost use Rattle.vat_view.specs.declared.tables.references.Shortcut.{Shortcut};
 ghost use Rattle.vat_view.specs.declared.record.unsettled.Unsettled.TheVariants.{Results as ResultsOf, Import as ImportToResolve};
 ghost use Rattle.vat_view.specs.Types.{Promise, Import};
-ghost use Rattle.vat_view.specs.Glue.TurnTables.{field_path, target_in, number_in, ended_in, turned_in, settled_at, waiting, settles, pending_cmp, has_room_for_turned, has_room_for, has_room_to_settle, handed_call, handover_at, handover_after, handovers_len, has_room_for_handover, by_handover, call_ahead_in, own_leap, IsOwnOrOldCall, SaysSameTurns, IsNoted};
+ghost use Rattle.decoded_records.specs.Glue.Parts.{field_path};
+ghost use Rattle.vat_view.specs.Glue.TurnTables.{target_in, number_in, ended_in, turned_in, settled_at, waiting, settles, pending_cmp, has_room_for_turned, has_room_for, has_room_to_settle, handed_call, handover_at, handover_after, handovers_len, has_room_for_handover, by_handover, call_ahead_in, own_leap, IsOwnOrOldCall, SaysSameTurns, IsNoted};
 
 use crate::record::unsettled::Unsettled;
 use crate::tables::references::Shortcut;

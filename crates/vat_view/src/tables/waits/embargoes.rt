@@ -1,21 +1,19 @@
 //! The tables of what waits.
 
 ghost use Rattle.std.specs.Prelude.{[], Some, OnOk, IsTrue};
-ghost use Rattle.vat_view.specs.Glue.Tables.{bound_at, question_at};
+ghost use Rattle.vat_view.specs.Glue.Tables.{bound_at};
+ghost use Rattle.number_tables.specs.Glue.QuestionTables.{question_at};
 ghost use Rattle.vat_view.specs.Glue.Asking.{targeted_by};
 ghost use Rattle.vat_view.specs.Glue.Queues.{queued_at, has_joined};
 ghost use Rattle.vat_view.specs.Glue.LoopTables.{room_at, space_at, call_received_by, queued_by, change_of_calls, change_of_loopbacks, SaysSame, IsChangedBy, AreWaiting};
 
 use crate::lookups::headings::heading_of_target;
-use crate::record::decoded::DecodedRecord;
-use crate::record::table_key::TableKey;
-use crate::tables::calls::Calls;
-use crate::tables::exports_imports::ExportsImports;
-use crate::tables::questions::Questions;
 use crate::tables::references::BoundReferences;
-use crate::tables::waits::loopbacks::{Loopbacks, Unechoed, receiver_loopback};
+use crate::tables::waits::loopbacks::{Loopbacks, Unechoed};
 use crate::tables::waits::queued_call::QueuedCall;
 use crate::tables::waits::waiting_calls::{Receipt, WaitingCalls, call_received_by};
+use decoded_records::{DecodedRecord, TableKey, receiver_loopback};
+use number_tables::{Calls, ExportsImports, Questions};
 use std::alloc::{AllocError, Global};
 
 /// What waits: loopbacks for their echo, and received calls at the vat.

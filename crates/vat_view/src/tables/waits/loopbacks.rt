@@ -2,19 +2,17 @@
 
 ghost use Rattle.std.specs.Prelude.{◌≡◌, None, OnOk, IfOk, IsTrue, is_some, if◌then◌else◌};
 ghost use Rattle.std.specs.Option.{option_copied};
-ghost use Rattle.vat_view.specs.declared.record.table_key.TableKey.{TableKey};
-ghost use Rattle.vat_view.specs.Past.{names};
-ghost use Rattle.vat_view.specs.Loopbacks.{sender_loopback, receiver_loopback};
-ghost use Rattle.vat_view.specs.Glue.Tables.{bound_at, question_at};
+ghost use Rattle.decoded_records.specs.declared.table_key.TableKey.{TableKey};
+ghost use Rattle.decoded_records.specs.Past.{names};
+ghost use Rattle.decoded_records.specs.Loopbacks.{sender_loopback};
+ghost use Rattle.vat_view.specs.Glue.Tables.{bound_at};
+ghost use Rattle.number_tables.specs.Glue.QuestionTables.{question_at};
 ghost use Rattle.vat_view.specs.Glue.LoopTables.{loopback_at, loopback_target_in, put_by, room_at, looped_by};
 
 use crate::lookups::table_answers::view_of_target;
-use crate::record::decoded::DecodedRecord;
-use crate::record::table_key::TableKey;
-use crate::tables::exports_imports::ExportsImports;
-use crate::tables::questions::Questions;
 use crate::tables::references::BoundReferences;
-use crate::view::View;
+use decoded_records::{DecodedRecord, TableKey, View};
+use number_tables::{ExportsImports, Questions};
 use rpc_view::{Loopback, RpcMessage};
 use std::alloc::{AllocError, Global};
 use std::collections::BTreeMap;
@@ -72,25 +70,6 @@ pub(crate) fn sender_loopback(
     let target = view_of_target(bound, lives, questions, event)?;
     let id = TableKey::of_sender(*sent, *connection, *embargo);
     Ok(Some((id, Unechoed { number, target })))
-}
-
-/// The number that a record echoes.
-pub(crate) fn receiver_loopback(event: &DecodedRecord) -> Option<TableKey>
-    ensures { result ≡ receiver_loopback event.now }
-{
-    match event {
-        DecodedRecord::Wire {
-            sent,
-            connection,
-            message: RpcMessage::Disembargo {
-                number,
-                loopback: Loopback::Receiver,
-                ..
-            },
-            ..
-        } => Some(TableKey::of_receiver(*sent, *connection, *number)),
-        _ => None,
-    }
 }
 
 /// The senderLoopback that waits for its echo under each number, where one does. An entry without one says nothing: it

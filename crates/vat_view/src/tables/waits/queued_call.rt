@@ -6,7 +6,7 @@ ghost use Rattle.vat_view.specs.Glue.Queues.{queued_at};
 
 use crate::tables::turns::goal_key::{GoalKey, goal_key_of};
 use crate::tables::waits::waiting_calls::Receipt;
-use crate::view::View;
+use decoded_records::View;
 
 /// A received call in the queue: calls of one connection to one goal stand together, in the order of their records.
 #[derive(Clone, Copy, PartialEq, Eq, PartialOrd, Ord)]

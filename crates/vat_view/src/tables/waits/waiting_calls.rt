@@ -3,20 +3,16 @@
 ghost use Rattle.std.specs.Prelude.{◌≡◌, ◌==◌, ℕ, None, Some, OnOk, IsTrue, Decides, nat_lt, ◌&&◌, if◌then◌else◌};
 ghost use Rattle.std.specs.List.{list_any};
 ghost use Rattle.std.specs.BTreeMap.Range.{entries_between};
-ghost use Rattle.vat_view.specs.Past.{is};
-ghost use Rattle.vat_view.specs.Glue.Tables.{question_at};
-ghost use Rattle.vat_view.specs.Glue.Asking.{opening_call_in};
+ghost use Rattle.decoded_records.specs.Past.{is};
+ghost use Rattle.number_tables.specs.Glue.QuestionTables.{question_at, opening_call_in};
 ghost use Rattle.vat_view.specs.Glue.Queues.{queued_cmp, from_first, up_to, has_joined, Stay, OthersStay};
 ghost use Rattle.vat_view.specs.Glue.LoopTables.{receipt_at, put_call, space_at, call_received_by, call_taken_by, held_by, SameSpace, AreQueued, HasLeft, Holding};
 
-use crate::lookups::table_answers::opening_call;
-use crate::record::decoded::DecodedRecord;
-use crate::record::table_key::TableKey;
-use crate::tables::calls::Calls;
-use crate::tables::questions::Questions;
 use crate::tables::turns::goal_key::goal_key_of;
 use crate::tables::waits::loopbacks::Unechoed;
 use crate::tables::waits::queued_call::QueuedCall;
+use decoded_records::{DecodedRecord, TableKey};
+use number_tables::{Calls, Questions, opening_call};
 use rpc_view::{Outcome, RpcMessage};
 use std::alloc::{AllocError, Global};
 use std::collections::BTreeMap;

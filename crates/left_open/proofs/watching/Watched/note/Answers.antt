@@ -1,8 +1,8 @@
 use Rattle.std.proofs.Common.{◌∙◌, ap₂, ℕ, Option, Some, None, if◌then◌else◌}
 use Rattle.std.specs.Option.{option_or}
-use Rattle.vat_view.specs.Past.{names}
-use Rattle.vat_view.specs.Questions.{question_opened, question_returned, question_returned_lightly, question_finished}
-use Rattle.vat_view.specs.Loopbacks.{sender_loopback, receiver_loopback}
+use Rattle.decoded_records.specs.Past.{names}
+use Rattle.decoded_records.specs.Questions.{question_opened, question_returned, question_returned_lightly, question_finished}
+use Rattle.decoded_records.specs.Loopbacks.{sender_loopback, receiver_loopback}
 use Rattle.left_open.specs.Types.{DecodedRecord}
 use Rattle.left_open.specs.Glue.{At, begins_at}
 use Rattle.left_open.proofs.Stepping.{on_ok, unreturned_more, unfinished_more, unechoed_more, began_more}

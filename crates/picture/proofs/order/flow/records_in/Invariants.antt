@@ -6,4 +6,4 @@ use Rattle.picture.proofs.order.flow.records_in.Given as goal
 
 abbrev pub invariant-loop-log : goal.invariant-loop-log
 invariant-loop-log l = (fold (λ sum (log : Log). sum + length log.records) l.records (map arc_value (drop l.log-index l.logs)) ≡ records_in (map arc_value l.logs))
-    × (l.records ≤ l.log-index * 1048576)
+    × (l.records ≤ l.log-index * 4294967295)

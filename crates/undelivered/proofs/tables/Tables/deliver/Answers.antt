@@ -1,4 +1,4 @@
-use Rattle.std.proofs.Common.{◌≡◌, Some, None, sym, ◌∙◌}
+use Rattle.std.proofs.Common.{sym, ◌∙◌}
 use Rattle.undelivered.proofs.Taking.{delivered_tables, none_delivered}
 use Rattle.undelivered.proofs.tables.Tables.deliver.Goals as goal
 

@@ -6,4 +6,4 @@ use Rattle.vat_log.proofs.reader.LogReader.bytes_given.Goals as goal
 pub returns : goal.returns
 returns c =
     let kept = c.self.inside in
-    rw (← c.self.view_is) (IfOk-weaker c.slice.result _ _ (λ b h. h ∙ front_is kept.bytes (log_given kept.version kept.vat kept.given.items) kept.at c.self.invariant.1) c.slice.ensures.ok)
+    rw (← c.self.view_is) (IfOk-weaker c.slice.result _ _ (λ b h. h ∙ front_is kept.bytes (log_given kept.version kept.vat kept.given.items) kept.at c.self.invariant.2) c.slice.ensures.ok)

@@ -25,7 +25,7 @@ invariant_of-result c =
     let version = subst (λ (bytes : List ℕ). version_at bytes ≡ Ok c.in_ok-version.version) c.as_slice.ensures (sym c.in_ok-version.ensures.value) in
     let octets = subst (All (λ octet. octet < 2 ^ 8)) c.as_slice.ensures c.in_ok-version.ensures.octets in
     let vat = subst (λ (bytes : List ℕ). number_at w32 bytes 8 ≡ Ok (c.in_ok-vat.vat, c.in_ok-vat.at)) c.as_slice-2.ensures c.in_ok-vat.ensures.gives in
-    rw c.new.ensures (refl, read_none c.args.bytes c.in_ok-version.version c.in_ok-vat.vat c.in_ok-vat.at octets version vat)
+    rw c.new.ensures (refl, octets, read_none c.args.bytes c.in_ok-version.version c.in_ok-vat.vat c.in_ok-vat.at octets version vat)
 
 pub returns-clause-header : goal.returns-clause-header
 returns-clause-header c =

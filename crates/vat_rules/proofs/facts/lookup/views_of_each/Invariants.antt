@@ -1,5 +1,5 @@
 use Rattle.std.proofs.Common.{◌≡◌, take, map}
-use Rattle.vat_view.specs.Views.{view_of_reference}
+use Rattle.decoded_records.specs.Views.{view_of_reference}
 use Rattle.vat_rules.proofs.facts.lookup.views_of_each.Given as goal
 
 abbrev pub invariant-loop-reference : goal.invariant-loop-reference

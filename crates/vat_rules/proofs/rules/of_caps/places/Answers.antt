@@ -1,5 +1,5 @@
 use Rattle.std.proofs.Common.{◌∷◌, [], ◌++◌, ◌∙◌, ap, sym}
-use Rattle.vat_view.specs.Lives.{descriptors}
+use Rattle.decoded_records.specs.Lives.{descriptors}
 use Rattle.vat_rules.proofs.Placing.{place_none, place_some}
 use Rattle.vat_rules.proofs.rules.of_caps.places.Goals as goal
 use Rattle.vat_rules.proofs.rules.of_caps.places.Goals.{in-NoCap, in_default+in_ok-push-in_default}

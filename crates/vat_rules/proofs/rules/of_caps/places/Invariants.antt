@@ -1,6 +1,6 @@
 use Rattle.std.proofs.Common.{◌≡◌, take}
-use Rattle.vat_view.specs.Lives.{descriptors}
-use Rattle.vat_view.specs.Views.{places_from}
+use Rattle.decoded_records.specs.Lives.{descriptors}
+use Rattle.decoded_records.specs.Views.{places_from}
 use Rattle.vat_rules.proofs.rules.of_caps.places.Given as goal
 
 abbrev pub invariant-loop-place : goal.invariant-loop-place

@@ -1,6 +1,7 @@
 use Rattle.std.proofs.Common.{refl, sym, ◌∙◌, ap}
-use Rattle.vat_view.specs.Glue.Tables.{bound_at, question_at, late_by}
-use Rattle.vat_view.specs.Glue.Asking.{opening_call_in, targeted_by, taken_from_by}
+use Rattle.vat_view.specs.Glue.Tables.{bound_at}
+use Rattle.number_tables.specs.Glue.QuestionTables.{question_at, late_by, opening_call_in}
+use Rattle.vat_view.specs.Glue.Asking.{targeted_by, taken_from_by}
 use Rattle.vat_view.specs.Glue.CallTables.{Nothing, Moves, moves_of}
 use Rattle.vat_view.proofs.Keeping.{fits}
 use Rattle.vat_view.proofs.Called.{kept_after}

@@ -1,6 +1,6 @@
 use Rattle.std.proofs.Common.{◌≡◌, sym, ◌∙◌, []}
 use Rattle.std.specs.Prelude.{Result, Ok, Err, OnOk, OnErr}
-use Rattle.vat_view.specs.Lives.{descriptors}
+use Rattle.decoded_records.specs.Lives.{descriptors}
 use Rattle.vat_view.proofs.Learning.{own_learned, plain_learned, none_below}
 use Rattle.vat_view.proofs.apply.tables.bind_and_count.Goals as goal
 

@@ -1,6 +1,7 @@
 use Rattle.std.proofs.Common.{sym, ◌∙◌}
-use Rattle.vat_view.proofs.Raising.{ok_gives}
-use Rattle.vat_view.specs.Glue.Tables.{bound_at, question_at}
+use Rattle.number_tables.proofs.Raising.{ok_gives}
+use Rattle.vat_view.specs.Glue.Tables.{bound_at}
+use Rattle.number_tables.specs.Glue.QuestionTables.{question_at}
 use Rattle.vat_view.proofs.Learning.{err_gives, begun_now, received_all, learned, unlearned, refused, bound_apart_from}
 use Rattle.vat_view.proofs.apply.tables.bind_described.Goals as goal
 

@@ -1,13 +1,15 @@
 use Rattle.std.proofs.Common.{Bool, ℕ, ◌≡◌, sym, ◌∙◌, ap, ap₂, [], length, if◌then◌else◌, List}
 use Rattle.std.specs.List.{filter_map}
-use Rattle.vat_view.specs.declared.record.origin.Origin.{Origin}
+use Rattle.decoded_records.specs.declared.origin.Origin.{Origin}
 use Rattle.vat_view.specs.Types.{DecodedRecord, TableKey}
-use Rattle.vat_view.specs.Past.{Past}
-use Rattle.vat_view.specs.Lives.{descriptors, number_introduced, introductions}
-use Rattle.vat_view.specs.Uses.{UsesQuestions}
-use Rattle.vat_view.specs.Glue.Tables.{question_at, late_by, origins_from, origins, IsTabled}
-use Rattle.vat_view.specs.declared.tables.questions.Questions.{Questions}
-use Rattle.vat_view.specs.declared.tables.exports_imports.ExportsImports.{ExportsImports}
+use Rattle.decoded_records.specs.Past.{Past}
+use Rattle.decoded_records.specs.Lives.{descriptors, number_introduced, introductions}
+use Rattle.decoded_records.specs.Uses.{UsesQuestions}
+use Rattle.number_tables.specs.Glue.QuestionTables.{question_at, late_by}
+use Rattle.decoded_records.specs.Glue.Origins.{origins_from}
+use Rattle.vat_view.specs.Glue.Tables.{origins, IsTabled}
+use Rattle.number_tables.specs.declared.questions.Questions.{Questions}
+use Rattle.number_tables.specs.declared.exports_imports.ExportsImports.{ExportsImports}
 use Rattle.vat_view.proofs.Knowing.{late_known}
 use Rattle.vat_view.proofs.Stepping.{three_ok, three_err, tabled_open, tabled_close, tabled_same}
 use Rattle.vat_view.proofs.apply.tables.count_numbers.Goals as goal

@@ -1,6 +1,6 @@
 use Rattle.std.proofs.Common.{◌≡◌, refl, sym, ◌∙◌, [], ◌==◌, Bool, true, false, Option, if◌then◌else◌, arith}
-use Rattle.vat_view.specs.declared.record.origin.Origin.{Origin}
-use Rattle.vat_view.specs.Glue.Tables.{count_at, origin_at}
+use Rattle.decoded_records.specs.declared.origin.Origin.{Origin}
+use Rattle.number_tables.specs.Glue.LifeTables.{count_at, origin_at}
 use Rattle.vat_view.proofs.Learning.{introduces_none, begins_none}
 use Rattle.vat_view.proofs.Stepping.{three_ok, three_err, tabled_open, tabled_close, tabled_same}
 use Rattle.vat_view.proofs.apply.tables.count_plain.Goals as goal

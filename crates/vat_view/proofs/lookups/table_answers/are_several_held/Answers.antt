@@ -2,8 +2,8 @@ use Rattle.std.proofs.Common.{◌+◌, ◌<◌, ◌≤◌, ap, sym, ◌∙◌, �
 use Rattle.std.proofs.lemmas.Bool.{false≢true}
 use Rattle.std.proofs.lemmas.List.{take_more}
 use Rattle.vat_view.specs.Types.{TableKey}
-use Rattle.vat_view.specs.Past.{same_id}
-use Rattle.vat_view.specs.Glue.Tables.{count_at}
+use Rattle.decoded_records.specs.Past.{same_id}
+use Rattle.number_tables.specs.Glue.LifeTables.{count_at}
 use Rattle.vat_view.proofs.Tallying.{count_more, still_held, too_many}
 use Rattle.vat_view.proofs.lookups.table_answers.are_several_held.Goals as goal
 

@@ -1,7 +1,7 @@
 use Rattle.std.proofs.Common.{◌≡◌, ◌≤◌, count_by, take}
 use Rattle.vat_view.specs.Types.{TableKey}
-use Rattle.vat_view.specs.Past.{same_id}
-use Rattle.vat_view.specs.Glue.Tables.{count_at}
+use Rattle.decoded_records.specs.Past.{same_id}
+use Rattle.number_tables.specs.Glue.LifeTables.{count_at}
 use Rattle.vat_view.specs.Glue.Asking.{tally_at}
 use Rattle.vat_view.proofs.lookups.table_answers.are_several_held.Given as goal
 

@@ -1,5 +1,6 @@
 use Rattle.std.proofs.Common.{◌≡◌, take, map}
-use Rattle.vat_view.specs.Glue.Tables.{bound_at, question_at, view_by}
+use Rattle.vat_view.specs.Glue.Tables.{bound_at, view_by}
+use Rattle.number_tables.specs.Glue.QuestionTables.{question_at}
 use Rattle.vat_view.proofs.lookups.table_answers.views_of_descriptors.Given as goal
 
 abbrev pub invariant-loop-descriptor : goal.invariant-loop-descriptor

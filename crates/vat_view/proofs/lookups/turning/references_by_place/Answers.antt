@@ -4,7 +4,7 @@ use Rattle.std.proofs.lemmas.List.{take_more}
 use Rattle.std.proofs.lemmas.List.Sums.{sum_by_push}
 use Rattle.std.proofs.lemmas.Option.{slice_get-get_or}
 use Rattle.vat_view.specs.Types.{Descriptor}
-use Rattle.vat_view.specs.Glue.Tables.{is_cap}
+use Rattle.decoded_records.specs.Glue.Origins.{is_cap}
 use Rattle.vat_view.proofs.Landed.{reference_met}
 use Rattle.vat_view.proofs.Turned.{AreNotedBefore, noted_more, noted_whole}
 use Rattle.vat_view.proofs.lookups.turning.references_by_place.Goals as goal

@@ -1,5 +1,5 @@
 use Rattle.std.proofs.Common.{◌≡◌, take, count_by}
-use Rattle.vat_view.specs.Glue.Tables.{is_cap}
+use Rattle.decoded_records.specs.Glue.Origins.{is_cap}
 use Rattle.vat_view.proofs.Turned.{AreNotedBefore}
 use Rattle.vat_view.proofs.lookups.turning.references_by_place.Given as goal
 

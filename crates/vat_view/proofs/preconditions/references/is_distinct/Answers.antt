@@ -1,7 +1,7 @@
 use Rattle.std.proofs.Common.{◌≡◌, sym, ◌∙◌, ap, ℕ, take, get_or, false}
 use Rattle.std.proofs.lemmas.List.{take_more}
 use Rattle.std.proofs.lemmas.Bool.{not-true}
-use Rattle.vat_view.specs.Bindings.{contains, is_distinct}
+use Rattle.decoded_records.specs.Bindings.{contains, is_distinct}
 use Rattle.vat_view.specs.Glue.Seen.{has_in}
 use Rattle.vat_view.proofs.Distinct.{met_more, distinct_more, distinct_none, not_false, short_distinct}
 use Rattle.vat_view.proofs.preconditions.references.is_distinct.Goals as goal

@@ -1,5 +1,5 @@
 use Rattle.std.proofs.Common.{◌≡◌, ℕ, true, take}
-use Rattle.vat_view.specs.Bindings.{contains, is_distinct}
+use Rattle.decoded_records.specs.Bindings.{contains, is_distinct}
 use Rattle.vat_view.specs.Glue.Seen.{has_in}
 use Rattle.vat_view.proofs.preconditions.references.is_distinct.Given as goal
 

@@ -1,7 +1,7 @@
 use Rattle.std.proofs.Common.{sym, ◌∙◌, ap}
 use Rattle.std.specs.List.{list_all}
 use Rattle.std.proofs.lemmas.List.Folds.{list_all-map}
-use Rattle.vat_view.specs.Bindings.{is_bound, named_references}
+use Rattle.decoded_records.specs.Bindings.{is_bound, named_references}
 use Rattle.vat_view.proofs.preconditions.references.names_bound.Goals as goal
 
 pub returns-in-Answer : goal.returns-in-Answer

@@ -1,8 +1,8 @@
 use Rattle.std.specs.Prelude.{◌++◌, option_to_list}
 use Rattle.std.specs.List.{filter_map}
-use Rattle.vat_view.specs.Questions.{question_finished, question_taken, is_unfinished}
-use Rattle.vat_view.specs.Lives.{descriptors}
-use Rattle.vat_view.specs.Uses.{question_targeted, question_described}
+use Rattle.decoded_records.specs.Questions.{question_finished, question_taken, is_unfinished}
+use Rattle.decoded_records.specs.Lives.{descriptors}
+use Rattle.decoded_records.specs.Uses.{question_targeted, question_described}
 use Rattle.vat_view.proofs.Using.{joined, joined_more}
 use Rattle.vat_view.proofs.preconditions.uses.uses_unfinished.Goals as goal
 

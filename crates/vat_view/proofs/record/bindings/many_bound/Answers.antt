@@ -4,8 +4,10 @@ use Rattle.std.proofs.lemmas.Grind.{common_steps}
 use Rattle.std.proofs.lemmas.List.{take_more}
 use Rattle.std.proofs.lemmas.List.Sums.{sum_by_push}
 use Rattle.vat_view.specs.Types.{Descriptor, View}
-use Rattle.vat_view.specs.Views.{references}
-use Rattle.vat_view.specs.Glue.Tables.{is_cap, bound_at, question_at, view_by, reference_by, bound_one, bound_from}
+use Rattle.decoded_records.specs.Views.{references}
+use Rattle.decoded_records.specs.Glue.Origins.{is_cap}
+use Rattle.vat_view.specs.Glue.Tables.{bound_at, view_by, reference_by, bound_one, bound_from}
+use Rattle.number_tables.specs.Glue.QuestionTables.{question_at}
 use Rattle.vat_view.proofs.Arriving.{bound_one_more}
 use Rattle.vat_view.proofs.record.bindings.many_bound.Goals as goal
 

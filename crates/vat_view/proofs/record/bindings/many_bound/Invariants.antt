@@ -1,6 +1,8 @@
 use Rattle.std.proofs.Common.{◌≡◌, take, count_by}
-use Rattle.vat_view.specs.Views.{references}
-use Rattle.vat_view.specs.Glue.Tables.{is_cap, bound_at, question_at, view_by, bound_from}
+use Rattle.decoded_records.specs.Views.{references}
+use Rattle.decoded_records.specs.Glue.Origins.{is_cap}
+use Rattle.vat_view.specs.Glue.Tables.{bound_at, view_by, bound_from}
+use Rattle.number_tables.specs.Glue.QuestionTables.{question_at}
 use Rattle.vat_view.proofs.record.bindings.many_bound.Given as goal
 
 abbrev pub invariant-loop-descriptor : goal.invariant-loop-descriptor

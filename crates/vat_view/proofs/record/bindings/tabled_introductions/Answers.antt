@@ -1,5 +1,5 @@
 use Rattle.std.proofs.Common.{◌∙◌}
-use Rattle.vat_view.specs.Glue.Tables.{count_at, origin_at}
+use Rattle.number_tables.specs.Glue.LifeTables.{count_at, origin_at}
 use Rattle.vat_view.proofs.Describing.{begun_from}
 use Rattle.vat_view.proofs.record.bindings.tabled_introductions.Goals as goal
 

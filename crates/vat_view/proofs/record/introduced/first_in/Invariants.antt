@@ -1,5 +1,6 @@
 use Rattle.std.proofs.Common.{◌≡◌, ◌≤◌, drop}
-use Rattle.vat_view.specs.Glue.Tables.{origins_from, first_in}
+use Rattle.decoded_records.specs.Glue.Origins.{origins_from}
+use Rattle.vat_view.specs.Glue.Tables.{first_in}
 use Rattle.vat_view.proofs.record.introduced.first_in.Given as goal
 
 abbrev pub invariant-loop-place : goal.invariant-loop-place

@@ -1,7 +1,7 @@
 use Rattle.std.proofs.Common.{◌≡◌, ◌∙◌, ap, ℕ, option_map}
 use Rattle.vat_view.specs.declared.tables.turns.settlements.Settlements.{Settlements}
-use Rattle.vat_view.specs.Past.{Past}
-use Rattle.vat_view.specs.Calls.{answered_by}
+use Rattle.decoded_records.specs.Past.{Past}
+use Rattle.decoded_records.specs.Calls.{answered_by}
 use Rattle.vat_view.specs.Glue.TurnTables.{AreSettled, handover_at}
 use Rattle.vat_view.proofs.Handed.{answered_known}
 use Rattle.vat_view.proofs.state.VatState.answered_by.Goals as goal

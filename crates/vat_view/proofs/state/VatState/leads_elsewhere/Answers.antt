@@ -2,7 +2,7 @@ use Rattle.std.proofs.Common.{◌≡◌, subst}
 use Rattle.std.specs.Prelude.{Decides, IsTrue}
 use Rattle.vat_view.specs.declared.walks.reachable.Sought.TheVariants.{Elsewhere}
 use Rattle.vat_view.specs.Types.{View}
-use Rattle.vat_view.specs.Borrowed.{as_view}
+use Rattle.decoded_records.specs.Borrowed.{as_view}
 use Rattle.vat_view.specs.Connections.{LeadsElsewhere, is_elsewhere}
 use Rattle.vat_view.specs.Walks.{Next, next}
 use Rattle.vat_view.specs.Glue.Tables.{bound_at}

@@ -2,7 +2,7 @@ use Rattle.std.proofs.Common.{◌≡◌, subst}
 use Rattle.std.specs.Prelude.{Decides, Some}
 use Rattle.vat_view.specs.declared.walks.reachable.Sought.TheVariants.{Over}
 use Rattle.vat_view.specs.Types.{View}
-use Rattle.vat_view.specs.Borrowed.{as_view}
+use Rattle.decoded_records.specs.Borrowed.{as_view}
 use Rattle.vat_view.specs.Connections.{LeadsOver, reached_over}
 use Rattle.vat_view.specs.Walks.{Next, next}
 use Rattle.vat_view.specs.Glue.Tables.{bound_at}

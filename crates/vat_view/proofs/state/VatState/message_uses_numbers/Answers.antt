@@ -1,7 +1,7 @@
 use Rattle.std.proofs.Common.{◌≡◌, ◌∙◌, sym}
 use Rattle.std.specs.List.{list_all}
-use Rattle.vat_view.specs.Lives.{descriptors, is_in_life}
-use Rattle.vat_view.specs.Uses.{number_targeted, number_described, number_released, numbers_used}
+use Rattle.decoded_records.specs.Lives.{descriptors, is_in_life}
+use Rattle.decoded_records.specs.Uses.{number_targeted, number_described, number_released, numbers_used}
 use Rattle.vat_view.proofs.Using.{joined}
 use Rattle.vat_view.proofs.state.VatState.message_uses_numbers.Goals as goal
 

@@ -1,5 +1,5 @@
 use Rattle.std.proofs.Common.{◌∙◌, ap, length}
-use Rattle.vat_view.specs.Lives.{descriptors}
+use Rattle.decoded_records.specs.Lives.{descriptors}
 use Rattle.vat_view.proofs.Using.{caps_placed, same_lengths}
 use Rattle.vat_view.proofs.state.VatState.notes_each.Goals as goal
 

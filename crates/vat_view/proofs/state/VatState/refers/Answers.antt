@@ -1,5 +1,5 @@
 use Rattle.std.proofs.Common.{◌∙◌, refl, sym, ap, ◌&&◌}
-use Rattle.vat_view.specs.Bindings.{is_distinct}
+use Rattle.decoded_records.specs.Bindings.{is_distinct}
 use Rattle.vat_view.proofs.Distinct.{refers_from, refers_alone, refers_named}
 use Rattle.vat_view.proofs.state.VatState.refers.Goals as goal
 

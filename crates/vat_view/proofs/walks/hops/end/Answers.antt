@@ -1,5 +1,5 @@
 use Rattle.std.proofs.Common.{sym, ap, ◌+◌, arith}
-use Rattle.vat_view.specs.Borrowed.{as_view}
+use Rattle.decoded_records.specs.Borrowed.{as_view}
 use Rattle.vat_view.specs.Glue.TurnTables.{turns_of}
 use Rattle.vat_view.specs.Walks.{turned_to}
 use Rattle.vat_view.proofs.Hopping.{walked_none, walked_on, walked_marked, meets_mark}

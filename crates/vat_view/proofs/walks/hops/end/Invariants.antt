@@ -1,4 +1,4 @@
-use Rattle.vat_view.specs.Borrowed.{as_view}
+use Rattle.decoded_records.specs.Borrowed.{as_view}
 use Rattle.vat_view.specs.Glue.TurnTables.{turns_of}
 use Rattle.vat_view.proofs.Hopping.{Walked}
 use Rattle.vat_view.proofs.walks.hops.end.Given as goal

@@ -1,6 +1,6 @@
 use Rattle.std.proofs.Common.{◌-◌, sym, ◌∙◌, ap, Some, arith}
 use Rattle.std.proofs.lemmas.Bool.{false≢true}
-use Rattle.vat_view.specs.Borrowed.{as_view}
+use Rattle.decoded_records.specs.Borrowed.{as_view}
 use Rattle.vat_view.specs.Glue.TurnTables.{turns_of}
 use Rattle.vat_view.proofs.Walking.{some_same}
 use Rattle.vat_view.proofs.Hopping.{too_far, at_place, at_end}

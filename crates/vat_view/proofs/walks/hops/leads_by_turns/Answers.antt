@@ -1,4 +1,4 @@
-use Rattle.vat_view.specs.Borrowed.{as_view}
+use Rattle.decoded_records.specs.Borrowed.{as_view}
 use Rattle.vat_view.specs.Glue.Tables.{bound_at}
 use Rattle.vat_view.specs.Glue.TurnTables.{turn_by}
 use Rattle.vat_view.proofs.Ending.{by_turns_some, by_turns_none}

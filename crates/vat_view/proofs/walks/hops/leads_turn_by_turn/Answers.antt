@@ -1,6 +1,6 @@
 use Rattle.std.proofs.Common.{sym, ◌∙◌, ap, below_more, add-one, arith}
 use Rattle.std.specs.Prelude.{Some, option_and_then}
-use Rattle.vat_view.specs.Borrowed.{as_view}
+use Rattle.decoded_records.specs.Borrowed.{as_view}
 use Rattle.vat_view.specs.Glue.Tables.{bound_at}
 use Rattle.vat_view.specs.Glue.TurnTables.{turn_by}
 use Rattle.vat_view.proofs.Walking.{ended, met, reached_more, some_same}

@@ -1,5 +1,5 @@
 use Rattle.std.proofs.Common.{◌-◌, ◌+◌, sym, ◌∙◌, arith}
-use Rattle.vat_view.specs.Borrowed.{as_view}
+use Rattle.decoded_records.specs.Borrowed.{as_view}
 use Rattle.vat_view.specs.Glue.TurnTables.{turns_of}
 use Rattle.vat_view.proofs.Hopping.{steps_left, no_step}
 use Rattle.vat_view.proofs.walks.hops.nth.Goals as goal

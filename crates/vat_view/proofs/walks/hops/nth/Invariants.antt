@@ -1,6 +1,6 @@
 use Rattle.std.proofs.Common.{◌≡◌}
 use Rattle.std.specs.Prelude.{Some}
-use Rattle.vat_view.specs.Borrowed.{as_view}
+use Rattle.decoded_records.specs.Borrowed.{as_view}
 use Rattle.vat_view.specs.Glue.TurnTables.{turns_of, after_turns}
 use Rattle.vat_view.proofs.walks.hops.nth.Given as goal
 

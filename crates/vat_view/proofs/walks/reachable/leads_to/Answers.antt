@@ -1,7 +1,7 @@
 use Rattle.std.proofs.Common.{◌≡◌, sym, ◌∙◌, ap, below_more, add-one, Bool, true, arith}
 use Rattle.std.specs.Prelude.{Some, option_and_then}
 use Rattle.vat_view.specs.Types.{View}
-use Rattle.vat_view.specs.Borrowed.{as_view}
+use Rattle.decoded_records.specs.Borrowed.{as_view}
 use Rattle.vat_view.specs.Glue.Tables.{bound_at}
 use Rattle.vat_view.specs.Glue.TurnTables.{turn_by}
 use Rattle.vat_view.specs.Glue.ConnectionTables.{sought_by}

@@ -1,7 +1,7 @@
 use Rattle.std.proofs.Common.{subst}
 use Rattle.vat_rules.specs.Rules.{rules}
 use Rattle.vat_rules.specs.Judged.{BreaksFirst}
-use Rattle.vat_view.specs.Past.{Past}
+use Rattle.decoded_records.specs.Past.{Past}
 use Rattle.vat_rules.proofs.slim.tally.Tally.take.Goals as goal
 
 pub returns-in-Some-2-clause-ok : goal.returns-in-Some-2-clause-ok

@@ -1,7 +1,8 @@
 use Rattle.std.proofs.Common.{inl, refl, ◌∙◌, ◌∷◌, false}
 use Rattle.std.proofs.lemmas.Bool.{false≢true}
 use Rattle.vat_view.specs.Glue.Kept.{AreKept}
-use Rattle.vat_view.specs.Glue.Tables.{bound_at, question_at}
+use Rattle.vat_view.specs.Glue.Tables.{bound_at}
+use Rattle.number_tables.specs.Glue.QuestionTables.{question_at}
 use Rattle.vat_view.proofs.Answering.{taken_from_known}
 use Rattle.vat_view.proofs.Binding.{any_err}
 use Rattle.vat_view.proofs.Keeping.{fits}

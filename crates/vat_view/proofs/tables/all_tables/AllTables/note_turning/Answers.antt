@@ -1,6 +1,6 @@
 use Rattle.std.proofs.Common.{◌∙◌, ◌∷◌}
 use Rattle.vat_view.specs.Glue.Kept.{AreKept}
-use Rattle.vat_view.specs.Glue.TurnTables.{field_path}
+use Rattle.decoded_records.specs.Glue.Parts.{field_path}
 use Rattle.vat_view.proofs.Answering.{taken_from_known}
 use Rattle.vat_view.proofs.Binding.{any_err}
 use Rattle.vat_view.proofs.Keeping.{fits}

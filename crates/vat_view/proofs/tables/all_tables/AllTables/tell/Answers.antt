@@ -3,7 +3,7 @@ use Rattle.std.specs.Prelude.{Result, Ok, Err, OnErr}
 use Rattle.vat_view.specs.Glue.ArrivalTables.{AreArrived}
 use Rattle.vat_view.proofs.Importing.{arrivals_still}
 use Rattle.vat_view.proofs.Keeping.{one_more}
-use Rattle.vat_view.proofs.Raising.{if_ok}
+use Rattle.number_tables.proofs.Raising.{if_ok}
 use Rattle.vat_view.proofs.tables.all_tables.AllTables.tell.Goals as goal
 
 if_err : {A E P Q : Type 0} (r : Result A E) → OnErr r P → (P → Q) → OnErr r Q

@@ -4,7 +4,7 @@ use Rattle.vat_view.proofs.Binding.{any_err}
 use Rattle.vat_view.proofs.Importing.{arrivals_after, arrivals_forgotten}
 use Rattle.vat_view.proofs.Keeping.{one_more}
 use Rattle.vat_view.proofs.Learning.{err_gives}
-use Rattle.vat_view.proofs.Raising.{ok_gives}
+use Rattle.number_tables.proofs.Raising.{ok_gives}
 use Rattle.vat_view.proofs.tables.all_tables.AllTables.tell_arriving.Goals as goal
 
 pub returns-in_err-put-clause-err : goal.returns-in_err-put-clause-err

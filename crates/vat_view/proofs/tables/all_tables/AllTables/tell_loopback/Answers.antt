@@ -1,5 +1,6 @@
 use Rattle.std.proofs.Common.{sym, subst, refl}
-use Rattle.vat_view.specs.Glue.Tables.{bound_at, question_at}
+use Rattle.vat_view.specs.Glue.Tables.{bound_at}
+use Rattle.number_tables.specs.Glue.QuestionTables.{question_at}
 use Rattle.vat_view.specs.Glue.LoopTables.{AreWaiting}
 use Rattle.vat_view.proofs.Binding.{any_err}
 use Rattle.vat_view.proofs.Looping.{waits_same, waits_after, changes_loopbacks, queues_nothing}

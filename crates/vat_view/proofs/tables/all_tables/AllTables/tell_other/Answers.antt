@@ -1,5 +1,6 @@
 use Rattle.std.proofs.Common.{◌≡◌, sym, subst, true}
-use Rattle.vat_view.specs.Glue.Tables.{bound_at, question_at}
+use Rattle.vat_view.specs.Glue.Tables.{bound_at}
+use Rattle.number_tables.specs.Glue.QuestionTables.{question_at}
 use Rattle.vat_view.specs.Glue.Queues.{has_joined}
 use Rattle.vat_view.specs.Glue.LoopTables.{queued_by, AreWaiting}
 use Rattle.vat_view.proofs.Binding.{any_err}

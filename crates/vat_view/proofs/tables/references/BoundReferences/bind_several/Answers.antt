@@ -1,5 +1,5 @@
 use Rattle.std.proofs.Common.{sym, ◌∙◌, ap, ◌==◌, [], ◌∷◌, ◌++◌, map, append_assoc, Some, if◌then◌else◌}
-use Rattle.vat_view.specs.Bindings.{contains}
+use Rattle.decoded_records.specs.Bindings.{contains}
 use Rattle.vat_view.specs.Glue.Tables.{bound_at}
 use Rattle.vat_view.proofs.Binding.{bound_more, bound_apart, any_err, then_ahead}
 use Rattle.vat_view.proofs.tables.references.BoundReferences.bind_several.Goals as goal

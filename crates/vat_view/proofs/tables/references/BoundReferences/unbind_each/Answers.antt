@@ -1,7 +1,7 @@
 use Rattle.std.proofs.Common.{sym, ◌∙◌, ap, ℕ, ◌==◌, List, [], ◌∷◌, take, None, if◌then◌else◌}
 use Rattle.std.proofs.lemmas.List.{take_more}
 use Rattle.std.proofs.lemmas.List.Folds.{list_any-append}
-use Rattle.vat_view.specs.Bindings.{contains}
+use Rattle.decoded_records.specs.Bindings.{contains}
 use Rattle.vat_view.specs.Glue.Tables.{bound_at}
 use Rattle.vat_view.proofs.Binding.{unbound_more, then_ahead}
 use Rattle.vat_view.proofs.tables.references.BoundReferences.unbind_each.Goals as goal

@@ -1,5 +1,5 @@
 use Rattle.std.proofs.Common.{◌≡◌, ℕ, take, None, if◌then◌else◌}
-use Rattle.vat_view.specs.Bindings.{contains}
+use Rattle.decoded_records.specs.Bindings.{contains}
 use Rattle.vat_view.specs.Glue.Tables.{bound_at}
 use Rattle.vat_view.specs.Glue.TurnTables.{IsOwnOrOld}
 use Rattle.vat_view.proofs.tables.references.BoundReferences.unbind_each.Given as goal

@@ -1,0 +1,132 @@
+//! The pieces that a reader gives.
+
+ghost use Rattle.std.specs.Prelude.{◌≡◌, ◌∷◌, [], ◌++◌, true, false, length, IfOk, List, ℕ};
+
+use crate::{PieceFault, Pieces};
+use bytes::{Bytes, BytesMut};
+use erased::Erased;
+use std::alloc::Global;
+use std::io::{self, ErrorKind, Read};
+use std::marker::Model;
+
+/// How often a read is asked for once more where the system says that it was interrupted.
+const TRIES: usize = 1000;
+
+/// What a reader gives, as a file or standard input. Each piece is what one read gives. To a contract it is what came so far.
+#[derive(Drop)]
+pub struct ReadPieces<R> {
+    reader: R,
+    gave: Erased<(usize, Bytes)>,
+    is_over: bool,
+    fault: Option<PieceFault>,
+    refusal: Option<io::Error>,
+}
+
+impl<R> Model for ReadPieces<R> {
+    ghost use Rattle.byte_pieces.specs.Coming.{CameSoFar, joined};
+
+    ghost Value = { CameSoFar };
+
+    ghost view = { λ pieces. record { bytes = joined pieces.gave.items; is_over = pieces.is_over } };
+}
+
+impl<R> ReadPieces<R> {
+    /// What this reader gives from here on.
+    pub fn new(reader: R) -> ReadPieces<R>
+        ensures { result ≡ record { bytes = []; is_over = false } }
+    {
+        ReadPieces {
+            reader,
+            gave: Erased::new(),
+            is_over: false,
+            fault: None,
+            refusal: None,
+        }
+    }
+
+    /// Why it can't be read, where it is known.
+    pub fn refusal(&self) -> Option<&io::Error> {
+        self.refusal.as_ref()
+    }
+}
+
+/// One read into the room behind these bytes, and how many it gave.
+fn read_once<R: Read>(window: &mut BytesMut, reader: &mut R) -> io::Result<usize>
+    ensures { IfOk result (λ count. (more : List ℕ) × (length more ≡ count)
+        × (window.new.items ≡ window.old.items ++ more)) }
+{
+    for _ in 0..TRIES {
+        match window.read_from(reader) {
+            Ok(count) => return Ok(count),
+            Err(error) => {
+                if error.kind() != ErrorKind::Interrupted {
+                    return Err(error);
+                }
+            }
+        }
+    }
+    Err(io::Error::other("reading it was interrupted again and again"))
+}
+
+impl<R: Read> ReadPieces<R> {
+    /// That nothing more is read: what comes next couldn't be told apart from what follows a gap.
+    fn stop(&mut self, fault: PieceFault) -> PieceFault
+        ensures { self.new ≡ self.old }
+    {
+        self.fault = Some(fault);
+        fault
+    }
+
+    /// The fault that a read answered.
+    fn refuse(&mut self, error: io::Error) -> PieceFault
+        ensures { self.new ≡ self.old }
+    {
+        let fault = if error.kind() == ErrorKind::OutOfMemory {
+            PieceFault::OutOfMemory
+        } else {
+            PieceFault::CannotRead
+        };
+        self.refusal = Some(error);
+        self.stop(fault)
+    }
+}
+
+impl<R: Read> Pieces for ReadPieces<R> {
+    ghost came = { λ pieces. pieces.bytes };
+
+    ghost is_over = { λ pieces. pieces.is_over };
+
+    /// Where a read fails, or what it gave can't be handed out, each later call answers the same fault.
+    fn more(
+        &mut self,
+        alloc: Global,
+        rest: &[u8],
+        wanted: usize,
+    ) -> Result<Option<Bytes>, PieceFault> {
+        if self.is_over {
+            return Ok(None);
+        }
+        if let Some(fault) = self.fault {
+            return Err(fault);
+        }
+        let room = wanted.max(1);
+        let mut window = BytesMut::with_capacity(alloc, rest.len().saturating_add(room))?;
+        window.extend_from_slice(rest)?;
+        window.reserve(room)?;
+        match read_once(&mut window, &mut self.reader) {
+            Ok(0) => {
+                self.is_over = true;
+                Ok(None)
+            }
+            Ok(_) => match window.freeze() {
+                Ok(bytes) => {
+                    let piece = (rest.len(), bytes);
+                    self.gave = self.gave.with(&piece);
+                    Ok(Some(piece.1))
+                }
+                Err(_) => Err(self.stop(PieceFault::OutOfMemory)),
+            },
+            Err(error) => Err(self.refuse(error)),
+        }
+    }
+}

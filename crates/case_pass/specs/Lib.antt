@@ -1,0 +1,5 @@
+pub mod Lanes
+pub mod Turned
+pub mod Pass
+pub mod Whole
+pub mod Glue

@@ -1,0 +1,31 @@
+//! Turns of all lanes.
+
+ghost use Rattle.std.specs.Prelude.{◌≡◌, ◌<◌, Some, IfOk, map};
+ghost use Rattle.case_pass.specs.Lanes.{LaneSoFar};
+ghost use Rattle.case_pass.specs.Turned.{Taken};
+ghost use Rattle.case_pass.specs.Pass.{IsRound, AreThere};
+
+use crate::lane::{Lane, Turns};
+use crate::taking::take_from;
+use std::alloc::AllocError;
+
+/// The vat of each lane, one lane after another, takes its turns, for so many records at most. Whether any took one.
+pub fn take_round<L: Lane, T: Turns>(
+    lanes: &mut [L],
+    turns: &mut T,
+    most: usize,
+) -> Result<bool, AllocError>
+    requires { 0 < most }
+    ensures { IfOk result (λ some. (taken : Taken) → AreThere (map L.so_far lanes.old)
+        → T.taken turns.old ≡ Some taken → (more : Taken) × (T.taken turns.new ≡ Some more)
+        × AreThere (map L.so_far lanes.new)
+        × IsRound (map L.so_far lanes.old) (map L.so_far lanes.new) taken more some) }
+{
+    let mut some = false;
+    for place in 0..lanes.len() {
+        if take_from(&mut lanes[place], turns, most)? > 0 {
+            some = true;
+        }
+    }
+    Ok(some)
+}

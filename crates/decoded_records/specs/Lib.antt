@@ -1,0 +1,13 @@
+pub mod Types
+pub mod Decoding
+pub mod Past
+pub mod Questions
+pub mod Lives
+pub mod Views
+pub mod Calls
+pub mod Loopbacks
+pub mod Uses
+pub mod Bindings
+pub mod Borrowed
+pub mod Numbers
+pub mod Glue

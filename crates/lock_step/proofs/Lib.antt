@@ -1,0 +1,4 @@
+pub mod Ways
+pub mod Rising
+pub mod Counting
+pub mod Finding

@@ -1,0 +1,4 @@
+pub mod Links
+pub mod Taking
+pub mod Glue
+pub mod Tied

@@ -1,0 +1,169 @@
+//! A log that is read ahead.
+
+ghost use Rattle.std.specs.Prelude.{◌≡◌, true, [], Some, None, Ok, IfOk, IfErr, IfSome, OnOk, OnErr};
+ghost use Rattle.cap_reader.specs.Defaults.{default_limits};
+ghost use Rattle.vat_log.specs.Reading.{log_of};
+ghost use Rattle.vat_log.specs.Streams.{StreamStopsBy};
+ghost use Rattle.case_pass.specs.Lanes.{GoesOn, HasNext};
+ghost use Rattle.log_lane.specs.Lanes.{ReadAhead, as_lane};
+
+use crate::ending::Ending;
+use byte_pieces::Pieces;
+use rpc_view::Limits;
+use slim_case::{SlimLog, UsedConnections};
+use std::alloc::{AllocError, Global};
+use std::collections::VecDeque;
+use std::marker::Model;
+use std::mem;
+use vat_log::{LogStream, ReadFault, Record};
+use vat_rules::VatAudit;
+
+/// How many records are read ahead at most.
+const MOST_AHEAD: usize = 256;
+
+/// A log that is read ahead of what is taken of it, and judged as it is read. To a contract it is what was read, with the
+/// records that aren't taken yet, and why no more is read; nothing once memory was refused.
+#[derive(Drop)]
+pub struct Lane<P: Pieces> {
+    stream: LogStream<P>,
+    audit: VatAudit,
+    used: UsedConnections,
+    ahead: VecDeque<Record>,
+    ending: Option<Ending>,
+    is_refused: bool,
+    is_spent: bool,
+}
+
+impl<P: Pieces> Model for Lane<P> {
+    ghost use Rattle.std.specs.Prelude.{◌≡◌, false, Option};
+    ghost use Rattle.log_lane.specs.Lanes.{ReadAhead};
+    ghost use Rattle.log_lane.specs.Glue.{lane_unless, AreOfOne};
+
+    ghost Value = { Option ReadAhead };
+
+    ghost view = { λ lane. lane_unless lane.is_refused lane.stream lane.ahead.items lane.ending };
+
+    ghost invariant = { λ lane. lane.is_refused ≡ false
+        → AreOfOne lane.is_spent lane.stream lane.audit lane.used lane.ahead.items lane.ending };
+}
+
+impl<P: Pieces> Lane<P> {
+    /// The lane of a log of which only the header was read.
+    pub fn new(alloc: Global, stream: LogStream<P>) -> Lane<P>
+        requires { stream.log.records ≡ [] }
+        ensures { result ≡ Some (record { read = stream; ahead = []; ending = None }) }
+    {
+        let header = stream.header();
+        Lane {
+            stream,
+            audit: VatAudit::new(alloc, header, Limits::default()),
+            used: UsedConnections::new(alloc),
+            ahead: VecDeque::new(alloc),
+            ending: None,
+            is_refused: false,
+            is_spent: false,
+        }
+    }
+
+    /// Why no more is read, if none is.
+    pub fn ending(&self) -> Option<Ending>
+        ensures { IfSome self.now (λ lane. result ≡ lane.ending) }
+    {
+        self.ending
+    }
+
+    /// Reads one record ahead, or sees that there is none, where more may come.
+    fn read_next(&mut self, alloc: Global) -> Result<(), AllocError>
+        ensures ok { OnOk result ((lane : ReadAhead) → self.old ≡ Some lane → lane.ending ≡ None
+            → IfSome self.new (λ longer. GoesOn (as_lane lane) (as_lane longer) × HasNext (as_lane longer))) }
+        ensures there { OnOk result ((lane : ReadAhead) × (self.new ≡ Some lane)) }
+        ensures err { OnErr result (self.new ≡ None) }
+    {
+        if self.is_refused {
+            return Err(AllocError);
+        }
+        if self.ending.is_some() {
+            return Ok(());
+        }
+        self.is_refused = true;
+        match self.stream.next(alloc) {
+            Ok(Some(record)) => {
+                self.audit.take(alloc, record.body())?;
+                self.used.take(record.body())?;
+                self.ahead.push_back(record)?;
+            }
+            Ok(None) => self.ending = Some(Ending::Whole),
+            Err(ReadFault::OutOfMemory) => return Err(AllocError),
+            Err(fault) => self.ending = Some(Ending::Fault(fault)),
+        }
+        self.is_refused = false;
+        Ok(())
+    }
+
+    /// From where the log comes.
+    pub fn pieces(&self) -> &P
+        ensures { IfSome self.now (λ lane. (P.came result.now ≡ lane.read.bytes) × (P.is_over result.now ≡ lane.read.is_over)) }
+    {
+        self.stream.pieces()
+    }
+
+    /// What is left of a log that was read whole, which can be asked for once; or why it wasn't, if that is known.
+    pub fn take_log(&mut self, alloc: Global) -> Result<SlimLog, Option<ReadFault>>
+        ensures lane { self.new ≡ self.old }
+        ensures whole { IfOk result (λ log. (lane : ReadAhead) × (self.old ≡ Some lane)
+            × (log.log ≡ lane.read.log) × (log.limits ≡ default_limits)
+            × (lane.read.is_over ≡ true) × (log_of lane.read.bytes ≡ Ok lane.read.log)) }
+        ensures fault { IfErr result (λ why. IfSome why (λ fault. (lane : ReadAhead) × (self.old ≡ Some lane)
+            × StreamStopsBy fault lane.read)) }
+    {
+        if self.is_refused || self.is_spent {
+            return Err(None);
+        }
+        match self.ending {
+            Some(Ending::Whole) => {
+                self.is_spent = true;
+                let fresh = VatAudit::new(alloc, self.stream.header(), Limits::default());
+                let audit = mem::replace(&mut self.audit, fresh);
+                let used = mem::replace(&mut self.used, UsedConnections::new(alloc));
+                Ok(SlimLog::new(audit.finish(), used))
+            }
+            Some(Ending::Fault(fault)) => Err(Some(fault)),
+            None => Err(None),
+        }
+    }
+}
+
+impl<P: Pieces> case_pass::Lane for Lane<P> {
+    ghost use Rattle.std.specs.Option.{option_map};
+    ghost use Rattle.log_lane.specs.Lanes.{as_lane};
+
+    ghost so_far = { λ lane. option_map as_lane lane };
+
+    fn vat(&self) -> u32 {
+        self.stream.vat()
+    }
+
+    fn first(&self) -> Option<&Record> {
+        self.ahead.front()
+    }
+
+    fn leave(&mut self) {
+        let _ = self.ahead.pop_front();
+    }
+
+    fn is_refused(&self) -> bool {
+        self.is_refused
+    }
+
+    /// At most 256 records.
+    fn fill(&mut self, alloc: Global) {
+        if !self.ahead.is_empty() {
+            return;
+        }
+        for _ in 0..MOST_AHEAD {
+            if self.ending.is_some() || self.read_next(alloc).is_err() {
+                return;
+            }
+        }
+    }
+}

@@ -1,0 +1,63 @@
+//! Logs whose records are gone.
+
+ghost use Rattle.std.specs.Prelude.{◌≡◌};
+ghost use Rattle.cap_reader.specs.Defaults.{default_limits};
+ghost use Rattle.slim_case.specs.Glue.{AreUsed};
+
+use crate::used::UsedConnections;
+use std::collections::BTreeSet;
+use std::marker::Model;
+use vat_rules::SlimFinding;
+
+/// What is left of a log that was audited: what was found, and which connections it used.
+#[derive(Drop)]
+pub struct SlimLog {
+    finding: SlimFinding,
+    used: UsedConnections,
+}
+
+impl Model for SlimLog {
+    ghost use Rattle.std.specs.Prelude.{◌≡◌};
+    ghost use Rattle.cap_reader.specs.Defaults.{default_limits};
+    ghost use Rattle.vat_rules.specs.Audit.{Found};
+
+    ghost Value = { Found };
+
+    ghost view = { λ log. log.finding };
+
+    ghost invariant = { λ log. (log.used ≡ log.finding.log.records) × (log.finding.limits ≡ default_limits) };
+}
+
+impl SlimLog {
+    /// The log of a finding within the default limits, with the connections that its records used: they must have been told
+    /// just these records.
+    pub fn new(finding: SlimFinding, used: UsedConnections) -> SlimLog
+        requires used { used ≡ finding.log.records }
+        requires within { finding.limits ≡ default_limits }
+        ensures { result ≡ finding }
+    {
+        SlimLog { finding, used }
+    }
+
+    /// The vat whose log it was.
+    pub fn vat(&self) -> u32
+        ensures { result ≡ self.now.log.vat }
+    {
+        self.finding.vat()
+    }
+
+    /// What its audit found.
+    pub fn finding(&self) -> &SlimFinding
+        ensures found { result.now ≡ self.now }
+        ensures within { result.now.limits ≡ default_limits }
+    {
+        &self.finding
+    }
+
+    /// The connections that its records used, each once.
+    pub(crate) fn connections(&self) -> &BTreeSet<u32>
+        ensures { AreUsed self.now.log.records result.now.keys }
+    {
+        self.used.connections()
+    }
+}

@@ -1,0 +1,11 @@
+# Copies the crates to a folder, and beside them those of trials/. To be read by `.` in the root of the repository.
+
+# with_trials FOLDER [built]          (built: with the libraries that were built here)
+with_trials() {
+    local room=$1 leave=(--exclude=out)
+    [ "${2:-}" != built ] || leave=(--exclude=out/incremental)
+    mkdir -p "$room/crates"
+    tar "${leave[@]}" -cf - crates HANDLES | tar -xf - -C "$room"
+    tar --exclude=out --exclude=README.md --exclude=crates.list -cf - -C trials . | tar -xf - -C "$room/crates"
+    cat crates.txt trials/crates.list > "$room/crates.txt"
+}

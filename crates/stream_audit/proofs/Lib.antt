@@ -1,0 +1,5 @@
+pub mod Fresh
+pub mod Taking
+pub mod Permuted
+pub mod Known
+pub mod Answering

@@ -18,8 +18,8 @@ use Rattle.case_pass.specs.Lanes.{LaneSoFar}
 use Rattle.case_pass.specs.Pass.{vat_of, logs_of, AreThere, IsLaneAt, IsPass}
 use Rattle.case_pass.specs.Turned.{Taken}
 use Rattle.log_lane.specs.Lanes.{ReadAhead, as_lane}
-use Rattle.stream_audit.specs.Glue.{so_far, AreApart, AreFoundIn, AreFresh}
-use Rattle.stream_audit.specs.Streamed.{AreWhole, CameWhole, CameToFault, IsFirstFault}
+use Rattle.stream_audit.specs.Glue.{so_far, AreApart, AreFoundIn}
+use Rattle.stream_audit.specs.Streamed.{AreFresh, AreWhole, CameWhole, CameToFault, IsFirstFault}
 
 pub some_read : (a b : ReadAhead) → ◌≡◌ {A = Option ReadAhead} (Some a) (Some b) → a ≡ b
 some_read a b e = cc

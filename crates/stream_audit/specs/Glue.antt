@@ -30,16 +30,6 @@ use Rattle.stream_audit.specs.declared.reading.OrderFound.TheVariants.{Fits, Fai
 abbrev pub so_far : List (Option ReadAhead) → List (Option LaneSoFar)
 so_far lanes = map (option_map as_lane) lanes
 
--- of each log only the header was read
-pub record IsFreshLane (o : Option ReadAhead) : Type 0 where
-  pub lane : ReadAhead
-  pub there : o ≡ Some lane
-  pub none : lane.read.log.records ≡ []
-  pub ahead : lane.ahead ≡ []
-
-abbrev pub AreFresh : List (Option ReadAhead) → Type 0
-AreFresh lanes = HoldsOfEach IsFreshLane lanes
-
 -- no two logs are of one vat
 abbrev pub AreApart : List (Option ReadAhead) → Type 0
 AreApart lanes = (i j : ℕ) (one other : ReadAhead) → slice_get lanes i ≡ Some (Some one) → slice_get lanes j ≡ Some (Some other) → one.read.log.vat ≡ other.read.log.vat → i ≡ j

@@ -12,9 +12,20 @@ use Rattle.case_book.specs.declared.ties.TieFault.{TieFault}
 use Rattle.case_book.specs.declared.ties.TieFault.TheVariants as tie
 use Rattle.audit_core.specs.Lines.{IsLineOf, LineMeansHeadline}
 use Rattle.audit_core.specs.Refusals.{worker_limit}
+use Rattle.audit_core.specs.Report.{HoldsOfEach}
 use Rattle.audit_core.specs.declared.report.Report.{Report}
 use Rattle.stream_audit.specs.declared.error.StreamError.{StreamError}
 use Rattle.stream_audit.specs.declared.error.StreamError.TheVariants as error
+
+-- of each log only the header was read
+pub record IsFreshLane (o : Option ReadAhead) : Type 0 where
+  pub lane : ReadAhead
+  pub there : o ≡ Some lane
+  pub none : lane.read.log.records ≡ []
+  pub ahead : lane.ahead ≡ []
+
+abbrev pub AreFresh : List (Option ReadAhead) → Type 0
+AreFresh lanes = HoldsOfEach IsFreshLane lanes
 
 -- a log came whole: all its bytes came, and they spell it
 pub record CameWhole (lane : Option ReadAhead) (log : Log) : Type 0 where

@@ -11,8 +11,8 @@ ghost use Rattle.vat_log.specs.Log.{Log};
 ghost use Rattle.case_pass.specs.Lanes.{LaneSoFar};
 ghost use Rattle.case_pass.specs.Pass.{logs_of as case_logs};
 ghost use Rattle.slim_case.specs.Slim.{logs_of};
-ghost use Rattle.stream_audit.specs.Glue.{AreFresh, IsTakenSo, IsYesBy};
-ghost use Rattle.stream_audit.specs.Streamed.{AreWhole, IsLineOfStreams, IsRefusalOf};
+ghost use Rattle.stream_audit.specs.Glue.{IsTakenSo, IsYesBy};
+ghost use Rattle.stream_audit.specs.Streamed.{AreFresh, AreWhole, IsLineOfStreams, IsRefusalOf};
 ghost use Rattle.stream_audit.specs.declared.error.StreamError.{StreamError};
 
 use crate::counting::{link_line, log_line};
@@ -90,6 +90,7 @@ fn line_of(
         OrderFound::Fails(step) => return Ok(Report::OrderStep(step)),
         OrderFound::NoOrder => return Ok(Report::NoOrder),
     }
+    // A law, for the proof: what is found by the turns is so by the order that is given, or by the least.
     orders_have_one_fault();
     match turns.fault() {
         Some((vat, at)) => Ok(Report::Vat {
@@ -101,7 +102,8 @@ fn line_of(
     }
 }
 
-/// Audits a case whose logs come in streams, for its line alone, and reads each log once. It keeps none of them, but what is under
+/// Audits a case whose logs come in streams, for its line alone, and reads each log once. Of each only the header was read
+/// before. It keeps none of them, but what is under
 /// way, and what a later record may still name. What it answers is the report of [`audit`](audit_core::audit) of the logs that
 /// came, without its run.
 ///

@@ -5,8 +5,8 @@ ghost use Rattle.case_book.specs.declared.link.Link.{Link};
 ghost use Rattle.log_lane.specs.Lanes.{ReadAhead};
 ghost use Rattle.case_pass.specs.Pass.{IsPass};
 ghost use Rattle.lock_step.specs.Taking.{Taken, turned};
-ghost use Rattle.stream_audit.specs.Glue.{AreApart, AreFoundIn, AreFresh, IsTakenSo, so_far};
-ghost use Rattle.stream_audit.specs.Streamed.{IsRefusalOf};
+ghost use Rattle.stream_audit.specs.Glue.{AreApart, AreFoundIn, IsTakenSo, so_far};
+ghost use Rattle.stream_audit.specs.Streamed.{AreFresh, IsRefusalOf};
 
 use crate::error::StreamError;
 use crate::nothing::NothingKept;

@@ -1,16 +1,15 @@
 -- Case files that are written, and read again.
-use Rattle.std.proofs.Common.{◌≡◌, ◌∙◌, ◌+◌, ◌<◌, ◌≤◌, ◌++◌, ◌^◌, ℕ, zero, suc, true, List, [], ◌∷◌, length, map, take, get_or, codes, Option, Some, None, option_map, option_and_then, refl, sym, ap, subst, arith, if◌then◌else◌, Global, String, Vec, rules, string_bytes}
-use Rattle.std.specs.Prelude.{IsUtf8, max, nat_lt}
-use Rattle.std.proofs.lemmas.List.{take_more}
+use Rattle.std.proofs.Common.{◌≡◌, ◌∙◌, ◌+◌, ◌<◌, ◌≤◌, ◌++◌, ◌^◌, ℕ, zero, suc, true, List, [], ◌∷◌, length, map, take, get_or, codes, Option, Some, None, option_map, option_and_then, refl, sym, ap, subst, arith, Global, String, Vec, rules, string_bytes}
+use Rattle.std.specs.Prelude.{IsUtf8, nat_lt}
 use Rattle.serde_json.specs.Data.{Data, array, depth, item, items_depth, member, no_items, no_members, number, object, unsigned}
 use Rattle.serde_json.specs.Find.{as_str}
 use Rattle.serde_json.specs.Read.{max_depth, read}
-use Rattle.serde_json.specs.View.{items_of, items_view, view}
+use Rattle.serde_json.specs.View.{items_view, view}
 use Rattle.serde_json.specs.declared.value.Value.{Value, Array, String as TextOf, the_lemmas}
 use Rattle.serde_json.proofs.Views.{view-Array}
 use Rattle.serde_json.proofs.OnLiterals.{serde_json_on_literals}
 use Rattle.case_book.specs.declared.link.Link.{Link}
-use Rattle.case_files.specs.CaseFile.{IsCaseFile, Listed, each, each_item, link_of, listed_in, listed_of, small}
+use Rattle.case_files.specs.CaseFile.{IsCaseFile, each, each_item, link_of, listed_in, listed_of, small}
 use Rattle.case_files.specs.Glue.{IsShallow, SaysCase}
 use Rattle.case_files.proofs.CaseFiles.{list_of-items_view}
 

@@ -1,12 +1,11 @@
 -- Names of files, one after another.
-use Rattle.std.proofs.Common.{◌≡◌, ◌≢◌, ◌⊎◌, ◌∙◌, ◌+◌, ◌<◌, ◌≤◌, ◌++◌, ℕ, zero, suc, List, [], ◌∷◌, length, map, drop, get_or, codes, Option, Some, None, option_map, option_and_then, String, Global, string_bytes, inl, inr, refl, sym, ap, subst, arith, append_assoc, append-nil}
+use Rattle.std.proofs.Common.{◌≡◌, ◌⊎◌, ◌∙◌, ◌+◌, ◌<◌, ◌≤◌, ◌++◌, ℕ, zero, suc, List, [], ◌∷◌, length, map, drop, get_or, codes, Option, Some, None, option_map, option_and_then, String, Global, string_bytes, inl, inr, refl, sym, ap, subst, arith, append_assoc, append-nil}
 use Rattle.std.specs.Prelude.{slice_get}
 use Rattle.std.specs.Fmt.{decimal}
 use Rattle.std.specs.Path.{path_file_name}
 use Rattle.std.proofs.lemmas.Bool.{cases_lt}
 use Rattle.std.proofs.lemmas.Option.{same_Some, slice_get_within}
-use Rattle.case_files.specs.CaseFile.{each}
-use Rattle.case_files.specs.FileNames.{AreApart, AreFileNames, IsCounted, case_name, own_names}
+use Rattle.case_files.specs.FileNames.{AreApart, AreFileNames, IsCounted, own_names}
 use Rattle.case_files.specs.Glue.{AreApartUpTo, IsFree, IsNotBefore, IsTaken}
 
 three_ways : (a b : ℕ) → (a < b) ⊎ ((a ≡ b) ⊎ (b < a))

@@ -3,4 +3,5 @@ pub mod CaseReadings
 mod CaseTexts
 mod FileNaming
 pub mod LookUps
+mod Pieces
 pub mod Refusals

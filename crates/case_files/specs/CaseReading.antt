@@ -1,7 +1,7 @@
 -- What comes of a case by its name: the case file, then each log as it is listed, then the order that it names, then
 -- the case that the logs and links make. Each is asked for where all before it went well, and the first fault is the
 -- case's. Nothing is said here of running out of memory.
-use Rattle.std.specs.Prelude.{◌≡◌, ℕ, List, [], ◌∷◌, Option, Some, None, Result, Ok, Err}
+use Rattle.std.specs.Prelude.{◌≡◌, ℕ, List, [], ◌∷◌, map, string_bytes, option_map, Option, Some, None, Result, Ok, Err}
 use Rattle.vat_log.specs.Log.{Log}
 use Rattle.vat_log.specs.Reading.{log_of}
 use Rattle.merge_order.specs.Spelling as orders
@@ -11,6 +11,7 @@ use Rattle.case_book.specs.declared.link.Link.{Link}
 use Rattle.case_files.specs.declared.source.SourceError.{SourceError}
 use Rattle.case_files.specs.declared.case_fault.CaseFault.{CaseFault}
 use Rattle.case_files.specs.declared.case_fault.CaseFault.TheVariants.{Form, Refused, Untied, OutOfMemory}
+use Rattle.case_files.specs.declared.case_file.CaseFile.{CaseFile}
 use Rattle.case_files.specs.declared.case_reading.ReadCase.{ReadCase}
 use Rattle.case_files.specs.CaseFaults.{of_log, of_order, of_source}
 use Rattle.case_files.specs.CaseFile.{IsCaseFile, IsNoCaseFile, Listed}
@@ -44,6 +45,15 @@ Then {S} {X} first next old result new = (came : Result X CaseFault) × ((betwee
 abbrev pub Is : {X : Type 0} → Result X CaseFault → Result X CaseFault → Type 0
 Is (Err OutOfMemory) defined = Unit {0}
 Is answer defined = defined ≡ answer
+
+-- an answer of the code, as it is seen here
+abbrev pub seen_by : {A B : Type 0} → (A → B) → Result A CaseFault → Result B CaseFault
+seen_by view (Ok x) = Ok (view x)
+seen_by view (Err fault) = Err fault
+
+-- what a case file says, as the code keeps it
+abbrev pub listed_by : CaseFile → Listed
+listed_by file = record { logs = map string_bytes file.logs.items; links = file.links.items; order = option_map string_bytes file.order }
 
 -- ---- one file
 

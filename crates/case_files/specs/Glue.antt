@@ -1,17 +1,11 @@
 -- This file serves the contracts of private functions alone, and is no part of the meaning.
-use Rattle.std.specs.Prelude.{◌≡◌, ◌≢◌, ◌⊎◌, ◌+◌, ◌<◌, ◌≤◌, ℕ, suc, List, length, map, slice_get, string_bytes, Option, Some, None, option_map, Result, Ok, Err}
+use Rattle.std.specs.Prelude.{◌≡◌, ◌≢◌, ◌⊎◌, ◌+◌, ◌<◌, ◌≤◌, ℕ, List, length, slice_get, Option, Some, None, Result, Ok, Err}
 use Rattle.serde_json.specs.Data.{Data, depth}
 use Rattle.case_files.specs.declared.case_fault.CaseFault.{CaseFault}
 use Rattle.case_files.specs.declared.case_fault.CaseFault.TheVariants.{Form, OutOfMemory}
-use Rattle.case_files.specs.declared.case_file.CaseFile.{CaseFile}
 use Rattle.case_book.specs.declared.link.Link.{Link}
-use Rattle.case_files.specs.CaseFile.{Listed, listed_in}
+use Rattle.case_files.specs.CaseFile.{listed_in}
 use Rattle.case_files.specs.FileNames.{case_name}
-
--- an answer, seen by view
-abbrev pub seen_by : {A B : Type 0} → (A → B) → Result A CaseFault → Result B CaseFault
-seen_by view (Ok x) = Ok (view x)
-seen_by view (Err fault) = Err fault
 
 -- an answer, seen by view, is what was said; `Form` where nothing was
 abbrev pub TellsInMemory : {A B : Type 0} → (A → B) → Result A CaseFault → Option B → Type 0
@@ -19,10 +13,6 @@ TellsInMemory view (Ok x) said = said ≡ Some (view x)
 TellsInMemory view (Err OutOfMemory) said = Unit {0}
 TellsInMemory view (Err Form) said = said ≡ None
 TellsInMemory view (Err _) said = ⊥
-
--- what a case file says
-abbrev pub listed_by : CaseFile → Listed
-listed_by file = record { logs = map string_bytes file.logs.items; links = file.links.items; order = option_map string_bytes file.order }
 
 -- a JSON value nests so little that its text is read again
 abbrev pub IsShallow : ℕ → Data → Type 0

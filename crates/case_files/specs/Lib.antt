@@ -4,3 +4,4 @@ pub mod CaseReading
 pub mod FileNames
 pub mod Glue
 pub mod LookUp
+pub mod Opening

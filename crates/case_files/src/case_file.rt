@@ -6,8 +6,8 @@ ghost use Rattle.std.specs.List.{list_all};
 ghost use Rattle.serde_json.specs.Find.{as_str};
 ghost use Rattle.serde_json.specs.View.{view};
 ghost use Rattle.case_files.specs.CaseFile.{each_item, is_known, link_of, listed_in, number_of, order_of};
-ghost use Rattle.case_files.specs.CaseReading.{IsListed};
-ghost use Rattle.case_files.specs.Glue.{TellsInMemory, listed_by, seen_by};
+ghost use Rattle.case_files.specs.CaseReading.{IsListed, listed_by, seen_by};
+ghost use Rattle.case_files.specs.Glue.{TellsInMemory};
 
 use crate::case_fault::CaseFault;
 use case_book::Link;

@@ -2,8 +2,7 @@
 
 ghost use Rattle.std.specs.Prelude.{map, option_map, string_bytes};
 ghost use Rattle.std.specs.Arc.{arc_value};
-ghost use Rattle.case_files.specs.CaseReading.{ComesOfCase, IsCaseOf, ListedComes, LogComes, LogsCome, NamedOrderComes, OrderComes};
-ghost use Rattle.case_files.specs.Glue.{listed_by, seen_by};
+ghost use Rattle.case_files.specs.CaseReading.{ComesOfCase, IsCaseOf, ListedComes, LogComes, LogsCome, NamedOrderComes, OrderComes, listed_by, seen_by};
 
 use crate::case_fault::CaseFault;
 use crate::case_file::{CaseFile, case_file_of};
@@ -15,8 +14,12 @@ use std::convert::AsStr;
 use std::sync::Arc;
 use vat_log::{VatLog, parse_log};
 
-/// What the file of a case says.
-fn read_case_file<S: Source>(
+/// What the file of a case says that a source has under a name.
+///
+/// # Errors
+///
+/// The first fault of the case file, or of its reading.
+pub fn read_case_file<S: Source>(
     alloc: Global,
     source: &mut S,
     name: &str,

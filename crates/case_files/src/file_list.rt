@@ -1,8 +1,11 @@
 //! Files in a list.
 
-ghost use Rattle.std.specs.Prelude.{◌≡◌, map, string_bytes};
+ghost use Rattle.std.specs.Prelude.{◌≡◌, map, option_map, string_bytes};
+ghost use Rattle.case_files.specs.LookUp.{under};
 
+use crate::listed_reader::ListedReader;
 use crate::source::{Source, SourceError};
+use byte_pieces::PieceFault;
 use bytes::Bytes;
 use std::marker::Model;
 
@@ -30,17 +33,50 @@ impl FileList {
     }
 }
 
+impl FileList {
+    /// The bytes of the first file of this name.
+    fn find(&self, name: &str) -> Option<&Bytes>
+        ensures { option_map (λ bytes. bytes.now) result ≡ under self.now name.now }
+    {
+        for (listed, bytes) in &self.files {
+            if listed.as_str() == name {
+                return Some(bytes);
+            }
+        }
+        None
+    }
+}
+
 impl Source for FileList {
     ghost use Rattle.case_files.specs.LookUp.{LooksUp};
+
+    type Reader = ListedReader;
 
     ghost read_gives = { LooksUp };
 
     fn read(&mut self, name: &str) -> Result<Bytes, SourceError> {
-        for (listed, bytes) in &self.files {
-            if listed.as_str() == name {
-                return Ok(bytes.clone()?);
-            }
+        let bytes = self.find(name).ok_or(SourceError::CannotRead)?;
+        Ok(bytes.clone()?)
+    }
+
+    fn open(&mut self, name: &str) -> ListedReader {
+        match self.find(name) {
+            Some(bytes) => ListedReader::of(bytes),
+            None => ListedReader::failing(PieceFault::CannotRead),
         }
-        Err(SourceError::CannotRead)
+    }
+
+    /// Where the list has a file of this name, its reader fails only where memory is refused; nor is one of another file taken.
+    fn close(
+        &mut self,
+        name: &str,
+        reader: &ListedReader,
+        failed: bool,
+    ) -> Result<(), SourceError> {
+        match self.find(name) {
+            Some(bytes) if !failed && reader.may_be_of(bytes) => Ok(()),
+            Some(_) => Err(SourceError::OutOfMemory),
+            None => Err(SourceError::CannotRead),
+        }
     }
 }

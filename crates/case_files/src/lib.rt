@@ -15,11 +15,14 @@ mod case_reading;
 mod case_text;
 mod file_list;
 mod folder_names;
+mod listed_reader;
 mod source;
 
 pub use case_fault::CaseFault;
-pub use case_reading::{ReadCase, read_case, read_log_list};
+pub use case_file::CaseFile;
+pub use case_reading::{ReadCase, read_case, read_case_file, read_log_list};
 pub use case_text::{link_case, written_case};
 pub use file_list::FileList;
 pub use folder_names::{CASE_FILE, file_names};
+pub use listed_reader::ListedReader;
 pub use source::{RememberingSource, Source, SourceError};

@@ -1,10 +1,12 @@
 //! Where files come from.
 
-ghost use Rattle.std.specs.Prelude.{◌≡◌, ℕ, List, ⊤};
+ghost use Rattle.std.specs.Prelude.{◌≡◌, ℕ, List, [], ⊤};
 ghost use Rattle.std.specs.Prelude.{Result as Answered};
 ghost use Rattle.case_files.specs.declared.source.SourceError.{SourceError};
 ghost use Rattle.case_files.specs.declared.source.SourceError.TheVariants.{OutOfMemory};
+ghost use Rattle.case_files.specs.Opening.{Closes};
 
+use byte_pieces::Pieces;
 use bytes::Bytes;
 use std::alloc::{AllocError, AllocFailed};
 use std::io;
@@ -37,8 +39,12 @@ impl<T: Drop> From<AllocFailed<T>> for SourceError {
     }
 }
 
-/// What gives bytes by name, as files do.
+/// What gives bytes by name, as files do: all at once, or piece by piece from a reader that it opens under the name, reads to
+/// its end or as far as it is wanted, and closes.
 pub trait Source {
+    /// What gives the bytes that stand under a name piece by piece.
+    type Reader: Pieces + Send + Drop;
+
     // What may come of reading a name: the source, the name, the bytes or why there are none, the source afterwards.
     ghost read_gives: { Self → List ℕ → Answered (List ℕ) SourceError → Self → Type 0 } = { λ _ _ _ _. ⊤ };
 
@@ -49,16 +55,44 @@ pub trait Source {
     /// `CannotRead` where there is nothing that can be read under it, or out of memory.
     fn read(&mut self, name: &str) -> Result<Bytes, SourceError>
         ensures { read_gives self.old name.now result self.new };
+
+    /// A reader of the bytes that stand under the name, of which none came yet. Where there is nothing that can be read under
+    /// it, the reader says so when it is asked for the first piece.
+    fn open(&mut self, name: &str) -> Self::Reader
+        ensures none { Self.Reader.came result ≡ [] }
+        ensures same { self.new ≡ self.old };
+
+    /// Ends the reading from a reader that was opened under this name; `failed` says that it answered that it can't be read. What
+    /// came from it is then what stands under the name, or the begin of that, where it isn't over.
+    ///
+    /// # Errors
+    ///
+    /// Why the name can't be read, as [`read`](Source::read) answers it. It does so where the reader failed.
+    fn close(&mut self, name: &str, reader: &Self::Reader, failed: bool) -> Result<(), SourceError>
+        ensures { Closes read_gives self.old name.now (Self.Reader.came reader.now)
+            (Self.Reader.is_over reader.now) failed result self.new };
 }
 
 /// A source that remembers what it was asked for, so that people can be told of it. No answer depends on it.
 pub trait RememberingSource: Source {
-    /// The name that was asked for last, where it is kept.
+    /// The name that was asked for last, where it is kept: to be read, or to be closed.
     fn last(&self) -> Option<&str>;
 
     /// Why nothing could be read under that name, where it is kept.
     fn refusal(&self) -> Option<&io::Error>;
 
+    /// Reads once more what was closed, so that it is kept: in the order of closing, as far as it isn't too long. What was read
+    /// so is for people alone: between two readings a file may change.
+    ///
+    /// # Errors
+    ///
+    /// Out of memory. Then less is kept.
+    fn look_back(&mut self) -> Result<(), AllocError>
+        ensures { self.new ≡ self.old };
+
     /// The files that were read, with their names, in the order of reading, as far as they are kept.
     fn kept(&self) -> &[(String, Bytes)];
+
+    /// The names of the files that were closed and are left out there.
+    fn left_out(&self) -> &[String];
 }

@@ -3,7 +3,7 @@
 use crate::joins::JoinNote;
 use crate::row_limit::RowLimit;
 use audit_core::{Breach, Report};
-use case_book::{Case, Findings};
+use case_book::Findings;
 use input_notes::WireFound;
 use report_lines::{Answer, Fault, report_sentence, why_sentence};
 use std::mem;
@@ -68,14 +68,14 @@ pub(crate) enum HeardAnswer {
     Yes,
 }
 
-/// What was heard of the answer that was said last, and the case that it judges, or what was found of it, or of the connection,
-/// where notes are to be made.
+/// What was heard of the answer that was said last, and what was found of the case that it judges, or of the connection, where
+/// notes are to be made.
 #[derive(Debug, Drop)]
 pub struct Heard {
     is_noted: bool,
     pub(crate) told: HeardAnswer,
     pub(crate) findings: Option<Findings>,
-    pub(crate) case: Option<Case>,
+    pub(crate) is_of_case: bool,
     pub(crate) wire: Option<WireFound>,
     pub(crate) join: Option<JoinNote>,
     pub(crate) limit: Option<RowLimit>,
@@ -153,7 +153,7 @@ impl Heard {
             is_noted,
             told: HeardAnswer::Nothing,
             findings: None,
-            case: None,
+            is_of_case: false,
             wire: None,
             join: None,
             limit: None,
@@ -208,13 +208,9 @@ impl Heard {
         }
     }
 
-    /// Keeps a case of which the line alone was found, where notes are to be made of it.
-    pub fn keep_case(&mut self, case: Case) {
-        if self.is_noted {
-            self.case = Some(case);
-        } else {
-            mem::forget(case);
-        }
+    /// Hears that the answer is the line of a case, of which nothing is kept.
+    pub fn hear_case(&mut self) {
+        self.is_of_case = true;
     }
 
     /// Leaves what was heard to the system, which takes all memory at once where the program ends: to give it back here, record

@@ -8,6 +8,7 @@ use crate::row_limit::put_limit;
 use audit_core::{Breach, find_alone};
 use bytes::Bytes;
 use case_book::{Case, Findings};
+use case_files::{CaseFault, FileList, read_case};
 use case_notes::{put_counterpart, put_links, put_order_cause, put_others, put_received};
 use input_notes::{message_sentence, put_wire};
 use open_notes::{OpenCase, open_object, put_good};
@@ -150,6 +151,22 @@ fn put_by_findings<S: SearchingSource>(
     put_told(alloc, text, &logs, told)
 }
 
+/// The case that the files make, the first of which is the case file; if they make one, with all its logs.
+fn case_of(alloc: Global, files: &[(String, Bytes)]) -> Result<Option<Case>, AllocError> {
+    let Some((first, _)) = files.first() else {
+        return Ok(None);
+    };
+    let mut list = Vec::with_capacity(alloc, files.len())?;
+    for (name, bytes) in files {
+        list.push((String::from_str(alloc, name.as_str())?, bytes.clone()?))?;
+    }
+    match read_case(alloc, &mut FileList::new(list), first.as_str()) {
+        Ok(read) => Ok(Some(read.case)),
+        Err(CaseFault::OutOfMemory) => Err(AllocError),
+        Err(_) => Ok(None),
+    }
+}
+
 /// Appends the notes of a no or of an outside of a case of which the line alone was found: the rest is found once more.
 fn put_of_case<S: SearchingSource>(
     alloc: Global,
@@ -178,8 +195,10 @@ fn put_bad<S: SearchingSource>(
     if let HeardAnswer::Cut { fault, end } = heard.told {
         return put_left_out(text, source, fault, end);
     }
-    if let (Some(case), true) = (&heard.case, tells_of_findings(heard.told)) {
-        return put_of_case(alloc, text, source, case, heard.told);
+    if heard.is_of_case && tells_of_findings(heard.told) {
+        if let Some(case) = case_of(alloc, source.kept())? {
+            return put_of_case(alloc, text, source, &case, heard.told);
+        }
     }
     put_by_findings(alloc, text, source, &heard.findings, heard.told)
 }
@@ -270,6 +289,29 @@ fn notes_of_log(
     Notes::of_found(alloc, text, found, form)
 }
 
+/// What people are told of a case whose report is yes and of which nothing is kept but its files, behind these notes.
+fn notes_of_kept(
+    alloc: Global,
+    text: String,
+    files: &[(String, Bytes)],
+    form: Form,
+) -> Result<Notes, AllocError> {
+    let Some(case) = case_of(alloc, files)? else {
+        return Ok(Notes::of_text(text));
+    };
+    let found = OpenCase::of_case(alloc, &case, files)?;
+    Notes::of_found(alloc, text, found, form)
+}
+
+/// Appends the notes of the files that are longer than notes look back over.
+fn put_left_out_files(text: &mut String, names: &[String]) -> Result<(), AllocError> {
+    for name in names {
+        let name = name.escape_debug();
+        write!(text, "note: {name} is longer than notes look back over\n")?;
+    }
+    Ok(())
+}
+
 /// What people are told beside an answer. `hex` is the frame of the command line, where it has one.
 ///
 /// # Errors
@@ -283,6 +325,7 @@ pub fn notes_of<S: SearchingSource>(
     form: Form,
 ) -> Result<Notes, AllocError> {
     let mut text = String::new(alloc);
+    put_left_out_files(&mut text, source.left_out())?;
     if let HeardAnswer::Fault(fault) = heard.told {
         put_fault(alloc, &mut text, source, hex, fault)?;
         return Ok(Notes::of_text(text));
@@ -292,9 +335,8 @@ pub fn notes_of<S: SearchingSource>(
         let found = OpenCase::of_findings(alloc, findings, source.kept())?;
         return Notes::of_found(alloc, text, found, form);
     }
-    if let (HeardAnswer::Yes, Some(case)) = (heard.told, &heard.case) {
-        let found = OpenCase::of_case(alloc, case, source.kept())?;
-        return Notes::of_found(alloc, text, found, form);
+    if heard.told == HeardAnswer::Yes && heard.is_of_case {
+        return notes_of_kept(alloc, text, source.kept(), form);
     }
     if heard.told == HeardAnswer::GoodLog {
         return notes_of_log(alloc, text, source.kept(), form);

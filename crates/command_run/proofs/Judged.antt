@@ -138,3 +138,10 @@ pub said : {S W E : Type 0} (answers : Reporting) (shows : List ℕ → ℕ → 
 said answers shows gives old new name report wrote out now r came each printed =
     prints_by (λ text status. shows text status ⊎ IsOutOfMemory text status) (AnswersReportOf answers gives old name new) wrote out now r
     (shown_or_not answers shows gives old new name report came each) printed
+
+-- ---- a case whose logs were read piece by piece
+
+pub fault_comes : {S : Type 0} (gives : Reads S) (old new : S) (name : List ℕ) (found : CaseFault) → (found ≡ fault.OutOfMemory) ⊎ ComesOfCase gives old name (Err found) new
+    → ComesChecked gives old name (Err (of_case found)) new
+fault_comes gives old new name found (inl is) = inl (ap of_case is)
+fault_comes gives old new name found (inr comes) = inr (found, (comes, refl))

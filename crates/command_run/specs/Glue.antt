@@ -1,6 +1,6 @@
 -- This file serves the contracts of private functions alone, and is no part of the meaning.
 use Rattle.std.specs.List.{flat_map}
-use Rattle.std.specs.Prelude.{◌≡◌, ◌⊎◌, ◌&&◌, ℕ, ◌-◌, Bool, List, ◌++◌, Option, Some, None, Result, Ok, Err, nat_le, nat_lt, option_map}
+use Rattle.std.specs.Prelude.{◌≡◌, ◌⊎◌, ◌&&◌, ℕ, ◌-◌, Bool, true, List, ◌++◌, Option, Some, None, Result, Ok, Err, nat_le, nat_lt, option_map}
 use Rattle.report_lines.specs.declared.answer.Answer.{Answer}
 use Rattle.report_lines.specs.declared.answer.Answer.TheVariants.{Finding}
 use Rattle.report_lines.specs.declared.answer.Answer.TheVariants as answer
@@ -14,7 +14,13 @@ use Rattle.audit_core.specs.declared.report.Report.{Report}
 use Rattle.case_files.specs.CaseReading.{ComesOfCase, Read, Reads}
 use Rattle.case_files.specs.declared.case_fault.CaseFault.{CaseFault}
 use Rattle.case_files.specs.declared.case_reading.ReadCase.{ReadCase}
+use Rattle.cap_reader.specs.Defaults.{default_limits}
 use Rattle.vat_log.specs.Log.{Log}
+use Rattle.vat_log.specs.Reading.{log_of}
+use Rattle.vat_log.specs.Streams.{MayBeAll}
+use Rattle.vat_log.specs.declared.read_fault.ReadFault.{ReadFault}
+use Rattle.vat_log.specs.declared.read_fault.ReadFault.TheVariants as read
+use Rattle.vat_rules.specs.Audit.{IsTrueOf}
 use Rattle.vat_log.specs.Spelling.{log_bytes}
 use Rattle.vat_rules.specs.declared.slim.finding.SlimFinding.{SlimFinding}
 use Rattle.command_run.specs.declared.output.Failed.{Failed}
@@ -34,6 +40,13 @@ use Rattle.picture.specs.declared.window.Asked.{Asked}
 abbrev pub answer_of : Result SlimFinding Fault → Answer
 answer_of (Ok found) = Finding found
 answer_of (Err fault) = answer.Fault fault
+
+-- what was found of a log while it was read: of all its bytes, or why nothing is
+abbrev pub IsAudited : Result SlimFinding ReadFault → List ℕ → Bool → Type 0
+IsAudited (Ok finding) came is_over = (is_over ≡ true) × (log_of came ≡ Ok finding.log) × (finding.limits ≡ default_limits) × IsTrueOf finding.log finding.limits finding.outcome
+IsAudited (Err (read.Bad fault)) came is_over = (all : List ℕ) → MayBeAll came is_over all → log_of all ≡ Err fault
+IsAudited (Err read.CannotRead) came is_over = Unit {0}
+IsAudited (Err read.OutOfMemory) came is_over = Unit {0}
 
 -- An answer's lines were written whole, and its status is the run's; or there is an answer, and a write failed.
 abbrev pub Prints : {W E : Type 0} → (List ℕ → ℕ → Type 0) → Writing W → W → W → Result ℕ E → Type 0

@@ -1,5 +1,5 @@
 -- The line, the exit status and the bytes for the folder that answer logs whose connections are to be joined.
-use Rattle.std.specs.Prelude.{◌≡◌, ◌≢◌, ◌⊎◌, ℕ, ◌<◌, List, ◌++◌, length, map, codes, Option, Some, None, Result, Ok, Err, slice_get}
+use Rattle.std.specs.Prelude.{◌≡◌, ◌⊎◌, ℕ, ◌<◌, List, ◌++◌, length, map, codes, Option, Some, None, Result, Ok, Err, slice_get}
 use Rattle.std.specs.List.{flat_map}
 use Rattle.vat_log.specs.Log.{Log}
 use Rattle.vat_log.specs.Spelling.{log_bytes}

@@ -116,6 +116,7 @@ pub fn run_as_json_with_notes<R: Threads + Wait + Sync, S: SearchingSource, W: W
         watch: &Unwatched,
     };
     let told = answer_heard(&host, command, source, &mut heard, out, file);
+    let _ = source.look_back();
     let notes = notes_beside(alloc, command, &heard, source, &told);
     heard.leave();
     end_lines(told, out, notes_or_none(alloc, notes))

@@ -274,6 +274,7 @@ pub fn run_with_notes<
         watch: noted.watch,
     };
     let answered = answer_heard(&host, command, &mut noted.source, &mut heard, out, file);
+    let _ = noted.source.look_back();
     write_notes(alloc, command, &heard, &noted.source, &mut noted.notes);
     heard.leave();
     write_failure(alloc, command, &answered, &mut noted.notes);

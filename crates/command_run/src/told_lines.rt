@@ -171,6 +171,15 @@ fn end_lines<W: Write>(told: LinesTold, out: &mut ToldLines<'_, W>) -> u8
     }
 }
 
+/// Has a source look back, where notes are wanted.
+fn look_back_if<S: SearchingSource>(is_wanted: bool, source: &mut S)
+    ensures { source.new ≡ source.old }
+{
+    if is_wanted {
+        let _ = source.look_back();
+    }
+}
+
 /// Runs a command as [`crate::run_with_notes`] does, with names and reasons where these are told. What is told of the answer
 /// is in no contract. The exit status is 3 where memory is refused for a line.
 pub fn run_telling<
@@ -199,6 +208,7 @@ pub fn run_telling<
         watch: noted.watch,
     };
     let told = answer_heard(&host, command, &mut noted.source, &mut heard, out, file);
+    look_back_if(!out.telling.is_quiet, &mut noted.source);
     let notes = notes_beside(alloc, command, &heard, &noted.source, &told, out.telling);
     put_notes(notes, &mut noted.notes);
     heard.leave();

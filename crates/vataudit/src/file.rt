@@ -1,16 +1,20 @@
 //! Files and standard input.
 
-ghost use Rattle.std.specs.Prelude.{◌≡◌, ◌<◌, ◌≤◌, length, IfErr, IfOk, IfSome};
+ghost use Rattle.std.specs.Prelude.{◌≡◌, ◌<◌, ◌≤◌, [], false, length, IfErr, IfOk, IfSome, OnOk};
 
+use crate::folder_reader::{FolderReader, Opened, copy_of};
 use bytes::Bytes;
 use case_files::{RememberingSource, Source, SourceError};
 use command_run::SearchingSource;
 use std::alloc::{AllocError, Global};
 use std::fs::{self, OpenFile};
 use std::io::{self, ErrorKind, Read};
+use std::marker::Model;
+use std::mem;
 use std::rt::Files;
 
-/// How many bytes a file that is read may have, at most.
+/// How many bytes a file may have that is read at once, and how many the files have together that are read once more: 2^30 at
+/// most.
 const LIMIT: usize = 1_073_741_824;
 
 /// All that was read, where it is at most the limit. Else the reason is told.
@@ -100,11 +104,43 @@ fn read_named<R: Files + Input + AllocGlobal>(
     }
 }
 
-/// The files of the working directory, and standard input under the name `-`, which is read once.
+/// What was read, to be handed out; or why nothing was.
+fn opened(read: Result<Bytes, SourceError>, why: Option<io::Error>) -> Opened {
+    match read {
+        Ok(bytes) => Opened::Whole(bytes, 0),
+        Err(SourceError::CannotRead) => Opened::Refused(why),
+        Err(SourceError::OutOfMemory) => {
+            Opened::Refused(Some(io::Error::from(ErrorKind::OutOfMemory)))
+        }
+    }
+}
+
+/// What hands out a file, or standard input.
+fn open_named<R: Files + Input + AllocGlobal>(
+    rt: &R,
+    name: &str,
+    input_was_read: &mut bool,
+) -> FolderReader
+    ensures { result.pieces ≡ record { bytes = []; is_over = false } }
+{
+    let mut why = None;
+    let read = read_named(rt, name, input_was_read, &mut why);
+    FolderReader::new(opened(read, why), name != "-")
+}
+
+/// The files of the working directory, and standard input under the name `-`, which is read once. Contracts see nothing of it.
 #[derive(Drop)]
 pub struct Folder<'a, R> {
     rt: &'a R,
     input_was_read: bool,
+}
+
+impl<'a, R> Model for Folder<'a, R> {
+    ghost use Rattle.std.specs.Prelude.{⊤};
+
+    ghost Value = { ⊤ };
+
+    ghost view = { λ _. tt };
 }
 
 impl<'a, R> Folder<'a, R> {
@@ -118,12 +154,62 @@ impl<'a, R> Folder<'a, R> {
 }
 
 impl<R: Files + Input + AllocGlobal> Source for Folder<'_, R> {
+    type Reader = FolderReader;
+
     fn read(&mut self, name: &str) -> Result<Bytes, SourceError> {
         read_named(self.rt, name, &mut self.input_was_read, &mut None)
     }
+
+    fn open(&mut self, name: &str) -> FolderReader {
+        open_named(self.rt, name, &mut self.input_was_read)
+    }
+
+    fn close(
+        &mut self,
+        _name: &str,
+        _reader: &FolderReader,
+        failed: bool,
+    ) -> Result<(), SourceError> {
+        closed(failed)
+    }
 }
 
-/// The same files, with what people are told of them. The bytes that it keeps are shared, not copied.
+/// What closing a reader answers.
+fn closed(failed: bool) -> Result<(), SourceError>
+    ensures { OnOk result (failed ≡ false) }
+{
+    if failed {
+        return Err(SourceError::CannotRead);
+    }
+    Ok(())
+}
+
+/// What was closed of a folder.
+#[derive(Drop)]
+struct ClosedFile {
+    name: String,
+    lasts: bool,
+    count: u64,
+    bytes: Option<Bytes>,
+}
+
+impl ClosedFile {
+    /// The file of this name, and what its reader has of it.
+    fn of(alloc: Global, name: &str, reader: &FolderReader) -> Result<ClosedFile, AllocError> {
+        let bytes = match reader.kept() {
+            Some(bytes) => Some(bytes.clone()?),
+            None => None,
+        };
+        Ok(ClosedFile {
+            name: String::from_str(alloc, name)?,
+            lasts: reader.lasts(),
+            count: reader.count(),
+            bytes,
+        })
+    }
+}
+
+/// The same files, with what people are told of them. The bytes that it keeps are shared, not copied. Contracts see nothing of it.
 #[derive(Drop)]
 pub struct RememberingFolder<'a, R> {
     rt: &'a R,
@@ -131,6 +217,16 @@ pub struct RememberingFolder<'a, R> {
     last: Option<String>,
     refusal: Option<io::Error>,
     kept: Vec<(String, Bytes)>,
+    closed: Vec<ClosedFile>,
+    left_out: Vec<String>,
+}
+
+impl<'a, R> Model for RememberingFolder<'a, R> {
+    ghost use Rattle.std.specs.Prelude.{⊤};
+
+    ghost Value = { ⊤ };
+
+    ghost view = { λ _. tt };
 }
 
 impl<'a, R: AllocGlobal> RememberingFolder<'a, R> {
@@ -142,28 +238,101 @@ impl<'a, R: AllocGlobal> RememberingFolder<'a, R> {
             last: None,
             refusal: None,
             kept: Vec::new(rt.alloc()),
+            closed: Vec::new(rt.alloc()),
+            left_out: Vec::new(rt.alloc()),
         }
+    }
+
+    /// Keeps the name that is asked for.
+    fn keep_name(&mut self, name: &str) -> Result<(), AllocError> {
+        self.last = None;
+        self.last = Some(String::from_str(self.rt.alloc(), name)?);
+        Ok(())
     }
 
     /// Keeps the name that is asked for, and the file that was read. Where memory is refused less is kept.
     fn keep(&mut self, name: &str, read: &Result<Bytes, SourceError>) -> Result<(), AllocError> {
-        let alloc = self.rt.alloc();
-        self.last = None;
-        self.last = Some(String::from_str(alloc, name)?);
+        self.keep_name(name)?;
         if let Ok(bytes) = read {
-            let file = (String::from_str(alloc, name)?, bytes.clone()?);
+            let file = (String::from_str(self.rt.alloc(), name)?, bytes.clone()?);
             self.kept.push(file)?;
         }
         Ok(())
     }
 }
 
+impl<R: Files + Input + AllocGlobal> RememberingFolder<'_, R> {
+    /// How many bytes may still be read once more.
+    fn room(&self) -> usize {
+        let mut room = LIMIT;
+        for (_, bytes) in &self.kept {
+            room = room.saturating_sub(bytes.len());
+        }
+        room
+    }
+
+    /// Keeps the name whose reading ends, and what its reader has. Where memory is refused less is kept.
+    fn keep_closed(&mut self, name: &str, reader: &FolderReader) -> Result<(), AllocError> {
+        self.keep_name(name)?;
+        let file = ClosedFile::of(self.rt.alloc(), name, reader)?;
+        self.closed.push(file)?;
+        Ok(())
+    }
+
+    /// The bytes of a file that was closed: those that its reader kept, or else those that are read once more; at most so many.
+    fn read_again(&self, file: &mut ClosedFile, room: usize) -> Option<Bytes> {
+        let bytes = match file.bytes.take() {
+            Some(bytes) => bytes,
+            None if file.lasts && file.count <= room as u64 => {
+                read_named(self.rt, file.name.as_str(), &mut true, &mut None).ok()?
+            }
+            None => return None,
+        };
+        if bytes.len() <= room {
+            Some(bytes)
+        } else {
+            None
+        }
+    }
+
+    /// Keeps the bytes of a file that was closed, or else its name, where some came.
+    fn keep_again(&mut self, mut file: ClosedFile) -> Result<(), AllocError> {
+        let room = self.room();
+        match self.read_again(&mut file, room) {
+            Some(bytes) => self.kept.push((file.name, bytes))?,
+            None if file.count > 0 => self.left_out.push(file.name)?,
+            None => {}
+        }
+        Ok(())
+    }
+}
+
 impl<R: Files + Input + AllocGlobal> Source for RememberingFolder<'_, R> {
+    type Reader = FolderReader;
+
     fn read(&mut self, name: &str) -> Result<Bytes, SourceError> {
         self.refusal = None;
         let read = read_named(self.rt, name, &mut self.input_was_read, &mut self.refusal);
         let _ = self.keep(name, &read);
         read
+    }
+
+    fn open(&mut self, name: &str) -> FolderReader {
+        open_named(self.rt, name, &mut self.input_was_read)
+    }
+
+    fn close(
+        &mut self,
+        name: &str,
+        reader: &FolderReader,
+        failed: bool,
+    ) -> Result<(), SourceError> {
+        self.refusal = match reader.refusal() {
+            Some(error) => Some(copy_of(self.rt.alloc(), error)),
+            None => None,
+        };
+        let _ = self.keep_closed(name, reader);
+        closed(failed)
     }
 }
 
@@ -176,8 +345,20 @@ impl<R: Files + Input + AllocGlobal> RememberingSource for RememberingFolder<'_,
         self.refusal.as_ref()
     }
 
+    fn look_back(&mut self) -> Result<(), AllocError> {
+        let closed = mem::replace(&mut self.closed, Vec::new(self.rt.alloc()));
+        for file in closed {
+            self.keep_again(file)?;
+        }
+        Ok(())
+    }
+
     fn kept(&self) -> &[(String, Bytes)] {
         &self.kept
+    }
+
+    fn left_out(&self) -> &[String] {
+        &self.left_out
     }
 }
 

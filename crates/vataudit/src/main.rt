@@ -22,6 +22,7 @@ ghost use Rattle.command_line.specs.Spelled.{HasWorkers};
 ghost use Rattle.report_lines.specs.Faults.{fault_status};
 
 mod file;
+mod folder_reader;
 mod made;
 mod manner;
 mod named_file;
@@ -192,7 +193,14 @@ fn run_plainly<R: Threads + Wait + Sync + Files + Input + AllocGlobal, W: Write,
 /// Runs a command with lines and notes as text, and tells of its progress meanwhile. Where no thread can be started it tells
 /// nothing.
 fn run_with_progress<
-    R: Threads + Wait + Clock + Sync + Files + Input + Eprint + AllocGlobal,
+    R: Threads
+        + Wait
+        + Clock
+        + Sync
+        + Files<File: Send>
+        + Input<Reader: Send>
+        + Eprint
+        + AllocGlobal,
     W: Write,
     N: Write + Drop,
 >(
@@ -273,7 +281,15 @@ fn run_in_json<R: Threads + Wait + Sync + Files + Input + AllocGlobal, W: Write>
 
 /// Runs a command with lines as text, and gives the exit status.
 fn run_in_text<
-    R: Threads + Wait + Clock + Sync + Files + Input + Print + Eprint + AllocGlobal,
+    R: Threads
+        + Wait
+        + Clock
+        + Sync
+        + Files<File: Send>
+        + Input<Reader: Send>
+        + Print
+        + Eprint
+        + AllocGlobal,
     W: Write,
     N: Write + IsTerminal + Drop,
 >(
@@ -314,7 +330,15 @@ fn refuse_schema<R: Print + Eprint + AllocGlobal>(
 
 /// Runs a command in a manner, with these names where any are asked for, and gives the exit status.
 fn run_named<
-    R: Threads + Wait + Clock + Sync + Files + Input + Print + Eprint + AllocGlobal,
+    R: Threads
+        + Wait
+        + Clock
+        + Sync
+        + Files<File: Send>
+        + Input<Reader: Send>
+        + Print
+        + Eprint
+        + AllocGlobal,
     W: Write,
     N: Write + IsTerminal + Drop,
 >(
@@ -352,7 +376,15 @@ fn asked_names<'a>(manner: &Manner, names: &'a Names) -> Option<&'a Names> {
 
 /// Runs a command in a manner, with the names of the schemas that are asked for, and gives the exit status.
 fn run_in<
-    R: Threads + Wait + Clock + Sync + Files + Input + Print + Eprint + AllocGlobal,
+    R: Threads
+        + Wait
+        + Clock
+        + Sync
+        + Files<File: Send>
+        + Input<Reader: Send>
+        + Print
+        + Eprint
+        + AllocGlobal,
     W: Write,
     N: Write + IsTerminal + Drop,
 >(rt: &R, manner: &Manner, command: &Command<'_>, out: &mut W, notes: N) -> u8
@@ -370,7 +402,15 @@ fn run_in<
 /// Does what the words ask, writes its lines to `out` and, where none asks for quiet, notes to `notes`, or both as JSON
 /// objects to `out`; and gives the exit status.
 fn start<
-    R: Threads + Wait + Clock + Sync + Files + Input + Print + Eprint + AllocGlobal,
+    R: Threads
+        + Wait
+        + Clock
+        + Sync
+        + Files<File: Send>
+        + Input<Reader: Send>
+        + Print
+        + Eprint
+        + AllocGlobal,
     W: Write,
     N: Write + IsTerminal + Drop,
 >(rt: &R, out: &mut W, notes: N, words: &mut Vec<String>) -> u8 {

@@ -35,7 +35,11 @@ impl Count {
     }
 
     fn raise(&self) {
-        let _ = self.0.fetch_add(1, Ordering::SeqCst);
+        self.raise_by(1);
+    }
+
+    fn raise_by(&self, number: u64) {
+        let _ = self.0.fetch_add(number, Ordering::SeqCst);
     }
 }
 
@@ -50,6 +54,7 @@ struct Line {
 #[derive(Drop)]
 pub struct RunProgress {
     files: Count,
+    bytes: Count,
     logs: Count,
     links: Count,
     audited: Count,
@@ -69,15 +74,20 @@ impl Display for ProgressLine<'_> {
     fn fmt<W: fmt::Write>(&self, f: &mut Formatter<W>) -> fmt::Result {
         let RunProgress {
             files,
+            bytes,
             logs,
             links,
             audited,
             compared,
             ..
         } = self.progress;
-        let (files, logs, links) = (files.read(), logs.read(), links.read());
+        let (files, bytes) = (files.read(), bytes.read());
+        let (logs, links) = (logs.read(), links.read());
         let (audited, compared) = (audited.read(), compared.read());
         write!(f, "\r{} s: files read {files}", self.seconds)?;
+        if bytes > 0 {
+            write!(f, ", bytes of logs read {bytes}")?;
+        }
         if logs > 0 {
             write!(
                 f,
@@ -96,6 +106,7 @@ impl RunProgress {
     pub fn new() -> RunProgress {
         RunProgress {
             files: Count::new(),
+            bytes: Count::new(),
             logs: Count::new(),
             links: Count::new(),
             audited: Count::new(),
@@ -111,6 +122,11 @@ impl RunProgress {
     /// A file was read.
     pub fn read_file(&self) {
         self.files.raise();
+    }
+
+    /// So many bytes came of files that are read piece by piece.
+    pub fn read_bytes(&self, count: usize) {
+        self.bytes.raise_by(count as u64);
     }
 
     /// Writes the line, where the run takes long, and says whether it may be written again.

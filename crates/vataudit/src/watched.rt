@@ -1,12 +1,40 @@
 //! What is read and written while progress is told of.
 
 use crate::progress::RunProgress;
+use byte_pieces::{PieceFault, Pieces};
 use bytes::Bytes;
 use case_files::{RememberingSource, Source, SourceError};
 use command_run::SearchingSource;
+use std::alloc::{AllocError, Global};
 use std::io;
 use std::io::{Eprint, Write};
 use std::sync::Wait;
+
+/// What reads a file piece by piece, whose bytes are counted.
+#[derive(Drop)]
+pub struct CountedReader<'a, P> {
+    reader: P,
+    progress: &'a RunProgress,
+}
+
+impl<P: Pieces> Pieces for CountedReader<'_, P> {
+    ghost came = { λ counted. P.came counted.reader };
+
+    ghost is_over = { λ counted. P.is_over counted.reader };
+
+    fn more(
+        &mut self,
+        alloc: Global,
+        rest: &[u8],
+        wanted: usize,
+    ) -> Result<Option<Bytes>, PieceFault> {
+        let next = self.reader.more(alloc, rest, wanted)?;
+        if let Some(window) = &next {
+            self.progress.read_bytes(window.len() - rest.len());
+        }
+        Ok(next)
+    }
+}
 
 /// A source whose files are counted as they are read.
 #[derive(Drop)]
@@ -17,11 +45,31 @@ pub struct CountedSource<'a, S> {
     pub progress: &'a RunProgress,
 }
 
-impl<S: Source> Source for CountedSource<'_, S> {
+impl<'a, S: Source> Source for CountedSource<'a, S> {
+    type Reader = CountedReader<'a, S::Reader>;
+
     fn read(&mut self, name: &str) -> Result<Bytes, SourceError> {
         let read = self.source.read(name);
         self.progress.read_file();
         read
+    }
+
+    fn open(&mut self, name: &str) -> CountedReader<'a, S::Reader> {
+        CountedReader {
+            reader: self.source.open(name),
+            progress: self.progress,
+        }
+    }
+
+    fn close(
+        &mut self,
+        name: &str,
+        reader: &CountedReader<'a, S::Reader>,
+        failed: bool,
+    ) -> Result<(), SourceError> {
+        let closed = self.source.close(name, &reader.reader, failed);
+        self.progress.read_file();
+        closed
     }
 }
 
@@ -34,8 +82,16 @@ impl<S: RememberingSource> RememberingSource for CountedSource<'_, S> {
         self.source.refusal()
     }
 
+    fn look_back(&mut self) -> Result<(), AllocError> {
+        self.source.look_back()
+    }
+
     fn kept(&self) -> &[(String, Bytes)] {
         self.source.kept()
+    }
+
+    fn left_out(&self) -> &[String] {
+        self.source.left_out()
     }
 }
 

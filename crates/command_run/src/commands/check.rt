@@ -7,24 +7,23 @@ ghost use Rattle.command_run.specs.ReportAnswers.{AnswersReport};
 ghost use Rattle.command_run.specs.Runs.{Wrote};
 
 use crate::answering::say;
-use crate::commands::case_report::fault_of;
 use crate::host::Host;
 use crate::output::Output;
 use crate::watch::Watch;
-use audit_core::{Report, check_case};
-use case_files::{ReadCase, Source, read_case};
+use audit_core::Report;
+use case_files::Source;
+use case_streams::check_files;
 use cause_notes::Heard;
 use report_lines::{Answer, Fault};
-use std::sync::Wait;
 use std::thread::Threads;
 
 /// The line of the report of the case that a source has under a name, by the order that its file names, if it names one: so
-/// many workers audit it, the calling thread among them. The case is heard, where notes are to be made.
+/// many workers audit it, the calling thread among them. That a case was read, of which none is kept, is heard.
 ///
 /// # Errors
 ///
 /// The case's first fault, or out of memory.
-fn case_line<R: Threads + Wait + Sync, G: Watch + Sync, S: Source>(
+fn case_line<R: Threads + Sync, G: Watch, S: Source>(
     host: &Host<'_, R, G>,
     name: &str,
     workers: u32,
@@ -35,15 +34,9 @@ fn case_line<R: Threads + Wait + Sync, G: Watch + Sync, S: Source>(
     requires few { workers ≤ 64 }
     ensures { ComesChecked S.read_gives source.old name.now result source.new }
 {
-    let ReadCase { case, order } = read_case(host.alloc, source, name)?;
-    host.watch.begins(case.logs().len(), case.links().len());
-    match check_case(host.rt, host.alloc, &case, order, workers, host.watch) {
-        Ok(line) => {
-            heard.keep_case(case);
-            Ok(line)
-        }
-        Err(error) => Err(fault_of(error)),
-    }
+    let line = check_files(host.rt, host.alloc, source, name, workers)?;
+    heard.hear_case();
+    Ok(line)
 }
 
 /// Audits the case that a source has under a name, by so many workers, and says the report.
@@ -51,7 +44,7 @@ fn case_line<R: Threads + Wait + Sync, G: Watch + Sync, S: Source>(
 /// # Errors
 ///
 /// That of a write; nothing is written after it.
-pub fn say_report<R: Threads + Wait + Sync, G: Watch + Sync, S: Source, O: Output>(
+pub fn say_report<R: Threads + Sync, G: Watch, S: Source, O: Output>(
     host: &Host<'_, R, G>,
     name: &str,
     workers: u32,

@@ -1,6 +1,6 @@
 use Rattle.std.proofs.Common.{map, Ok, refl}
 use Rattle.std.specs.Arc.{arc_value}
-use Rattle.case_files.specs.Glue.{listed_by}
+use Rattle.case_files.specs.CaseReading.{listed_by}
 use Rattle.case_files.proofs.case_reading.read_case.Goals as goal
 
 pub returns : goal.returns

@@ -1,4 +1,4 @@
-use Rattle.std.proofs.Common.{◌≡◌, ◌∙◌, Some, ap, arith, get_or, take, take_all}
+use Rattle.std.proofs.Common.{◌∙◌, Some, ap, arith, get_or, take, take_all}
 use Rattle.std.proofs.lemmas.List.{take_more}
 use Rattle.case_book.specs.declared.link.Link.{Link}
 use Rattle.case_files.specs.CaseFile.{link_of}

@@ -1,4 +1,4 @@
-use Rattle.command_run.specs.CommandAnswers.{AnswersLogRecords, AnswersReportOf}
+use Rattle.command_run.specs.CommandAnswers.{AnswersFile, AnswersLogRecords, AnswersReportOf}
 use Rattle.command_run.specs.ReportAnswers.{AnswersGraph, AnswersRun}
 use Rattle.command_run.specs.Runs.{Wrote}
 use Rattle.command_run.proofs.Told.{lines_written}
@@ -24,4 +24,14 @@ returns-in-Records g c =
       said.1,
       lines_written (AnswersLogRecords c.in-Records.from c.in-Records.count said.0) (Wrote g.O.Output.contents g.O.Output.is_finished) (Wrote g.F.Output.contents g.F.Output.is_finished) c.args.out.now
           c.say_records.new.out c.args.file.now c.say_records.result c.of_lines-in-Records.result c.of_lines-in-Records.ensures said.2,
+    )
+
+pub returns-in-Frames : goal.returns-in-Frames
+returns-in-Frames g c =
+    let said = c.say_frames.ensures in
+    rw c.in-Frames.is (
+      said.0,
+      said.1,
+      lines_written (AnswersFile said.0) (Wrote g.O.Output.contents g.O.Output.is_finished) (Wrote g.F.Output.contents g.F.Output.is_finished) c.args.out.now
+          c.say_frames.new.out c.args.file.now c.say_frames.result c.of_lines-in-Frames.result c.of_lines-in-Frames.ensures said.2,
     )

@@ -1,9 +1,8 @@
-use Rattle.command_run.proofs.Judged.{accepted, only_memory, tied}
+use Rattle.std.proofs.lemmas.Result.{err_from_is_err_and}
+use Rattle.command_run.proofs.Judged.{fault_comes}
 use Rattle.command_run.proofs.commands.check.case_line.Goals as goal
 
-pub fault_of-requires : goal.fault_of-requires
-fault_of-requires g c =
-    let came = c.in_ok-case.field-0 in
-    only_memory came.case c.args.workers c.in-Err.error
-    (accepted came.case c.args.workers c.requires.some c.requires.few (tied g.S.Source.read_gives c.args.source.now c.read_case.new.source c.args.name.now came c.in_ok-case.ensures))
-    c.in-Err.ensures.err
+pub returns-in_err-line : goal.returns-in_err-line
+returns-in_err-line g c =
+    let p = err_from_is_err_and c.from_residual.result c.from_residual.ensures.1 in
+    rw (p.1, p.2) (fault_comes g.S.Source.read_gives c.args.source.now c.check_files.new.source c.args.name.now c.in_err-line.field-0.0 c.in_err-line.ensures)

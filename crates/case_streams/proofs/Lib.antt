@@ -1,0 +1,3 @@
+mod Closed
+mod Opened
+mod Together

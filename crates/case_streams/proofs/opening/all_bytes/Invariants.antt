@@ -1,0 +1,6 @@
+use Rattle.std.proofs.Common.{◌≡◌}
+use Rattle.case_streams.proofs.opening.all_bytes.Given as goal
+
+-- what came is kept
+abbrev pub invariant-loop : goal.invariant-loop
+invariant-loop g l = g.P.Pieces.came l.reader ≡ l.bytes.items

@@ -1,0 +1,141 @@
+//! The files of a case, opened.
+
+ghost use Rattle.std.specs.Prelude.{◌≡◌, true, [], length, option_map, string_bytes, IfOk};
+ghost use Rattle.stream_audit.specs.Streamed.{AreFresh};
+ghost use Rattle.case_streams.specs.Glue.{AreOpen, IsOpenOrder, IsOrderOf, has_fault, is_flawed};
+
+use byte_pieces::{PieceFault, Pieces};
+use bytes::Bytes;
+use case_files::Source;
+use log_lane::Lane;
+use merge_order::{Order, OrderError, read_order};
+use std::alloc::{AllocError, Global};
+use vat_log::{LogStream, ReadFault};
+
+/// How many bytes of an order are asked for at once.
+const PIECE: usize = 65_536;
+
+/// The logs of a case, of which the headers were read; up to the first that has none.
+#[derive(Drop)]
+pub(crate) struct OpenLogs<P: Pieces> {
+    /// The logs, in the order in which they are listed.
+    pub(crate) lanes: Vec<Lane<P>>,
+    /// The log behind them that has no header, with the reason.
+    pub(crate) headless: Option<(ReadFault, P)>,
+}
+
+/// Opens the logs of these names, in their order, up to the first that has no header.
+pub(crate) fn open_logs<S: Source>(
+    alloc: Global,
+    source: &mut S,
+    names: &[String],
+) -> Result<OpenLogs<S::Reader>, AllocError>
+    ensures same { source.new ≡ source.old }
+    ensures fresh { IfOk result (λ logs. AreFresh logs.lanes.items) }
+    ensures all { IfOk result (AreOpen S.Reader.came S.Reader.is_over (length names.now)) }
+{
+    let mut lanes = Vec::new(alloc);
+    for name in names {
+        match LogStream::begin(alloc, source.open(name.as_str())) {
+            Ok(stream) => lanes.push(Lane::new(alloc, stream))?,
+            Err(bad) => {
+                return Ok(OpenLogs {
+                    lanes,
+                    headless: Some(bad),
+                });
+            }
+        }
+    }
+    Ok(OpenLogs {
+        lanes,
+        headless: None,
+    })
+}
+
+/// All bytes that come.
+fn all_bytes<P: Pieces>(alloc: Global, reader: &mut P) -> Result<Bytes, PieceFault>
+    requires { P.came reader.old ≡ [] }
+    ensures came { IfOk result (λ bytes. P.came reader.new ≡ bytes) }
+    ensures over { IfOk result (λ bytes. P.is_over reader.new ≡ true) }
+{
+    let mut bytes = Vec::new(alloc);
+    for _ in 0..u64::MAX {
+        match reader.more(alloc, &[], PIECE)? {
+            Some(piece) => bytes.extend_from_slice(piece.as_slice())?,
+            None => return Ok(Bytes::from_vec(bytes)?),
+        }
+    }
+    Err(PieceFault::OutOfMemory)
+}
+
+/// Why a file has no order.
+#[derive(Clone, Copy)]
+pub(crate) enum OrderFault {
+    /// It can't be read.
+    CannotRead,
+    /// Its bytes are no order, or memory was refused.
+    Bad(OrderError),
+}
+
+/// The order that all bytes spell that come.
+fn order_of<P: Pieces>(alloc: Global, reader: &mut P) -> Result<Order, OrderFault>
+    requires { P.came reader.old ≡ [] }
+    ensures { IsOrderOf result (P.came reader.new) (P.is_over reader.new) }
+{
+    match all_bytes(alloc, reader) {
+        Ok(bytes) => match read_order(alloc, bytes) {
+            Ok(order) => Ok(order),
+            Err(fault) => Err(OrderFault::Bad(fault)),
+        },
+        Err(PieceFault::CannotRead) => Err(OrderFault::CannotRead),
+        Err(PieceFault::OutOfMemory) => Err(OrderFault::Bad(OrderError::OutOfMemory)),
+    }
+}
+
+/// The file of an order, which was read.
+#[derive(Drop)]
+pub(crate) struct OpenOrder<P: Pieces> {
+    /// What read it.
+    pub(crate) reader: P,
+    /// Why it has no order, if it has none.
+    pub(crate) fault: Option<OrderFault>,
+}
+
+/// The order of this name, if there is one, and its file.
+pub(crate) fn open_order<S: Source>(
+    alloc: Global,
+    source: &mut S,
+    name: &Option<String>,
+) -> (Option<Order>, Option<OpenOrder<S::Reader>>)
+    ensures same { source.new ≡ source.old }
+    ensures order { IsOpenOrder S.Reader.came S.Reader.is_over
+        (option_map string_bytes name.now) result.0 result.1 }
+{
+    let Some(name) = name else {
+        return (None, None);
+    };
+    let mut reader = source.open(name.as_str());
+    match order_of(alloc, &mut reader) {
+        Ok(order) => (
+            Some(order),
+            Some(OpenOrder {
+                reader,
+                fault: None,
+            }),
+        ),
+        Err(fault) => (
+            None,
+            Some(OpenOrder {
+                reader,
+                fault: Some(fault),
+            }),
+        ),
+    }
+}
+
+/// Whether a log has no header, or an order isn't one.
+pub(crate) fn is_flawed<P: Pieces>(logs: &OpenLogs<P>, order: &Option<OpenOrder<P>>) -> bool
+    ensures { result ≡ is_flawed logs.now order.now }
+{
+    logs.headless.is_some() || matches!(order, Some(OpenOrder { fault: Some(_), .. }))
+}

@@ -1,15 +1,15 @@
 //! How far calls have come.
 
-ghost use Rattle.std.specs.Prelude.{◌≡◌};
-ghost use Rattle.std.specs.Option.{option_copied};
-ghost use Rattle.number_tables.specs.Glue.CallStates.{aim_in, call_state_in, after_change};
+ghost use Rattle.std.specs.Prelude.{◌≡◌, Option};
+ghost use Rattle.number_tables.specs.Types.{Request};
+ghost use Rattle.number_tables.specs.Glue.CallStates.{call_state_in, leaves, asked_after, after_change};
 
-use decoded_records::{Request, View};
+use decoded_records::Request;
 
 /// What is known of a call that is bound.
 #[derive(Drop)]
 pub struct CallState {
-    /// What it asked for when it came to the vat, if it came.
+    /// What it asked for, while it is at the vat.
     pub asked: Option<Request>,
     /// Whether it is at the vat.
     pub at_vat: bool,
@@ -21,19 +21,10 @@ pub struct CallState {
     pub known: bool,
 }
 
-/// What is kept of a call that is bound: how far it has come, laid flat, since there is one for each call of a log.
-#[derive(Drop)]
+/// What is kept of each call of a log, to its end: how far it has come. What it asked for stands elsewhere, and no
+/// longer than it is at the vat.
+#[derive(Clone, Copy)]
 pub(crate) struct CallEntry {
-    /// The goal with which it came to the vat, where it came with one.
-    goal: View,
-    /// The interface for which it asked, where it came.
-    pub(crate) interface: u64,
-    /// The method for which it asked, where it came.
-    pub(crate) method: u16,
-    /// Whether it came to the vat.
-    pub(crate) came: bool,
-    /// Whether it has a goal, where it came.
-    aimed: bool,
     /// Whether it is at the vat.
     pub(crate) at_vat: bool,
     /// Whether it was delivered here, or is that of a received Bootstrap.
@@ -45,54 +36,10 @@ pub(crate) struct CallEntry {
 }
 
 impl CallEntry {
-    /// What is kept of a call that has come so far. It takes no memory.
-    pub(crate) fn new(progress: CallState) -> CallEntry
-        ensures { call_state_in result ≡ progress }
-    {
-        let CallState {
-            asked,
-            at_vat,
-            served,
-            settled,
-            known,
-        } = progress;
-        let (came, goal, interface, method) = match asked {
-            Some(
-                Request {
-                    goal,
-                    interface,
-                    method,
-                },
-            ) => (true, goal, interface, method),
-            None => (false, None, 0, 0),
-        };
-        let (aimed, goal) = match goal {
-            Some(view) => (true, view),
-            None => (false, View::Object(0)),
-        };
-        CallEntry {
-            goal,
-            interface,
-            method,
-            came,
-            aimed,
-            at_vat,
-            served,
-            settled,
-            known,
-        }
-    }
-
-    /// The goal with which it came to the vat, if it came with one.
-    pub(crate) fn goal(&self) -> Option<&View>
-        ensures { option_copied result ≡ aim_in self.now }
-    {
-        if self.aimed { Some(&self.goal) } else { None }
-    }
-
     /// This happens to the call.
     pub(crate) fn change(&mut self, step: CallChange)
-        ensures { call_state_in self.new ≡ after_change step (call_state_in self.old) }
+        ensures { (asked : Option Request) → call_state_in (asked_after step asked) self.new
+            ≡ after_change step (call_state_in asked self.old) }
     {
         match step {
             CallChange::Left => self.at_vat = false,
@@ -126,4 +73,16 @@ pub enum CallChange {
     Answered,
     /// A received Return makes its results known.
     Known,
+}
+
+impl CallChange {
+    /// Whether the call is at the vat no longer.
+    pub(crate) fn leaves(self) -> bool
+        ensures { result ≡ leaves self }
+    {
+        match self {
+            CallChange::Left | CallChange::Delivered | CallChange::Faulted => true,
+            CallChange::Answered | CallChange::Known => false,
+        }
+    }
 }

@@ -28,8 +28,12 @@ fn put_host(past: &Past<'_>, text: &mut String, object: u64) -> Result<(), Alloc
     }
 }
 
-/// Notes what a call was meant for and where that leads, and gives the view at which it ends.
+/// Notes what a call at the vat was meant for and where that leads, and gives the view at which it ends. None of a call
+/// that isn't there.
 fn put_goal(past: &Past<'_>, text: &mut String, call: u64) -> Result<Option<View>, AllocError> {
+    if !past.state.is_at_vat(call) {
+        return Ok(None);
+    }
     let _ = put_origin(past, text, call)?;
     let Some(goal) = past.state.goal_of(call)? else {
         return Ok(None);
@@ -70,7 +74,7 @@ fn put_delivered(
     }
 }
 
-/// Notes of a call that is sent on by another method, and says whether it is.
+/// Notes of a call at the vat that is sent on by another method, and says whether it is.
 fn put_method(
     past: &Past<'_>,
     text: &mut String,
@@ -78,6 +82,9 @@ fn put_method(
     interface: u64,
     method: u16,
 ) -> Result<bool, AllocError> {
+    if !past.state.is_at_vat(call) {
+        return Ok(false);
+    }
     let Some(asked) = past.state.request_of(call)? else {
         return Ok(false);
     };

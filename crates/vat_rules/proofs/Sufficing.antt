@@ -1,7 +1,7 @@
 -- Which rules a record can't break, by its kind: those that it is asked suffice.
 use Rattle.std.proofs.Common.{◌≡◌, inl, inr, ◌≤◌, ℕ, List, [], ◌∷◌, ◌++◌, length, refl, sym, ◌∙◌, ap, subst, arith, Bool, true, false, if◌then◌else◌}
 use Rattle.std.proofs.lemmas.Bool.{false≢true}
-use Rattle.std.specs.Prelude.{IsTrue, not, ◌||◌}
+use Rattle.std.specs.Prelude.{IsTrue, not, ◌||◌, ⊤}
 use Rattle.std.specs.List.{AllByRecursion, filter, filter_map, list_all, zip}
 use Rattle.decoded_records.specs.Past.{Past}
 use Rattle.decoded_records.specs.Questions.{is_late, is_unfinished}
@@ -88,6 +88,52 @@ remain_broken edition before e rule rest next all is broken so = so.broken rule 
 
 pub remain_none : (edition : Edition) (before : Past) (e : DecodedRecord) (rest all : List Rule) → rest ≡ [] → Remain edition before e rest all → MeetsEach edition all before e
 remain_none edition before e rest all none so = so.met (subst (λ xs. MeetsEach edition xs before e) (sym none) tt)
+
+-- ---- HERE is tried before GOAL
+
+-- of the rules that are still to be tried, HERE stands before GOAL; or else it is met
+abbrev pub HereFirst : Past → DecodedRecord → List Rule → Type 0
+HereFirst before e [] = ⊤
+HereFirst before e (rule.Here ∷ rest) = ⊤
+HereFirst before e (rule.Goal ∷ rest) = IsHere before e
+HereFirst before e (_ ∷ rest) = HereFirst before e rest
+
+-- where HERE is met, any rules may be tried
+one_more : (before : Past) (e : DecodedRecord) (each : Rule) (rest : List Rule) → IsHere before e → HereFirst before e rest → HereFirst before e (each ∷ rest)
+one_more before e rule.Here rest met first = tt
+one_more before e rule.Goal rest met first = met
+one_more before e _ rest met first = first
+
+here_met : (before : Past) (e : DecodedRecord) (rest : List Rule) → IsHere before e → HereFirst before e rest
+here_met before e [] met = tt
+here_met before e (each ∷ rest) met = one_more before e each rest met (here_met before e rest met)
+
+-- it is so behind a rule that was met
+behind : (before : Past) (e : DecodedRecord) (edition : Edition) (each : Rule) (next : List Rule) → Meets edition each before e → HereFirst before e (each ∷ next) → HereFirst before e next
+behind before e edition rule.Here next met first = here_met before e next met
+behind before e edition rule.Goal next met first = here_met before e next first
+behind before e edition _ next met first = first
+
+pub here_next : (edition : Edition) (before : Past) (e : DecodedRecord) (each : Rule) (rest next : List Rule) → rest ≡ each ∷ next → Meets edition each before e → HereFirst before e rest → HereFirst before e next
+here_next edition before e each rest next is met first = behind before e edition each next met (subst (HereFirst before e) is first)
+
+-- so a record for which GOAL is tried next meets HERE
+pub here_at_goal : (before : Past) (e : DecodedRecord) (each : Rule) (rest next : List Rule) → rest ≡ each ∷ next → HereFirst before e rest → each ≡ rule.Goal → IsHere before e
+here_at_goal before e each rest next is first goal = subst (λ rule. HereFirst before e (rule ∷ next)) goal (subst (HereFirst before e) is first)
+
+passed_over : (before : Past) (e : DecodedRecord) (each : Rule) (rest : List Rule) (b : Bool) → (HereFirst before e rest → HereFirst before e (each ∷ rest)) → HereFirst before e rest → HereFirst before e (if b then each ∷ rest else rest)
+passed_over before e each rest true other first = other first
+passed_over before e each rest false other first = first
+
+asked_here : (before : Past) (e : DecodedRecord) (rest : List Rule) (b : Bool) → (b ≡ false → IsHere before e) → HereFirst before e (if b then rule.Here ∷ rest else rest)
+asked_here before e rest true met = tt
+asked_here before e rest false met = here_met before e rest (met refl)
+
+-- of rules that suffice HERE is tried before GOAL, or else is met by every record of this kind
+pub here_first : (edition : Edition) (before : Past) (e : DecodedRecord) (some : List Rule) → Suffice e some → HereFirst before e some
+here_first edition before e some (may_break, is, others) = subst (HereFirst before e) (sym is)
+    (passed_over before e rule.Closed _ (may_break rule.Closed) (λ h. h) (passed_over before e rule.Ref _ (may_break rule.Ref) (λ h. h) (passed_over before e rule.Vow _ (may_break rule.Vow) (λ h. h)
+    (asked_here before e _ (may_break rule.Here) (λ h. others rule.Here h edition before)))))
 
 -- ---- what carries no capability notes and describes none
 

@@ -2,6 +2,7 @@
 
 ghost use Rattle.std.specs.Prelude.{◌≡◌, Decides, IfOk, MatchOption};
 ghost use Rattle.vat_rules.specs.Rules.{Meets, rules};
+ghost use Rattle.vat_rules.specs.OfCalls.{IsHere};
 ghost use Rattle.vat_rules.specs.Judged.{IsGoodBy, BreaksFirst};
 ghost use Rattle.vat_rules.specs.Glue.Facts.{facts_before};
 
@@ -18,6 +19,7 @@ use std::alloc::{AllocError, Global};
 use vat_view::{DecodedRecord, VatState};
 
 /// Whether a record meets a rule of an edition, by the state of the records before it and by what its numbers stand for.
+/// GOAL is asked only of a record that meets HERE: what a call asked for is known while it is at the vat.
 fn meets(
     alloc: Global,
     edition: Edition,
@@ -26,7 +28,8 @@ fn meets(
     event: &DecodedRecord,
     facts: &PlainFacts,
 ) -> Result<bool, AllocError>
-    requires { facts.now ≡ facts_before state.now event.now }
+    requires facts { facts.now ≡ facts_before state.now event.now }
+    requires here { rule ≡ Rule.Goal → IsHere state.now event.now }
     ensures { IfOk result (λ met. Decides met (Meets edition rule state.now event.now)) }
 {
     match rule {

@@ -7,7 +7,7 @@ use Rattle.number_tables.specs.declared.exports_imports.ExportsImports.{ExportsI
 use Rattle.vat_view.specs.declared.tables.references.BoundReferences.{BoundReferences}
 use Rattle.number_tables.specs.declared.calls.Calls.{Calls}
 use Rattle.number_tables.specs.declared.call_state.CallState.{CallState}
-use Rattle.vat_view.specs.Glue.CallTables.{CallEffect, Begins, call_state_of, effect_by, effect_of, after_effect}
+use Rattle.vat_view.specs.Glue.CallTables.{CallEffect, Begins, asked_of, call_state_of, effect_by, effect_of, after_effect}
 use Rattle.vat_view.specs.Types.{DecodedRecord}
 use Rattle.decoded_records.specs.Past.{Past}
 use Rattle.decoded_records.specs.Questions.{is_late, call_at, opening}
@@ -56,12 +56,12 @@ module _ (before : Past) (questions : Questions) (lives : ExportsImports) (bound
   }
     where
       unbound : (c : ℕ) → is_bound_call before c ≡ false → call_state_of c before ≡ None
-      unbound c h = ap (λ b. if b then Some (record { asked = request_of c before; at_vat = is_at_vat c before; served = is_served c before; settled = is_settled c before; known = is_known c before }) else None) h
+      unbound c h = ap (λ b. if b then Some (record { asked = asked_of c before; at_vat = is_at_vat c before; served = is_served c before; settled = is_settled c before; known = is_known c before }) else None) h
 
 -- ---- what is asked of a call
 
 abbrev so_far : ℕ → Past → Bool → Option CallState
-so_far c past b = if b then Some (record { asked = request_of c past; at_vat = is_at_vat c past; served = is_served c past; settled = is_settled c past; known = is_known c past }) else None
+so_far c past b = if b then Some (record { asked = asked_of c past; at_vat = is_at_vat c past; served = is_served c past; settled = is_settled c past; known = is_known c past }) else None
 
 module _ (past : Past) (questions : Questions) (lives : ExportsImports) (bound : BoundReferences) (calls : Calls) (kept : AreKept past questions lives bound calls) (c : ℕ) where
   either : {A : Type 0} (f : Option CallState → A) (x : A) → f (so_far c past true) ≡ x → (IsUnknown c past → f (so_far c past false) ≡ x) → f (call_state_at calls c) ≡ x
@@ -70,11 +70,15 @@ module _ (past : Past) (questions : Questions) (lives : ExportsImports) (bound :
     | inr bad ↦ ap (λ b. f (so_far c past b)) bad ∙ nowhere (unknown past kept.sound c bad)
   ]
 
-  pub asked_known : request_in (call_state_at calls c) ≡ request_of c past
-  asked_known = either (λ p. request_in p) (request_of c past) refl (λ u. sym u.asked)
+  asked_so : request_in (call_state_at calls c) ≡ asked_of c past
+  asked_so = either (λ p. request_in p) (asked_of c past) refl (λ u. sym (ap (λ o. if unwrap_or o false then request_of c past else None) u.moved))
 
-  pub goal_known : goal_in (call_state_at calls c) ≡ goal_of c past
-  goal_known = ap (λ a. option_and_then (λ a. a.goal) a) asked_known
+  -- of a call that is at the vat
+  pub asked_known : is_at_vat c past ≡ true → request_in (call_state_at calls c) ≡ request_of c past
+  asked_known here = asked_so ∙ ap (λ b. if b then request_of c past else None) here
+
+  pub goal_known : is_at_vat c past ≡ true → goal_in (call_state_at calls c) ≡ goal_of c past
+  goal_known here = ap (λ a. option_and_then (λ a. a.goal) a) (asked_known here)
 
   pub at_vat_known : at_vat_in (call_state_at calls c) ≡ is_at_vat c past
   at_vat_known = either (λ p. at_vat_in p) (is_at_vat c past) refl (λ u. sym (ap (λ o. unwrap_or o false) u.moved))

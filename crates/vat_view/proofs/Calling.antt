@@ -7,7 +7,7 @@ use Rattle.std.proofs.lemmas.Bool.{and_parts, eqb-true, not-true}
 use Rattle.number_tables.specs.declared.call_state.CallState.{CallState}
 use Rattle.number_tables.specs.declared.call_state.CallChange.{CallChange}
 use Rattle.number_tables.specs.declared.call_state.CallChange.TheVariants.{Left, Delivered, Faulted, Answered, Known}
-use Rattle.vat_view.specs.Glue.CallTables.{Nothing, Begins, call_state_of, arriving_call, bootstrap_call, change_of_call, sent_effect, received_effect, effect_from, effect_of, after_effect}
+use Rattle.vat_view.specs.Glue.CallTables.{Nothing, Begins, asked_of, call_state_of, arriving_call, bootstrap_call, change_of_call, sent_effect, received_effect, effect_from, effect_of, after_effect}
 use Rattle.vat_view.specs.Types.{Bootstrap, Call, Return, Results, Exception, Canceled, TakeFrom, DecodedRecord, Make, Deliver, Answer, AnswerBy, Fault, Wire, View, Request, TableKey}
 use Rattle.decoded_records.specs.Past.{Past, Point, point, id, is, last_answer, last_where, Each}
 use Rattle.decoded_records.specs.Questions.{opening, call_at, is_late}
@@ -53,10 +53,12 @@ module _ (c : ℕ) (before : Past) where
   same_progress a v s t k e f g = ap (λ x. Some (so_far a v x t k)) e ∙ ap (λ x. Some (so_far a v false x k)) f ∙ ap (λ x. Some (so_far a v false false x)) g
 
   -- it comes to the vat
+  abbrev there : Request → Bool → Bool
+  there a b = unwrap_or (option_or (if is_some (if b then Some a else None) then Some true else if false then Some false else None) (last_answer (moves c) before)) false
+
   abbrev brought : Request → Bool → Option CallState
   brought a b =
-      if (b || false) || is_bound_call before c then Some (so_far (option_or (if b then Some a else None) (request_of c before))
-      (unwrap_or (option_or (if is_some (if b then Some a else None) then Some true else if false then Some false else None) (last_answer (moves c) before)) false)
+      if (b || false) || is_bound_call before c then Some (so_far (if there a b then option_or (if b then Some a else None) (request_of c before) else None) (there a b)
       (is_served c before) (is_settled c before) (is_known c before)) else None
 
   served_none : IsUnknown c before → is_served c before ≡ false
@@ -70,7 +72,7 @@ module _ (c : ℕ) (before : Past) where
   -- it is that of a Bootstrap
   abbrev booted : Point → Bool → Bool → Option CallState
   booted p received b =
-      if (b || false) || is_bound_call before c then Some (so_far (request_of c before) (is_at_vat c before)
+      if (b || false) || is_bound_call before c then Some (so_far (asked_of c before) (is_at_vat c before)
       (has_passed (delivers c) before || is_some (if received && b then Some p else last_where (boots c) before)) (is_settled c before) (is_known c before)) else None
 
   same_begun : (a : Option Request) (v s t k r : Bool) → a ≡ None → v ≡ false → s ≡ r → t ≡ false → k ≡ false → Some (so_far a v s t k) ≡ Some (so_far None false r false false)
@@ -81,22 +83,31 @@ module _ (c : ℕ) (before : Past) where
   at_vat_none : IsUnknown c before → is_at_vat c before ≡ false
   at_vat_none unknown = ap (λ o. unwrap_or o false) unknown.moved
 
+  asked_none : IsUnknown c before → asked_of c before ≡ None
+  asked_none unknown = ap (λ b. if b then request_of c before else None) (at_vat_none unknown)
+
   booted_step : (p : Point) (received b : Bool) → (b ≡ true → IsUnknown c before) → booted p received b ≡ (if b then Some (bootstrap_call received) else call_state_of c before)
   booted_step p true true h = let u : IsUnknown c before = h refl in
-      same_begun (request_of c before) (is_at_vat c before) (has_passed (delivers c) before || true) (is_settled c before) (is_known c before) true u.asked (at_vat_none u)
+      same_begun (asked_of c before) (is_at_vat c before) (has_passed (delivers c) before || true) (is_settled c before) (is_known c before) true (asked_none u) (at_vat_none u)
       (ap (λ b. b || true) u.delivered) u.settled u.known
   booted_step p false true h = let u : IsUnknown c before = h refl in
-      same_begun (request_of c before) (is_at_vat c before) (is_served c before) (is_settled c before) (is_known c before) false u.asked (at_vat_none u) (served_none u) u.settled u.known
+      same_begun (asked_of c before) (is_at_vat c before) (is_served c before) (is_settled c before) (is_known c before) false (asked_none u) (at_vat_none u) (served_none u) u.settled u.known
   booted_step p true false h = refl
   booted_step p false false h = refl
 
   -- this happens to it
   abbrev progress_if : Bool → Option CallState
-  progress_if bound = if bound then Some (so_far (request_of c before) (is_at_vat c before) (is_served c before) (is_settled c before) (is_known c before)) else None
+  progress_if bound = if bound then Some (so_far (asked_of c before) (is_at_vat c before) (is_served c before) (is_settled c before) (is_known c before)) else None
+
+  abbrev stays : Bool → Bool
+  stays b = unwrap_or (option_or (if b then Some false else None) (last_answer (moves c) before)) false
+
+  abbrev kept : Bool → Option Request
+  kept b = if stays b then request_of c before else None
 
   abbrev left : Bool → Bool → Option CallState
   left b bound =
-      if bound then Some (so_far (request_of c before) (unwrap_or (option_or (if b then Some false else None) (last_answer (moves c) before)) false) (is_served c before) (is_settled c before)
+      if bound then Some (so_far (kept b) (stays b) (is_served c before) (is_settled c before)
       (is_known c before)) else None
 
   left_step : (b bound : Bool) → left b bound ≡ (if b then option_map (after_change Left) (progress_if bound) else progress_if bound)
@@ -106,7 +117,7 @@ module _ (c : ℕ) (before : Past) where
 
   abbrev delivered : Point → Bool → Bool → Option CallState
   delivered p b bound =
-      if bound then Some (so_far (request_of c before) (unwrap_or (option_or (if b then Some false else None) (last_answer (moves c) before)) false)
+      if bound then Some (so_far (kept b) (stays b)
       (is_some (if b then Some p else last_where (delivers c) before) || has_passed (boots c) before) (is_settled c before) (is_known c before)) else None
 
   delivered_step : (p : Point) (b bound : Bool) → delivered p b bound ≡ (if b then option_map (after_change Delivered) (progress_if bound) else progress_if bound)
@@ -116,7 +127,7 @@ module _ (c : ℕ) (before : Past) where
 
   abbrev faulted : Point → Bool → Bool → Option CallState
   faulted p b bound =
-      if bound then Some (so_far (request_of c before) (unwrap_or (option_or (if b then Some false else None) (last_answer (moves c) before)) false) (is_served c before)
+      if bound then Some (so_far (kept b) (stays b) (is_served c before)
       (is_some (if b then Some p else last_where (settles c) before)) (is_known c before)) else None
 
   faulted_step : (p : Point) (b bound : Bool) → faulted p b bound ≡ (if b then option_map (after_change Faulted) (progress_if bound) else progress_if bound)
@@ -126,7 +137,7 @@ module _ (c : ℕ) (before : Past) where
 
   abbrev answered : Point → Bool → Bool → Option CallState
   answered p b bound =
-      if bound then Some (so_far (request_of c before) (is_at_vat c before) (is_served c before)
+      if bound then Some (so_far (asked_of c before) (is_at_vat c before) (is_served c before)
       (is_some (if b then Some p else last_where (settles c) before)) (is_some (if b then Some p else last_where (knows c) before))) else None
 
   answered_step : (p : Point) (b bound : Bool) → answered p b bound ≡ (if b then option_map (after_change Answered) (progress_if bound) else progress_if bound)
@@ -136,7 +147,7 @@ module _ (c : ℕ) (before : Past) where
 
   abbrev made_known : Point → Bool → Bool → Option CallState
   made_known p b bound =
-      if bound then Some (so_far (request_of c before) (is_at_vat c before) (is_served c before) (is_settled c before) (is_some (if b then Some p else last_where (knows c) before))) else None
+      if bound then Some (so_far (asked_of c before) (is_at_vat c before) (is_served c before) (is_settled c before) (is_some (if b then Some p else last_where (knows c) before))) else None
 
   known_step : (p : Point) (b bound : Bool) → made_known p b bound ≡ (if b then option_map (after_change Known) (progress_if bound) else progress_if bound)
   known_step p true true = refl

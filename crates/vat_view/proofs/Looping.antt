@@ -153,7 +153,7 @@ module _ (past : Past) (questions : Questions) (lives : ExportsImports) (bound :
     (i : TableKey) where
   -- by the goals that the table of calls has
   all_queued : AreQueued waits.inbox calls
-  all_queued c r h = subst (λ g. is_queued waits.inbox (queued_at c r g) ≡ true) (sym (goal_known past questions lives bound calls kept c)) (embargoed_view.queued c r (sym (embargoed_view.received c) ∙ h))
+  all_queued c r h = subst (λ g. is_queued waits.inbox (queued_at c r g) ≡ true) (sym (goal_known past questions lives bound calls kept c (here_parts c past r (sym (embargoed_view.received c) ∙ h)).0)) (embargoed_view.queued c r (sym (embargoed_view.received c) ∙ h))
 
   pub held_decided : (u : Unechoed) → loopback_at waits.loopbacks i ≡ Some u → (b : Bool) → (AreQueued waits.inbox calls → Decides b (Holding waits.inbox calls i.connection u)) → Decides b (IsHeldUp i past)
   held_decided u there b decides = (
@@ -170,7 +170,7 @@ module _ (past : Past) (questions : Questions) (lives : ExportsImports) (bound :
           (
             call,
             subst (λ k. has_passed (receives_call k call) p.before ≡ true) holds.3 passed,
-            sym (goal_known past questions lives bound calls kept call) ∙ holds.5 ∙ sym (ap (λ x. x.target) known.2),
+            sym (goal_known past questions lives bound calls kept call here.0) ∙ holds.5 ∙ sym (ap (λ x. x.target) known.2),
             here.0,
           ),
         )),
@@ -185,7 +185,7 @@ module _ (past : Past) (questions : Questions) (lives : ExportsImports) (bound :
           at,
           got.2,
           subst (λ x. got.0.number < x.number) same got.3,
-          goal_known past questions lives bound calls kept call ∙ held.2.2 ∙ ap (λ x. x.target) same,
+          goal_known past questions lives bound calls kept call held.2.3 ∙ held.2.2 ∙ ap (λ x. x.target) same,
         )),
   )
 

@@ -16,12 +16,10 @@ use Rattle.vat_view.specs.declared.tables.waits.queued_call.QueuedCall.{QueuedCa
 use Rattle.vat_view.specs.contracts.tables.turns.goal_key.GoalKeyOrd.TheImpl as heading_order
 use Rattle.vat_view.specs.contracts.tables.turns.goal_key.GoalKeyOrd.TheImpl.Laws as heading_laws
 use Rattle.vat_view.specs.contracts.tables.waits.queued_call.QueuedCallOrd.TheImpl.Laws as queued_laws
-use Rattle.number_tables.specs.declared.calls.Calls.{Calls}
 use Rattle.vat_view.specs.declared.tables.waits.waiting_calls.Receipt.{Receipt}
 use Rattle.vat_view.specs.declared.tables.waits.waiting_calls.WaitingCalls.{WaitingCalls}
 use Rattle.decoded_records.specs.Past.{is as taken_is}
-use Rattle.number_tables.specs.Glue.CallStates.{call_state_at, goal_in}
-use Rattle.vat_view.specs.Glue.Queues.{queued_at, queued_cmp, is_queued, ahead_of}
+use Rattle.vat_view.specs.Glue.Queues.{queued_under, queued_cmp, is_queued, ahead_of}
 use Rattle.vat_view.specs.Glue.LoopTables.{receipt_at, HasLeft}
 
 some_same : {A : Type 0} {x y : A} → Some x ≡ Some y → x ≡ y
@@ -100,11 +98,11 @@ tied_call p q tied =
     (last (heading_cmp p.heading q.heading) numbers (last (nat_cmp p.connection q.connection) (ordering_then (heading_cmp p.heading q.heading) numbers) tied)))
 
 -- a call that is taken out of both tables has left the queue
-pub has_left : (old : WaitingCalls) (calls : Calls) (taken : Option ℕ) (c : ℕ) → taken ≡ Some c → (found : Receipt) → get nat_cmp old.entries c ≡ Some (Some found) →
-    (new : WaitingCalls) (q : QueuedCall) → q ≡ queued_at c found (goal_in (call_state_at calls c)) → get queued_cmp new.queue q ≡ None → HasLeft taken old calls new
-has_left old calls taken c is found there new q named gone call r same was =
+pub has_left : (old : WaitingCalls) (heading : GoalKey) (taken : Option ℕ) (c : ℕ) → taken ≡ Some c → (found : Receipt) → get nat_cmp old.entries c ≡ Some (Some found) →
+    (new : WaitingCalls) (q : QueuedCall) → q ≡ queued_under c found heading → get queued_cmp new.queue q ≡ None → HasLeft taken old heading new
+has_left old heading taken c is found there new q named gone call r same was =
     let one : c ≡ call = eqb-true c call (sym (ap (λ o. taken_is call o) is) ∙ same) in
     let had : receipt_at old c ≡ Some r = subst (λ x. receipt_at old x ≡ Some r) (sym one) was in
     let first : found ≡ r = some_same (sym (ap (λ o. option_and_then (λ y. y) o) there) ∙ had) in
-    subst (λ x. is_queued new (queued_at x r (goal_in (call_state_at calls x))) ≡ false) one
-    (subst (λ y. is_queued new (queued_at c y (goal_in (call_state_at calls c))) ≡ false) first (subst (λ x. is_queued new x ≡ false) named (ap (λ o. is_some o) gone)))
+    subst (λ x. is_queued new (queued_under x r heading) ≡ false) one
+    (subst (λ y. is_queued new (queued_under c y heading) ≡ false) first (subst (λ x. is_queued new x ≡ false) named (ap (λ o. is_some o) gone)))

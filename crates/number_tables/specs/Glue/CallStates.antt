@@ -1,5 +1,7 @@
 -- For the code's contracts, and no part of the meaning: the table of calls, and what it answers.
 use Rattle.std.specs.Prelude.{ℕ, ◌==◌, ◌&&◌, Bool, true, false, Option, Some, None, if◌then◌else◌, option_map, option_and_then}
+use Rattle.std.specs.BTreeMap.{get}
+use Rattle.std.specs.Ordering.{nat_cmp}
 use Rattle.std.specs.Str.{bytes_eq as same_path}
 use Rattle.rising_table.specs.Entries.{entry_at}
 use Rattle.number_tables.specs.declared.calls.Calls.{Calls}
@@ -9,23 +11,17 @@ use Rattle.number_tables.specs.declared.call_state.CallChange.{CallChange}
 use Rattle.number_tables.specs.declared.call_state.CallChange.TheVariants.{Left, Delivered, Faulted, Answered, Known}
 use Rattle.number_tables.specs.Types.{View, Object, Promise, FieldOf, Import, Request}
 
--- the goal that an entry has
-abbrev pub aim_in : CallEntry → Option View
-aim_in entry = if entry.aimed then Some entry.goal else None
+-- what is known of a call with this entry that asked for this, while it is at the vat
+abbrev pub call_state_in : Option Request → CallEntry → CallState
+call_state_in asked entry = record { asked = asked; at_vat = entry.at_vat; served = entry.served; settled = entry.settled; known = entry.known }
 
--- what an entry says of a call
-abbrev pub call_state_in : CallEntry → CallState
-call_state_in entry = record {
-  asked = if entry.came then Some (record { goal = aim_in entry; interface = entry.interface; method = entry.method }) else None;
-  at_vat = entry.at_vat;
-  served = entry.served;
-  settled = entry.settled;
-  known = entry.known;
-}
+-- what the table keeps of what a call asked for
+abbrev pub asked_at : Calls → ℕ → Option Request
+asked_at table c = get nat_cmp table.requests c
 
 -- what the table has of a call
 abbrev pub call_state_at : Calls → ℕ → Option CallState
-call_state_at table c = option_map call_state_in (entry_at table.entries c)
+call_state_at table c = option_map (call_state_in (asked_at table c)) (entry_at table.entries c)
 
 -- what a call's entry says of it
 abbrev pub request_in : Option CallState → Option Request
@@ -51,11 +47,23 @@ abbrev pub known_in : Option CallState → Bool
 known_in (Some p) = p.known
 known_in None = false
 
--- how far a call has come after this happened to it
+-- a call to which this happens is at the vat no longer
+abbrev pub leaves : CallChange → Bool
+leaves Left = true
+leaves Delivered = true
+leaves Faulted = true
+leaves Answered = false
+leaves Known = false
+
+-- what is kept of what it asked for
+abbrev pub asked_after : CallChange → Option Request → Option Request
+asked_after step asked = if leaves step then None else asked
+
+-- how far a call has come after this happened to it, and what it asked for, while it is at the vat
 abbrev pub after_change : CallChange → CallState → CallState
-after_change Left p = record p { at_vat = false }
-after_change Delivered p = record p { at_vat = false; served = true }
-after_change Faulted p = record p { at_vat = false; settled = true }
+after_change Left p = record p { asked = None; at_vat = false }
+after_change Delivered p = record p { asked = None; at_vat = false; served = true }
+after_change Faulted p = record p { asked = None; at_vat = false; settled = true }
 after_change Answered p = record p { settled = true; known = true }
 after_change Known p = record p { known = true }
 

@@ -1,6 +1,6 @@
 //! The rules on calls: where they are, where they go, and when they are answered.
 
-ghost use Rattle.std.specs.Prelude.{◌≡◌, ◌&&◌, ◌||◌, not, Decides, IfOk, IsSomeAnd, Some};
+ghost use Rattle.std.specs.Prelude.{◌≡◌, ◌&&◌, ◌||◌, not, Decides, IfOk, IsSomeAnd, IsTrue, Some};
 ghost use Rattle.std.specs.Option.{option_copied};
 ghost use Rattle.vat_rules.specs.Types.{Object};
 ghost use Rattle.decoded_records.specs.Views.{view_of_target};
@@ -30,8 +30,9 @@ pub(crate) fn is_here(state: &VatState, event: &DecodedRecord) -> bool
     }
 }
 
-/// Whether a call's goal leads to this object of the vat.
+/// Whether the goal of a call at the vat leads to this object of the vat.
 fn reaches_object(state: &VatState, call: u64, object: u64) -> Result<bool, AllocError>
+    requires { IsTrue (is_at_vat call state.now) }
     ensures { IfOk result (λ b.
         Decides b (LeadsTo state.now (goal_of call state.now) (Some (Object object)))) }
 {
@@ -40,7 +41,7 @@ fn reaches_object(state: &VatState, call: u64, object: u64) -> Result<bool, Allo
     Ok(leads_to(state, goal.as_ref(), Some(&object)))
 }
 
-/// Whether a call asked for this method of this interface, and its goal leads to this target.
+/// Whether a call at the vat asked for this method of this interface, and its goal leads to this target.
 fn is_asked(
     state: &VatState,
     target: Option<&View>,
@@ -48,6 +49,7 @@ fn is_asked(
     interface: u64,
     method: u16,
 ) -> Result<bool, AllocError>
+    requires { IsTrue (is_at_vat call state.now) }
     ensures { IfOk result (λ b.
         Decides b (IsSomeAnd (request_of call state.now) (λ a.
         LeadsTo state.now a.goal (option_copied target.entry)
@@ -62,13 +64,14 @@ fn is_asked(
     Ok(leads_to(state, asked.goal.as_ref(), target))
 }
 
-/// Whether a call that is delivered or sent on goes where its goal leads, and by its own method.
+/// Whether a call that is delivered or sent on, and is at the vat, goes where its goal leads, and by its own method.
 pub(crate) fn goes_to_goal(
     state: &VatState,
     event: &DecodedRecord,
     target: Option<&View>,
 ) -> Result<bool, AllocError>
-    requires { option_copied target ≡ view_of_target state.now event.now }
+    requires target { option_copied target ≡ view_of_target state.now event.now }
+    requires here { IsHere state.now event.now }
     ensures { IfOk result (λ b. Decides b (GoesToGoal state.now event.now)) }
 {
     match event {

@@ -7,7 +7,7 @@ use Rattle.number_tables.specs.declared.calls.Calls.{Calls}
 use Rattle.number_tables.specs.declared.call_state.CallState.{CallState}
 use Rattle.number_tables.specs.declared.call_state.CallChange.{CallChange}
 use Rattle.number_tables.specs.declared.call_state.CallChange.TheVariants.{Left, Delivered, Faulted, Answered, Known}
-use Rattle.vat_view.specs.Types.{Bootstrap, Call, Return, Results, Exception, Canceled, TakeFrom, DecodedRecord, Make, Deliver, Answer, AnswerBy, Fault, Wire, View, TableKey}
+use Rattle.vat_view.specs.Types.{Bootstrap, Call, Return, Results, Exception, Canceled, TakeFrom, DecodedRecord, Make, Deliver, Answer, AnswerBy, Fault, Wire, View, Request, TableKey}
 use Rattle.decoded_records.specs.Past.{Past, id}
 use Rattle.decoded_records.specs.Questions.{is_late, call_at, opening}
 use Rattle.decoded_records.specs.Views.{view_of_reference, view_of_target}
@@ -17,10 +17,14 @@ use Rattle.number_tables.specs.Glue.QuestionTables.{late_by, opening_call_in}
 use Rattle.vat_view.specs.Glue.Asking.{targeted_by, taken_from_by}
 use Rattle.number_tables.specs.Glue.CallStates.{call_state_at, after_change}
 
+-- what a call asked for, while it is at the vat
+abbrev pub asked_of : ℕ → Past → Option Request
+asked_of c past = if is_at_vat c past then request_of c past else None
+
 -- what looking back finds of a call that is bound
 abbrev pub call_state_of : ℕ → Past → Option CallState
 call_state_of c past =
-    if is_bound_call past c then Some (record { asked = request_of c past; at_vat = is_at_vat c past; served = is_served c past; settled = is_settled c past; known = is_known c past }) else None
+    if is_bound_call past c then Some (record { asked = asked_of c past; at_vat = is_at_vat c past; served = is_served c past; settled = is_settled c past; known = is_known c past }) else None
 
 -- the table of calls has what looking back finds
 abbrev pub AreCalled : Past → Calls → Type 0

@@ -5,6 +5,7 @@ use Rattle.std.specs.Ordering.{nat_cmp}
 use Rattle.number_tables.specs.declared.question.Question.{Question}
 use Rattle.number_tables.specs.declared.exports_imports.ExportsImports.{ExportsImports}
 use Rattle.number_tables.specs.declared.calls.Calls.{Calls}
+use Rattle.vat_view.specs.declared.tables.turns.goal_key.GoalKey.{GoalKey}
 use Rattle.vat_view.specs.declared.tables.waits.waiting_calls.Receipt.{Receipt}
 use Rattle.vat_view.specs.declared.tables.waits.waiting_calls.WaitingCalls.{WaitingCalls}
 use Rattle.vat_view.specs.declared.tables.waits.queued_call.QueuedCall.{QueuedCall}
@@ -20,7 +21,7 @@ use Rattle.decoded_records.specs.Glue.Parts.{id_cmp}
 use Rattle.number_tables.specs.Glue.QuestionTables.{opening_call_in}
 use Rattle.vat_view.specs.Glue.Asking.{targeted_by}
 use Rattle.number_tables.specs.Glue.CallStates.{call_state_at, goal_in, same_target}
-use Rattle.vat_view.specs.Glue.Queues.{queued_at, is_queued, Stay, OthersStay}
+use Rattle.vat_view.specs.Glue.Queues.{goal_key_of, queued_under, queued_at, is_queued, Stay, OthersStay}
 
 -- ---- loopbacks
 
@@ -115,9 +116,13 @@ queued_by named lives known number e = option_map (λ x. queued_at x.0 x.1 (targ
 abbrev pub AreQueued : WaitingCalls → Calls → Type 0
 AreQueued table calls = (call : ℕ) (r : Receipt) → receipt_at table call ≡ Some r → is_queued table (queued_at call r (goal_in (call_state_at calls call))) ≡ true
 
--- the call that is taken, if it was at the vat, stands in the queue no longer
-abbrev pub HasLeft : Option ℕ → WaitingCalls → Calls → WaitingCalls → Type 0
-HasLeft taken old calls new = (call : ℕ) (r : Receipt) → is call taken ≡ true → receipt_at old call ≡ Some r → is_queued new (queued_at call r (goal_in (call_state_at calls call))) ≡ false
+-- the heading of the goal of the call that is taken, if there is one, by the table of calls before it leaves
+abbrev pub heading_taken : Calls → Option ℕ → GoalKey
+heading_taken calls taken = goal_key_of (option_and_then (λ call. goal_in (call_state_at calls call)) taken)
+
+-- the call that is taken, if it was at the vat, stands under this heading in the queue no longer
+abbrev pub HasLeft : Option ℕ → WaitingCalls → GoalKey → WaitingCalls → Type 0
+HasLeft taken old heading new = (call : ℕ) (r : Receipt) → is call taken ≡ true → receipt_at old call ≡ Some r → is_queued new (queued_under call r heading) ≡ false
 
 -- ---- what holds an echo up
 

@@ -30,9 +30,13 @@ goal_key_of (Some (FieldOf call path)) = ToField call (digest_of path)
 goal_key_of (Some (Import number place)) = ToImport number place
 goal_key_of None = Nowhere
 
--- a call in the queue, by where it was received and where it goes
+-- a call in the queue, by where it was received and the heading of where it goes
+abbrev pub queued_under : ℕ → Receipt → GoalKey → QueuedCall
+queued_under call receipt heading = record { connection = receipt.connection; heading = heading; number = receipt.number; call = call }
+
+-- by where it goes
 abbrev pub queued_at : ℕ → Receipt → Option View → QueuedCall
-queued_at call receipt goal = record { connection = receipt.connection; heading = goal_key_of goal; number = receipt.number; call = call }
+queued_at call receipt goal = queued_under call receipt (goal_key_of goal)
 
 -- the order of the queue
 abbrev pub queued_cmp : QueuedCall → QueuedCall → Ordering

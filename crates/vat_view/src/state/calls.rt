@@ -1,6 +1,6 @@
 //! What can be asked of calls.
 
-ghost use Rattle.std.specs.Prelude.{◌≡◌, ◌<◌, IfOk};
+ghost use Rattle.std.specs.Prelude.{◌≡◌, ◌<◌, IfOk, IsTrue};
 ghost use Rattle.decoded_records.specs.declared.view.View.{View};
 ghost use Rattle.decoded_records.specs.Bindings.{is_bound_call};
 ghost use Rattle.decoded_records.specs.Calls.{request_of, goal_of, is_at_vat, is_served, is_settled, is_known, answered_by};
@@ -18,24 +18,28 @@ impl VatState {
         self.tables.calls.has(call)
     }
 
-    /// What a call asked for when it came to the vat, by MAKE or by a received Call; nothing of one that didn't come.
+    /// What a call asked for when it came to the vat, by MAKE or by a received Call. It is asked of a call that is there
+    /// still ([`VatState::is_at_vat`]): what a call asked for is forgotten once it has left.
     ///
     /// # Errors
     ///
     /// Out of memory.
     pub fn request_of(&self, call: u64) -> Result<Option<Request>, AllocError>
+        requires { IsTrue (is_at_vat call self.now) }
         ensures { IfOk result (λ asks. asks ≡ request_of call self.now) }
     {
         self.tables.calls.request_of(call)
     }
 
     /// A call's goal, if it came to the vat with one: what the reference of its MAKE, or the target of its received
-    /// Call, stood for then.
+    /// Call, stood for then. It is asked of a call that is there still ([`VatState::is_at_vat`]): the goal of a call is
+    /// forgotten once it has left.
     ///
     /// # Errors
     ///
     /// Out of memory.
     pub fn goal_of(&self, call: u64) -> Result<Option<View>, AllocError>
+        requires { IsTrue (is_at_vat call self.now) }
         ensures { IfOk result (λ goal. goal ≡ goal_of call self.now) }
     {
         self.tables.calls.goal_of(call)

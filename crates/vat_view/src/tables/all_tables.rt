@@ -17,7 +17,7 @@ use crate::tables::turns::resolves::Resolves;
 use crate::tables::turns::settlements::Settlements;
 use crate::tables::waits::embargoes::Embargoes;
 use crate::tables::waits::loopbacks::{asks_for_echo, sender_loopback};
-use crate::tables::waits::waiting_calls::call_taken_by;
+use crate::tables::waits::waiting_calls::{call_taken_by, heading_taken};
 use decoded_records::{DecodedRecord, descriptors, promise_resolved};
 use number_tables::{Calls, ExportsImports, Questions};
 use std::alloc::{AllocError, Global};
@@ -179,10 +179,11 @@ impl AllTables {
         ensures arrivals { self.new.arrivals ≡ self.old.arrivals }
     {
         let taken = call_taken_by(&self.questions, event);
+        let heading = heading_taken(&self.calls, taken);
         self.waits
             .expect(&self.bound, &self.lives, &self.questions, number, event)?;
         self.note(number, event)?;
-        self.waits.note(&self.calls, number, event, taken);
+        self.waits.note(heading, number, event, taken);
         Ok(())
     }
 

@@ -9,11 +9,12 @@ ghost use Rattle.vat_view.specs.Glue.LoopTables.{room_at, space_at, call_receive
 
 use crate::lookups::headings::heading_of_target;
 use crate::tables::references::BoundReferences;
+use crate::tables::turns::goal_key::GoalKey;
 use crate::tables::waits::loopbacks::{Loopbacks, Unechoed};
 use crate::tables::waits::queued_call::QueuedCall;
 use crate::tables::waits::waiting_calls::{Receipt, WaitingCalls, call_received_by};
 use decoded_records::{DecodedRecord, TableKey, receiver_loopback};
-use number_tables::{Calls, ExportsImports, Questions};
+use number_tables::{ExportsImports, Questions};
 use std::alloc::{AllocError, Global};
 
 /// What waits: loopbacks for their echo, and received calls at the vat.
@@ -85,10 +86,10 @@ impl Embargoes {
     }
 
     /// A record passed that has this number in the log, asks for no echo and takes this call from the vat, and for which
-    /// there is room; this is the table of calls after it.
+    /// there is room. The call stands under this heading in the queue.
     pub(crate) fn note(
         &mut self,
-        calls: &Calls,
+        heading: GoalKey,
         number: usize,
         event: &DecodedRecord,
         taken: Option<u64>,
@@ -98,7 +99,7 @@ impl Embargoes {
     {
         self.loopbacks.end(receiver_loopback(event));
         self.inbox.begin(call_received_by(number, event));
-        self.inbox.end(calls, taken);
+        self.inbox.end(heading, taken);
     }
 
     /// A record passed that asks for the echo of this loopback, for which there is room.

@@ -1,12 +1,10 @@
 //! Received calls as they wait.
 
 ghost use Rattle.std.specs.Prelude.{◌≡◌};
-ghost use Rattle.std.specs.Option.{option_copied};
-ghost use Rattle.vat_view.specs.Glue.Queues.{queued_at};
+ghost use Rattle.vat_view.specs.Glue.Queues.{queued_under};
 
-use crate::tables::turns::goal_key::{GoalKey, goal_key_of};
+use crate::tables::turns::goal_key::GoalKey;
 use crate::tables::waits::waiting_calls::Receipt;
-use decoded_records::View;
 
 /// A received call in the queue: calls of one connection to one goal stand together, in the order of their records.
 #[derive(Clone, Copy, PartialEq, Eq, PartialOrd, Ord)]
@@ -22,13 +20,13 @@ pub(crate) struct QueuedCall {
 }
 
 impl QueuedCall {
-    /// A call that was received so, with this goal.
-    pub(crate) fn new(call: u64, receipt: Receipt, goal: Option<&View>) -> QueuedCall
-        ensures { result ≡ queued_at call receipt (option_copied goal.entry) }
+    /// A call that was received so, with a goal of this heading.
+    pub(crate) fn new(call: u64, receipt: Receipt, heading: GoalKey) -> QueuedCall
+        ensures { result ≡ queued_under call receipt heading }
     {
         QueuedCall {
             connection: receipt.connection,
-            heading: goal_key_of(goal),
+            heading,
             number: receipt.number,
             call,
         }

@@ -6,9 +6,9 @@ ghost use Rattle.std.specs.BTreeMap.Range.{entries_between};
 ghost use Rattle.decoded_records.specs.Past.{is};
 ghost use Rattle.number_tables.specs.Glue.QuestionTables.{question_at, opening_call_in};
 ghost use Rattle.vat_view.specs.Glue.Queues.{queued_cmp, from_first, up_to, has_joined, Stay, OthersStay};
-ghost use Rattle.vat_view.specs.Glue.LoopTables.{receipt_at, put_call, space_at, call_received_by, call_taken_by, held_by, SameSpace, AreQueued, HasLeft, Holding};
+ghost use Rattle.vat_view.specs.Glue.LoopTables.{receipt_at, put_call, space_at, call_received_by, call_taken_by, heading_taken, held_by, SameSpace, AreQueued, HasLeft, Holding};
 
-use crate::tables::turns::goal_key::goal_key_of;
+use crate::tables::turns::goal_key::{GoalKey, goal_key_of};
 use crate::tables::waits::loopbacks::Unechoed;
 use crate::tables::waits::queued_call::QueuedCall;
 use decoded_records::{DecodedRecord, TableKey};
@@ -80,6 +80,17 @@ pub(crate) fn call_taken_by(questions: &Questions, event: &DecodedRecord) -> Opt
             },
         ),
         _ => None,
+    }
+}
+
+/// The heading under which the call that a record takes from the vat stands in the queue. It is asked before the table of
+/// calls knows of the record, since that forgets the goal of a call that has left.
+pub(crate) fn heading_taken(calls: &Calls, taken: Option<u64>) -> GoalKey
+    ensures { result ≡ heading_taken calls.now taken }
+{
+    match taken {
+        Some(call) => goal_key_of(calls.goal(call)),
+        None => goal_key_of(None),
     }
 }
 
@@ -201,18 +212,18 @@ impl WaitingCalls {
         }
     }
 
-    /// This call leaves the vat. Its goal, by which it is found in the queue, is asked of the table of calls.
-    pub(crate) fn end(&mut self, calls: &Calls, taken: Option<u64>)
+    /// This call leaves the vat, which stands under this heading in the queue.
+    pub(crate) fn end(&mut self, heading: GoalKey, taken: Option<u64>)
         ensures gone { (c : ℕ) → receipt_at self.new c
             ≡ (if is c taken then None else receipt_at self.old c) }
         ensures stay { OthersStay taken self.old self.new }
-        ensures left { HasLeft taken self.old calls.now self.new }
+        ensures left { HasLeft taken self.old heading self.new }
     {
         let Some(call) = taken else {
             return;
         };
         if let Some(Some(receipt)) = self.entries.remove(&call) {
-            let queued = QueuedCall::new(call, receipt, calls.goal(call));
+            let queued = QueuedCall::new(call, receipt, heading);
             let _ = self.queue.remove(&queued);
         }
     }

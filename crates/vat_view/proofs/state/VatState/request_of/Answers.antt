@@ -6,4 +6,4 @@ use Rattle.vat_view.proofs.state.VatState.request_of.Goals as goal
 
 pub returns : goal.returns
 returns c = if_ok c.request_of.result (λ a same. same ∙ asked_known c.args.self.now c.self.inside.tables.questions c.self.inside.tables.lives c.self.inside.tables.bound c.self.inside.tables.calls
-    (subst (λ p. AreKept p c.self.inside.tables.questions c.self.inside.tables.lives c.self.inside.tables.bound c.self.inside.tables.calls) c.self.view_is c.self.invariant.0.0) c.args.call) c.request_of.ensures
+    (subst (λ p. AreKept p c.self.inside.tables.questions c.self.inside.tables.lives c.self.inside.tables.bound c.self.inside.tables.calls) c.self.view_is c.self.invariant.0.0) c.args.call c.requires) c.request_of.ensures

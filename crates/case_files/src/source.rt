@@ -1,6 +1,6 @@
 //! Where files come from.
 
-ghost use Rattle.std.specs.Prelude.{◌≡◌, ℕ, List, [], ⊤};
+ghost use Rattle.std.specs.Prelude.{◌≡◌, ℕ, List, [], ⊤, IfSome};
 ghost use Rattle.std.specs.Prelude.{Result as Answered};
 ghost use Rattle.case_files.specs.declared.source.SourceError.{SourceError};
 ghost use Rattle.case_files.specs.declared.source.SourceError.TheVariants.{OutOfMemory};
@@ -95,4 +95,9 @@ pub trait RememberingSource: Source {
 
     /// The names of the files that were closed and are left out there.
     fn left_out(&self) -> &[String];
+
+    /// A reader of a file that is left out there, of which none came yet; none where it can't be read once more. What it gives is
+    /// for people alone.
+    fn open_again(&self, name: &str) -> Option<Self::Reader>
+        ensures { IfSome result (λ reader. Self.Reader.came reader ≡ []) };
 }

@@ -4,6 +4,7 @@ use crate::heard::{Heard, HeardAnswer};
 use crate::inputs::bad_input::{put_fault, put_left_out};
 use crate::inputs::unread::SearchingSource;
 use crate::joins::put_join;
+use crate::long_logs::far_record;
 use crate::row_limit::put_limit;
 use audit_core::{Breach, find_alone};
 use bytes::Bytes;
@@ -341,6 +342,13 @@ pub fn notes_of<S: SearchingSource>(
     if heard.told == HeardAnswer::GoodLog {
         return notes_of_log(alloc, text, source.kept(), form);
     }
+    let far = far_record(alloc, source, heard.told)?;
+    if let Some(far) = &far {
+        far.put(alloc, &mut text)?;
+    }
     put_bad(alloc, &mut text, heard, source)?;
+    if let Some(far) = &far {
+        far.put_cause(alloc, &mut text, source, heard.told)?;
+    }
     Ok(Notes::of_text(text))
 }

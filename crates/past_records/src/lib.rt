@@ -6,7 +6,7 @@
 //! [`Life`] is what was seen of an export or import meanwhile, [`Opening`] what passed of a question. Beside these stand the
 //! notes that are made of them alone: numbers that aren't held, of which too much is given back, and questions that aren't free
 //! or have no room for what uses them. A record is named by its number in the log, counted from 0. It needs nothing of how
-//! records are printed.
+//! records are printed. Of a log that isn't kept a [`Replay`] makes the past of a record: what the tables know, and no record.
 #![tactic(auto)]
 
 mod life_notes;
@@ -16,11 +16,13 @@ mod openings;
 mod question_notes;
 mod reading;
 mod records_before;
+mod replay;
 
 pub use life_notes::{put_gone, put_life, put_miscounted};
 pub use number_lives::{Life, Lives, number_described};
 pub use number_text::NumberText;
 pub use openings::{Opening, opening_of};
 pub use question_notes::{put_misused, put_opening, put_reopened};
-pub use reading::{decoded, message_at, put_reason};
+pub use reading::{decoded, decoded_as, message_at, message_of, put_reason, put_reason_of};
 pub use records_before::Past;
+pub use replay::Replay;

@@ -136,7 +136,7 @@ fn put_if_refused(
     use_of: Use,
 ) -> Result<bool, AllocError> {
     let opening = opening_of(past, key);
-    if !is_refused(use_of, opening) {
+    if !is_refused(use_of, opening) || (opening.is_none() && !past.is_whole()) {
         return Ok(false);
     }
     put_used(text, key, use_of, opening)?;

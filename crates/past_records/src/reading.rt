@@ -1,12 +1,32 @@
 //! The records of a log, with their frames read.
 
 use exception_reasons::record_reason;
-use rpc_view::{Limits, RpcMessage, ViewError, read_bytes};
+use rpc_view::{Edition, Limits, RpcMessage, ViewError, read_bytes};
 use std::alloc::{AllocError, Global};
 use std::fmt::Write;
-use vat_log::VatLog;
+use vat_log::{Record, VatLog};
 use vat_rules::edition_of;
 use vat_view::DecodedRecord;
+
+/// What the frame of a record says, or why it isn't read. None where it has no frame.
+///
+/// # Errors
+///
+/// Out of memory.
+pub fn message_of(
+    alloc: Global,
+    stored: &Record,
+    edition: Edition,
+) -> Result<Option<Result<RpcMessage, ViewError>>, AllocError> {
+    let Some(frame) = stored.body().frame() else {
+        return Ok(None);
+    };
+    match read_bytes(alloc, frame.clone()?, Limits::default(), edition) {
+        Ok(message) => Ok(Some(Ok(message))),
+        Err(ViewError::OutOfMemory) => Err(AllocError),
+        Err(fault) => Ok(Some(Err(fault))),
+    }
+}
 
 /// What the frame says of the record of this number, or why it isn't read. None where it has no frame.
 ///
@@ -18,16 +38,26 @@ pub fn message_at(
     log: &VatLog,
     at: usize,
 ) -> Result<Option<Result<RpcMessage, ViewError>>, AllocError> {
-    let Some(stored) = log.get(at) else {
-        return Ok(None);
-    };
-    let Some(frame) = stored.body().frame() else {
-        return Ok(None);
-    };
-    match read_bytes(alloc, frame.clone()?, Limits::default(), edition_of(log)) {
-        Ok(message) => Ok(Some(Ok(message))),
+    match log.get(at) {
+        Some(stored) => message_of(alloc, stored, edition_of(log)),
+        None => Ok(None),
+    }
+}
+
+/// A record as it is judged. None where its frame isn't read.
+///
+/// # Errors
+///
+/// Out of memory.
+pub fn decoded_as(
+    alloc: Global,
+    stored: &Record,
+    edition: Edition,
+) -> Result<Option<DecodedRecord>, AllocError> {
+    match DecodedRecord::read(alloc, stored.body(), Limits::default(), edition) {
+        Ok(event) => Ok(Some(event)),
         Err(ViewError::OutOfMemory) => Err(AllocError),
-        Err(fault) => Ok(Some(Err(fault))),
+        Err(_) => Ok(None),
     }
 }
 
@@ -41,13 +71,26 @@ pub fn decoded(
     log: &VatLog,
     at: usize,
 ) -> Result<Option<DecodedRecord>, AllocError> {
-    let Some(stored) = log.get(at) else {
-        return Ok(None);
-    };
-    match DecodedRecord::read(alloc, stored.body(), Limits::default(), edition_of(log)) {
-        Ok(event) => Ok(Some(event)),
-        Err(ViewError::OutOfMemory) => Err(AllocError),
-        Err(_) => Ok(None),
+    match log.get(at) {
+        Some(stored) => decoded_as(alloc, stored, edition_of(log)),
+        None => Ok(None),
+    }
+}
+
+/// Appends the reason that a record gives, behind these words; nothing where it gives none.
+///
+/// # Errors
+///
+/// Out of memory.
+pub fn put_reason_of(
+    alloc: Global,
+    text: &mut String,
+    stored: &Record,
+    words: &str,
+) -> Result<(), AllocError> {
+    match record_reason(alloc, stored.body())? {
+        Some(reason) => write!(text, "{words}\"{reason}\""),
+        None => Ok(()),
     }
 }
 
@@ -63,11 +106,8 @@ pub fn put_reason(
     at: usize,
     words: &str,
 ) -> Result<(), AllocError> {
-    let Some(stored) = log.get(at) else {
-        return Ok(());
-    };
-    match record_reason(alloc, stored.body())? {
-        Some(reason) => write!(text, "{words}\"{reason}\""),
+    match log.get(at) {
+        Some(stored) => put_reason_of(alloc, text, stored, words),
         None => Ok(()),
     }
 }

@@ -85,6 +85,11 @@ impl<'a> Past<'a> {
         Past::watching(alloc, log, at, event, lives)
     }
 
+    /// Whether all records before it are there. Where they aren't, none that isn't found is said not to be.
+    pub fn is_whole(&self) -> bool {
+        self.events.len() == self.at
+    }
+
     /// The record of this number among those before it.
     pub fn get(&self, number: usize) -> Option<&DecodedRecord> {
         self.events.get(number)

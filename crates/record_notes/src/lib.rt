@@ -13,4 +13,4 @@ mod record_note;
 pub use at_end::{events_of, open_in};
 pub use logs::{Logs, vat_of};
 pub use open_counts::OpenCounts;
-pub use record_note::{put_place, put_record};
+pub use record_note::{put_place, put_record, put_stored};

@@ -18,4 +18,4 @@ mod rule_cause;
 mod view_text;
 mod view_turns;
 
-pub use rule_cause::put_rule_cause;
+pub use rule_cause::{put_past_cause, put_rule_cause};

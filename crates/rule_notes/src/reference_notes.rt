@@ -53,7 +53,7 @@ fn brought_after(log: &VatLog, at: usize, call: u64) -> Option<usize> {
 
 /// Notes of a reference that the record names, where none before binds it.
 fn put_if_unbound(past: &Past<'_>, text: &mut String, reference: u64) -> Result<(), AllocError> {
-    if binder_of(past, reference).is_some() {
+    if binder_of(past, reference).is_some() || past.state.view_of_reference(reference)?.is_some() {
         return Ok(());
     }
     write!(text, "note: no record before binds reference {reference}\n")?;
@@ -65,7 +65,7 @@ fn put_if_unbound(past: &Past<'_>, text: &mut String, reference: u64) -> Result<
 
 /// Notes of a call that the record names, where none before binds it.
 fn put_if_unmade(past: &Past<'_>, text: &mut String, call: u64) -> Result<(), AllocError> {
-    if call == 0 || origin_of(past, call).is_some() {
+    if call == 0 || origin_of(past, call).is_some() || !past.is_whole() {
         return Ok(());
     }
     write!(

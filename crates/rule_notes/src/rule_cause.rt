@@ -26,27 +26,36 @@ pub fn put_rule_cause(
     at: usize,
     rule: Rule,
 ) -> Result<(), AllocError> {
-    let Some(past) = Past::of(alloc, log, at)? else {
-        return Ok(());
-    };
+    match Past::of(alloc, log, at)? {
+        Some(past) => put_past_cause(&past, text, rule),
+        None => Ok(()),
+    }
+}
+
+/// The same of a record whose past is there: as far as its records are kept, and by what the tables know.
+///
+/// # Errors
+///
+/// Out of memory.
+pub fn put_past_cause(past: &Past<'_>, text: &mut String, rule: Rule) -> Result<(), AllocError> {
     match rule {
-        Rule::Closed => put_closed(&past, text),
-        Rule::Ref => put_unbound(&past, text),
-        Rule::Vow => put_unvowed(&past, text),
-        Rule::Here => put_absent(&past, text),
-        Rule::QNew => put_reopened(&past, text),
-        Rule::QUse => put_misused(&past, text),
-        Rule::XUse => put_gone(&past, text),
-        Rule::Goal => put_astray(&past, text),
-        Rule::Answer => put_answered(&past, text),
-        Rule::Desc => put_misdescribed(&past, text),
-        Rule::Count => put_miscounted(&past, text),
-        Rule::Result => put_misreturned(&past, text),
-        Rule::Resolve => put_misresolved(&past, text),
+        Rule::Closed => put_closed(past, text),
+        Rule::Ref => put_unbound(past, text),
+        Rule::Vow => put_unvowed(past, text),
+        Rule::Here => put_absent(past, text),
+        Rule::QNew => put_reopened(past, text),
+        Rule::QUse => put_misused(past, text),
+        Rule::XUse => put_gone(past, text),
+        Rule::Goal => put_astray(past, text),
+        Rule::Answer => put_answered(past, text),
+        Rule::Desc => put_misdescribed(past, text),
+        Rule::Count => put_miscounted(past, text),
+        Rule::Result => put_misreturned(past, text),
+        Rule::Resolve => put_misresolved(past, text),
         Rule::RecvRef => {
-            let _ = put_unpaired(&past, text)?;
+            let _ = put_unpaired(past, text)?;
             Ok(())
         }
-        Rule::Emb => put_embargo(&past, text),
+        Rule::Emb => put_embargo(past, text),
     }
 }

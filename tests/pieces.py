@@ -83,6 +83,25 @@ def one_log():
     os.remove("one")
 
 
+def listed():
+    """The records of a log: of a file, of a pipe that has its name, and of standard input."""
+    for name in sorted(name for name in os.listdir(".") if name.endswith(".log")):
+        data = open(name, "rb").read()
+        for bytes_of_it in (data, data[:-1], data[:-1] + b"\xff\xff", data[:9], b""):
+            for words in ([], ["--from", "1", "--count", "2"]):
+                what = f"of {name}, {len(bytes_of_it)} bytes, {words}"
+                open("one", "wb").write(bytes_of_it)
+                file = said("--quiet", "records", "one", *words)
+                must(f"records - {what}", said("--quiet", "records", "-", *words, given=bytes_of_it), file)
+                os.remove("one")
+                os.mkfifo("one")
+                writer = threading.Thread(target=trickle, args=("one", bytes_of_it, 7), daemon=True)
+                writer.start()
+                must(f"records of a pipe {what}", said("--quiet", "records", "one", *words), file)
+                writer.join(5)
+                os.remove("one")
+
+
 def not_there():
     """Files that can't be read: the first as listed is named, whatever the others are."""
     case = {"logs": ["pipelined_call.vat1.log", "none", "."], "links": []}
@@ -91,6 +110,8 @@ def not_there():
          ("cannot read\n", "note: cannot read none: No such file or directory (os error 2)\n", 2))
     json.dump({"logs": ["."], "links": []}, open("bad.json", "w"))
     must("a folder", said("check", "bad.json"), ("cannot read\n", "note: cannot read .: Is a directory (os error 21)\n", 2))
+    must("a folder's records", said("records", "."), ("cannot read\n", "note: cannot read .: Is a directory (os error 21)\n", 2))
+    must("the records of none", said("records", "none"), ("cannot read\n", "note: cannot read none: No such file or directory (os error 2)\n", 2))
     must("a folder by vat", said("vat", "."), ("cannot read\n", "note: cannot read .: Is a directory (os error 21)\n", 2))
     json.dump({"logs": ["-", "-"], "links": []}, open("bad.json", "w"))
     data = open("pipelined_call.vat1.log", "rb").read()
@@ -126,6 +147,7 @@ with tempfile.TemporaryDirectory() as room:
     os.chdir(room)
     cases()
     one_log()
+    listed()
     not_there()
     many_logs()
     os.chdir("/")

@@ -1,6 +1,6 @@
 //! The line of a case.
 
-ghost use Rattle.std.specs.Prelude.{◌≡◌, ◌⊎◌, ℕ, List, Option, Err, false, length, map, option_map, string_bytes, IfOk, IfErr, OnOk};
+ghost use Rattle.std.specs.Prelude.{◌≡◌, ◌≤◌, ◌⊎◌, ℕ, List, Option, Err, false, length, map, option_map, string_bytes, IfOk, IfErr, OnOk};
 ghost use Rattle.vat_log.specs.Log.{Log};
 ghost use Rattle.case_book.specs.declared.link.Link.{Link};
 ghost use Rattle.case_files.specs.CaseReading.{listed_by};
@@ -134,8 +134,8 @@ fn line_of_files<R: Threads + Sync, S: Source>(
 }
 
 /// Audits the case that a source has under a name, by the order that its file names, if it names one, for its line alone: the logs
-/// are read piece by piece, all in one pass, and none of them is kept. So many workers read and judge them, the calling thread
-/// among them. All logs are opened before the first is read, and the order is read before them; each file is closed once all were
+/// are read piece by piece, all in one pass, and none of them is kept. So many workers, 1 to 64, read and judge them, the calling
+/// thread among them. All logs are opened before the first is read, and the order is read before them; each file is closed once all were
 /// read, the logs in the order in which they are listed.
 ///
 /// # Errors
@@ -148,6 +148,8 @@ pub fn check_files<R: Threads + Sync, S: Source>(
     name: &str,
     workers: u32,
 ) -> Result<Report, CaseFault>
+    requires some { 1 ≤ workers }
+    requires few { workers ≤ 64 }
     ensures { ComesChecked S.read_gives source.old name.now result source.new }
 {
     let file = read_case_file(alloc, source, name)?;

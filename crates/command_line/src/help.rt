@@ -65,6 +65,8 @@ A case that can't be audited has the line that order prints of it:
   bad case [NAME [NUMBER]], bad log NAME [OFFSET], bad order NAME [OFFSET],
   cannot read, out of memory
 
+A log may have 1099511627776 bytes, and be a pipe: it is read once, and isn't kept.
+
 Records, messages and steps are counted from 0. The line is the same for each
 number of workers. vataudit vat --help has the WHYs, vataudit order --help the
 form of a case file and what the last lines mean, docs/RULES.md each CODE.";
@@ -219,7 +221,7 @@ VATLOG01, VATLOG02 or VATLOG03, and prints one line:
   bad log NAME [OFFSET]              the bytes aren't a log: BadMagic, Short,
                                      BadKind, ZeroNumber, TooLong
   cannot read                        the file can't be read, or has over
-                                     1073741824 bytes
+                                     1099511627776 bytes
   out of memory
 
 Records and offsets are counted from 0. docs/RULES.md has each CODE with what
@@ -396,11 +398,11 @@ line, and where the header is bad or cut, the only one:
 
   bad log NAME [OFFSET]   as vat prints it
 
-A file that can't be read has one line:
+Where the file can't be read, or has over 1099511627776 bytes, the last line is
 
   cannot read
 
-and where memory runs out, the last line is
+and where memory runs out, it is
 
   out of memory";
 

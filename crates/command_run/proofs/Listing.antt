@@ -1,6 +1,6 @@
 -- The records of a log, listed one by one as they are read.
 use Rattle.std.proofs.Common.{◌≡◌, ◌∙◌, ℕ, ◌+◌, ◌-◌, ◌<◌, ◌≤◌, ◌&&◌, Bool, true, false, List, [], ◌∷◌, ◌++◌, length, take, drop, Option, Some, None, Result, Ok, Err, IfOk, OnOk, refl, sym, ap, subst, inl, inr, arith, append_assoc, append-nil, length-drop}
-use Rattle.std.specs.Prelude.{MatchOption, nat_le, nat_lt}
+use Rattle.std.specs.Prelude.{◌⊎◌, IsErrAnd, MatchOption, nat_le, nat_lt}
 use Rattle.std.specs.Int.{w32}
 use Rattle.std.specs.Io.KnownBytes.{Appends}
 use Rattle.std.proofs.KnownBytes.{Appends-nil, Appends-trans}
@@ -9,20 +9,28 @@ use Rattle.std.proofs.lemmas.List.{drop_all, drop-append-le, length_push, take_a
 use Rattle.rpc_view.specs.declared.edition.Edition.{Edition}
 use Rattle.vat_log.specs.declared.body.Body.{Body}
 use Rattle.vat_log.specs.declared.error.LogError.{LogError}
-use Rattle.vat_log.specs.declared.error.LogError.TheVariants as bad_log
+use Rattle.vat_log.specs.declared.read_fault.ReadFault.{ReadFault}
+use Rattle.vat_log.specs.declared.read_fault.ReadFault.TheVariants as read_fault
 use Rattle.vat_log.specs.Log.{Log}
 use Rattle.vat_log.specs.declared.version.LogVersion.{LogVersion}
+use Rattle.vat_log.specs.declared.version.LogVersion.TheVariants.{Two}
 use Rattle.vat_log.specs.Reading.{◌>>=◌, header_of, log_of, number_at, version_at}
-use Rattle.vat_log.specs.Runs.{BeginsWith, IsLongestRun, ReadSoFar, StopsBy, with_record}
+use Rattle.vat_log.specs.Runs.{BeginsWith, IsLongestRun, with_record}
+use Rattle.vat_log.specs.Spelling.{log_bytes}
+use Rattle.vat_log.specs.Streams.{MayBeAll, NoLogBegins, StreamSoFar, StreamStopsBy}
 use Rattle.vat_rules.specs.Audit.{edition_of}
+use Rattle.case_files.specs.CaseReading.{Read, Reads}
+use Rattle.case_files.specs.declared.source.SourceError.{SourceError}
+use Rattle.case_files.specs.Opening.{Closes}
 use Rattle.report_lines.specs.declared.answer.Answer.TheVariants.{Fault}
 use Rattle.report_lines.specs.declared.fault.Fault.{Fault as FaultOf}
 use Rattle.report_lines.specs.declared.fault.Fault.TheVariants.{OutOfMemory}
-use Rattle.report_lines.specs.Faults.{of_log}
+use Rattle.report_lines.specs.Faults.{of_log, of_source}
 use Rattle.report_lines.specs.Lines.{answer_status, answer_text, line}
-use Rattle.command_run.specs.Glue.{Prints, is_chosen}
+use Rattle.command_run.specs.CommandAnswers.{AnswersLogRecords}
+use Rattle.command_run.specs.Glue.{AnswersBehind, EndsSo, IsListedTo, Lists, Prints, is_chosen, status_behind, stopped, text_behind}
 use Rattle.command_run.specs.RecordAnswers.{AnswersRecords, EndsListing, chosen_records, first_number, listing, record_line, record_lines}
-use Rattle.command_run.specs.Runs.{Wrote}
+use Rattle.command_run.specs.Runs.{Adds, Wrote}
 
 -- ---- the records that are asked for
 
@@ -137,55 +145,63 @@ at_none {A = A} o none some is h = subst (λ (p : Option A). MatchOption p none 
 pub at_some : {A : Type 0} (o : Option A) (x : A) (none : Type 0) (some : A → Type 0) → o ≡ Some x → MatchOption o none some → some x
 at_some {A = A} o x none some is h = subst (λ (p : Option A). MatchOption p none some) is h
 
--- the bytes begin with the log that was read so far, and its listing was written
-pub record IsListed (first many : Option ℕ) (edition : Edition) (bytes : List ℕ) (read : ReadSoFar) (old new : Option (List ℕ)) : Type 0 where
-  pub same : read.bytes ≡ bytes
-  pub begins : BeginsWith bytes read.log
+-- ---- bytes that come
+
+-- what begins the bytes that came begins all
+begins_all : (came all : List ℕ) (is_over : Bool) (log : Log) → BeginsWith came log → MayBeAll came is_over all → BeginsWith all log
+begins_all came all is_over log begins may = record {
+  rest = begins.rest ++ may.more;
+  parts = may.parts ∙ ap (λ (b : List ℕ). b ++ may.more) begins.parts ∙ append_assoc (log_bytes log) begins.rest may.more;
+  fits = begins.fits;
+}
+
+-- where it is over, what came is all
+all_came : (came all : List ℕ) (is_over : Bool) → is_over ≡ true → MayBeAll came is_over all → all ≡ came
+all_came came all is_over over may = may.parts ∙ ap (λ (b : List ℕ). came ++ b) (may.over over) ∙ append-nil came
+
+-- the bytes that came begin with the log that was read so far, and its listing was written
+pub record IsListed (first many : Option ℕ) (edition : Edition) (read : StreamSoFar) (old new : Option (List ℕ)) : Type 0 where
+  pub begins : BeginsWith read.bytes read.log
   pub by : edition ≡ edition_of read.log
   pub wrote : Appends old new (listing first many read.log)
 
 -- nothing yet
-pub none_listed : (first many : Option ℕ) (edition : Edition) (read : ReadSoFar) (out : Option (List ℕ)) → BeginsWith read.bytes read.log → read.log.records ≡ [] → edition ≡ edition_of read.log
-    → IsListed first many edition read.bytes read out out
+pub none_listed : (first many : Option ℕ) (edition : Edition) (read : StreamSoFar) (out : Option (List ℕ)) → BeginsWith read.bytes read.log → read.log.records ≡ [] → edition ≡ edition_of read.log
+    → IsListed first many edition read out out
 none_listed first many edition read out begins none by = record {
-  same = refl;
   begins = begins;
   by = by;
   wrote = subst (λ t. Appends out out t) (sym (listing_none first many read.log none)) (Appends-nil out);
 }
 
-module _ (first many : Option ℕ) (edition : Edition) (bytes : List ℕ) (read : ReadSoFar) (old now : Option (List ℕ)) (listed : IsListed first many edition bytes read old now) where
+module _ (first many : Option ℕ) (edition : Edition) (read : StreamSoFar) (old now : Option (List ℕ)) (listed : IsListed first many edition read old now) where
   -- one more record was read
-  module _ (next : ReadSoFar) (event : Body) (kept : next.bytes ≡ read.bytes) (begins : BeginsWith next.bytes next.log) (is : next.log ≡ with_record event read.log) where
+  module _ (next : StreamSoFar) (event : Body) (begins : BeginsWith next.bytes next.log) (is : next.log ≡ with_record event read.log) where
     -- and written
     pub one_listed : (new : Option (List ℕ)) (number : ℕ) (has : Bool) (text : List ℕ) → number ≡ length read.log.records → has ≡ is_chosen first many number → has ≡ true
-        → text ≡ record_line edition number event → Appends now new text → IsListed first many edition bytes next old new
+        → text ≡ record_line edition number event → Appends now new text → IsListed first many edition next old new
     one_listed new number has text count asked met shown wrote =
         let n = length read.log.records in
-        let same : next.bytes ≡ bytes = kept ∙ listed.same in
         let chosen : is_chosen first many n ≡ true = asked_is first many number n has asked count ∙ met in
         let line_is : text ≡ record_line (edition_of read.log) n event =
         shown ∙ ap (λ (at : ℕ). record_line edition at event) count ∙ ap (λ (e : Edition). record_line e n event) listed.by in
         let lines : listing first many next.log ≡ listing first many read.log ++ record_line (edition_of read.log) n event =
         ap (listing first many) is ∙ listing_more first many read.log event chosen in
         record {
-          same = same;
-          begins = subst (λ (b : List ℕ). BeginsWith b next.log) same begins;
+          begins = begins;
           by = listed.by ∙ ap edition_of (sym is);
           wrote = subst (λ t. Appends old new t) (sym lines)
               (Appends-trans old now new (listing first many read.log) (record_line (edition_of read.log) n event) listed.wrote (subst (λ t. Appends now new t) line_is wrote));
         }
 
     -- or passed over
-    pub one_passed : (number : ℕ) (has : Bool) → number ≡ length read.log.records → has ≡ is_chosen first many number → has ≡ false → IsListed first many edition bytes next old now
+    pub one_passed : (number : ℕ) (has : Bool) → number ≡ length read.log.records → has ≡ is_chosen first many number → has ≡ false → IsListed first many edition next old now
     one_passed number has count asked unmet =
         let n = length read.log.records in
-        let same : next.bytes ≡ bytes = kept ∙ listed.same in
         let other : is_chosen first many n ≡ false = asked_is first many number n has asked count ∙ unmet in
         let lines : listing first many next.log ≡ listing first many read.log = ap (listing first many) is ∙ listing_same first many read.log event other in
         record {
-          same = same;
-          begins = subst (λ (b : List ℕ). BeginsWith b next.log) same begins;
+          begins = begins;
           by = listed.by ∙ ap edition_of (sym is);
           wrote = subst (λ t. Appends old now t) (sym lines) listed.wrote;
         }
@@ -199,64 +215,145 @@ text_of fault = line (answer_text (Fault fault))
 abbrev pub status_by : FaultOf → ℕ
 status_by fault = answer_status (Fault fault)
 
-module _ (first many : Option ℕ) (edition : Edition) (bytes : List ℕ) (read : ReadSoFar) (old now : Option (List ℕ)) (listed : IsListed first many edition bytes read old now) where
-  -- memory ran out
-  pub stopped : AnswersRecords first many bytes (listing first many read.log ++ text_of OutOfMemory) 3
-  stopped = inr (inl (read.log, (text_of OutOfMemory, listed.begins, (refl, refl), refl)))
+-- memory ran out behind the records of this log
+some_listed : (first many : Option ℕ) (all : List ℕ) (log : Log) → BeginsWith all log → AnswersRecords first many all (listing first many log ++ text_of OutOfMemory) 3
+some_listed first many all log begins = inr (inl (log, (text_of OutOfMemory, begins, (refl, refl), refl)))
 
-  -- all was read
-  pub whole : log_of read.bytes ≡ Ok read.log → IsLongestRun read.bytes read.log → AnswersRecords first many bytes (listing first many read.log) 0
-  whole is longest =
-      let found : log_of bytes ≡ Ok read.log = subst (λ (b : List ℕ). log_of b ≡ Ok read.log) listed.same is in
-      inl (
-        read.log,
-        (
-          [],
-          subst (λ (b : List ℕ). IsLongestRun b read.log) listed.same longest,
-          subst (λ (r : Result Log LogError). EndsListing r [] 0) (sym found) (refl, refl),
-          sym (append-nil (listing first many read.log)),
-        ),
-      )
+-- all was read
+all_listed : (first many : Option ℕ) (all : List ℕ) (log : Log) → log_of all ≡ Ok log → IsLongestRun all log → AnswersRecords first many all (listing first many log) 0
+all_listed first many all log is longest =
+    inl (
+      log,
+      ([], longest, subst (λ (r : Result Log LogError). EndsListing r [] 0) (sym is) (refl, refl), sym (append-nil (listing first many log))),
+    )
 
-  -- the bytes have a fault
-  broken : (fault : LogError) → (log_of read.bytes ≡ Err fault) × IsLongestRun read.bytes read.log
-      → AnswersRecords first many bytes (listing first many read.log ++ text_of (of_log fault)) (status_by (of_log fault))
-  broken fault stops =
-      let found : log_of bytes ≡ Err fault = subst (λ (b : List ℕ). log_of b ≡ Err fault) listed.same stops.0 in
-      inl (
-        read.log,
-        (
-          text_of (of_log fault),
-          subst (λ (b : List ℕ). IsLongestRun b read.log) listed.same stops.1,
-          subst (λ (r : Result Log LogError). EndsListing r (text_of (of_log fault)) (status_by (of_log fault))) (sym found) (refl, refl),
-          refl,
-        ),
-      )
+-- the bytes have a fault
+fault_listed : (first many : Option ℕ) (all : List ℕ) (log : Log) (fault : LogError) → (log_of all ≡ Err fault) × IsLongestRun all log
+    → AnswersRecords first many all (listing first many log ++ text_of (of_log fault)) (status_by (of_log fault))
+fault_listed first many all log fault stops =
+    inl (
+      log,
+      (
+        text_of (of_log fault),
+        stops.1,
+        subst (λ (r : Result Log LogError). EndsListing r (text_of (of_log fault)) (status_by (of_log fault))) (sym stops.0) (refl, refl),
+        refl,
+      ),
+    )
 
-  -- there is no next record
-  ended : (fault : LogError) → StopsBy fault read → AnswersRecords first many bytes (listing first many read.log ++ text_of (of_log fault)) (status_by (of_log fault))
-  ended bad_log.OutOfMemory stops = stopped
-  ended bad_log.BadMagic stops = broken bad_log.BadMagic stops
-  ended (bad_log.Short at) stops = broken (bad_log.Short at) stops
-  ended (bad_log.BadKind at) stops = broken (bad_log.BadKind at) stops
-  ended (bad_log.ZeroNumber at) stops = broken (bad_log.ZeroNumber at) stops
-  ended bad_log.TooLong stops = broken bad_log.TooLong stops
+-- how a listing ends
+abbrev ends_at : (X : Type 0) → X → Result X ReadFault
+ends_at X done = Ok done
 
-  pub ended_by : (fault : LogError) (said : FaultOf) → said ≡ of_log fault → StopsBy fault read → AnswersRecords first many bytes (listing first many read.log ++ text_of said) (status_by said)
-  ended_by fault said is stops = subst (λ (f : FaultOf). AnswersRecords first many bytes (listing first many read.log ++ text_of f) (status_by f)) (sym is) (ended fault stops)
+abbrev stops_by : (X : Type 0) → ReadFault → Result X ReadFault
+stops_by X fault = Err fault
+
+-- memory ran out, or a write failed, behind the records of a log with which the bytes that came begin
+listed_some : (X : Type 0) (first many : Option ℕ) (came : List ℕ) (is_over : Bool) (log : Log) → BeginsWith came log
+    → IsListedTo first many (listing first many log) (stopped X) came is_over
+listed_some X first many came is_over log begins =
+    ((log, refl), λ all may. inl (some_listed first many all log (begins_all came all is_over log begins may)))
+
+-- so where more bytes came since
+listed_before : (X : Type 0) (first many : Option ℕ) (came later : List ℕ) (was_over is_over : Bool) (log : Log) → BeginsWith came log → MayBeAll came was_over later
+    → IsListedTo first many (listing first many log) (stopped X) later is_over
+listed_before X first many came later was_over is_over log begins may = listed_some X first many later is_over log (begins_all came later was_over log begins may)
+
+-- it was listed to its end
+pub listed_whole : {X : Type 0} (done : X) (first many : Option ℕ) (came : List ℕ) (is_over : Bool) (log : Log) → is_over ≡ true → log_of came ≡ Ok log → IsLongestRun came log
+    → IsListedTo first many (listing first many log) (ends_at X done) came is_over
+listed_whole done first many came is_over log over is longest = (
+  (log, refl),
+  λ all may.
+      subst (λ (b : List ℕ). AnswersRecords first many b (listing first many log) 0) (sym (all_came came all is_over over may)) (all_listed first many came log is longest),
+)
+
+-- there is no next record
+pub listed_until : (X : Type 0) (first many : Option ℕ) (fault : ReadFault) (log : Log) (read : StreamSoFar) → read.log ≡ log → BeginsWith read.bytes read.log → StreamStopsBy fault read
+    → IsListedTo first many (listing first many log) (stops_by X fault) read.bytes read.is_over
+listed_until X first many (read_fault.Bad e) log read same begins stops = (
+  (log, refl),
+  λ all may.
+      fault_listed first many all log e (subst (λ (l : Log). (log_of all ≡ Err e) × IsLongestRun all l) same (stops all may)),
+)
+listed_until X first many read_fault.CannotRead log read same begins stops = ((log, refl), λ all may. tt)
+listed_until X first many read_fault.OutOfMemory log read same begins stops =
+    listed_some X first many read.bytes read.is_over log (subst (λ (l : Log). BeginsWith read.bytes l) same begins)
 
 -- no log begins so
-pub header_said : (first many : Option ℕ) (bytes : List ℕ) (fault : LogError) (said : FaultOf) → said ≡ of_log fault → header_of bytes ≡ Err fault
-    → AnswersRecords first many bytes (text_of said) (status_by said)
-header_said first many bytes fault said is bad = subst (λ (f : FaultOf). AnswersRecords first many bytes (text_of f) (status_by f)) (sym is) (inr (inr (fault, (bad, (refl, refl)))))
+pub none_until : (X : Type 0) (first many : Option ℕ) (fault : ReadFault) (came : List ℕ) (is_over : Bool) → NoLogBegins fault came is_over
+    → IsListedTo first many [] (stops_by X fault) came is_over
+none_until X first many fault came is_over none = ((header Two 0, sym (listing_none first many (header Two 0) refl)), go fault none)
+  where
+    go : (fault : ReadFault) → NoLogBegins fault came is_over → (all : List ℕ) → MayBeAll came is_over all → AnswersBehind first many [] (stops_by X fault) all
+    go (read_fault.Bad e) none all may = inr (inr (e, ((none all may).0, (refl, refl))))
+    go read_fault.CannotRead none all may = tt
+    go read_fault.OutOfMemory none all may = inr refl
 
--- lines were written, and behind them a fault is said or not
-pub fault_said : {W E : Type 0} (contents : W → Option (List ℕ)) (is_finished : W → Type 0) (old now new : W) (answers : List ℕ → ℕ → Type 0) (lines : List ℕ) (fault : FaultOf) (r : Result ℕ E)
-    → answers (lines ++ text_of fault) (status_by fault) → Appends (contents old) (contents now) lines → IfOk r (λ s. s ≡ status_by fault)
-    → OnOk r (Wrote contents is_finished now (text_of fault) new) → Prints answers (Wrote contents is_finished) old new r
-fault_said contents is_finished old now new answers lines fault (Err e) answered listed is wrote = (lines ++ text_of fault, (status_by fault, answered))
-fault_said contents is_finished old now new answers lines fault (Ok s) answered listed is wrote = (
-  lines ++ text_of fault,
-  subst (λ n. answers (lines ++ text_of fault) n) (sym is) answered,
-  (Appends-trans (contents old) (contents now) (contents new) lines (text_of fault) listed wrote.0, wrote.1),
+-- a write failed
+pub torn_listing : {W E X : Type 0} (P : E → Type 0) (contents : W → Option (List ℕ)) (first many : Option ℕ) (read later : StreamSoFar) (old new : W) (r : Result (Result X ReadFault) E)
+    → BeginsWith read.bytes read.log → MayBeAll read.bytes read.is_over later.bytes → IsErrAnd r P → Lists first many (Adds contents) later old new r
+torn_listing P contents first many read later old new (Ok listed) begins may failed = absurd failed
+torn_listing {X = X} P contents first many read later old new (Err fault) begins may failed =
+    (listing first many read.log, listed_before X first many read.bytes later.bytes read.is_over later.is_over read.log begins may)
+
+-- ---- what closing gives
+
+-- memory ran out
+out_of_memory : (first many : Option ℕ) (lines all : List ℕ) → AnswersRecords first many all (lines ++ text_of OutOfMemory) 3 ⊎ (lines ≡ [])
+    → AnswersLogRecords first many (Ok all) (lines ++ text_of OutOfMemory) 3
+out_of_memory first many lines all (inl answers) = inl answers
+out_of_memory first many lines all (inr none) = inr (ap (λ (t : List ℕ). t ++ text_of OutOfMemory) none, refl)
+
+-- what is said behind the lines answers what the source gave
+pub closed_answers : {X : Type 0} (first many : Option ℕ) (lines : List ℕ) (listed : Result X ReadFault) (came : List ℕ) (is_over : Bool) (read : Read) (ended : Result X FaultOf)
+    → IsListedTo first many lines listed came is_over → EndsSo read listed came is_over ended
+    → AnswersLogRecords first many read (lines ++ text_behind ended) (status_behind ended)
+closed_answers {X = X} first many lines listed came is_over (Err fault) ended to is =
+    subst (λ (r : Result X FaultOf). AnswersLogRecords first many (Err fault) (lines ++ text_behind r) (status_behind r)) (sym is)
+    (to.0.0, (text_of (of_source fault), (refl, refl), ap (λ (t : List ℕ). t ++ text_of (of_source fault)) to.0.1))
+closed_answers {X = X} first many lines (Ok done) came is_over (Ok all) ended to is =
+    subst (λ (r : Result X FaultOf). AnswersLogRecords first many (Ok all) (lines ++ text_behind r) (status_behind r)) (sym is.1)
+    (inl (subst (λ (t : List ℕ). AnswersRecords first many all t 0) (sym (append-nil lines)) (to.1 all is.0)))
+closed_answers {X = X} first many lines (Err (read_fault.Bad e)) came is_over (Ok all) ended to is =
+    subst (λ (r : Result X FaultOf). AnswersLogRecords first many (Ok all) (lines ++ text_behind r) (status_behind r)) (sym is.1) (inl (to.1 all is.0))
+closed_answers first many lines (Err read_fault.CannotRead) came is_over (Ok all) ended to is = absurd is
+closed_answers {X = X} first many lines (Err read_fault.OutOfMemory) came is_over (Ok all) ended to is =
+    subst (λ (r : Result X FaultOf). AnswersLogRecords first many (Ok all) (lines ++ text_behind r) (status_behind r)) (sym is.1) (out_of_memory first many lines all (to.1 all is.0))
+
+-- lines were written, and what is said behind them was, or wasn't
+pub end_said : {W E X : Type 0} (contents : W → Option (List ℕ)) (is_finished : W → Type 0) (old now new : W) (answers : List ℕ → ℕ → Type 0) (lines : List ℕ) (ended : Result X FaultOf) (r : Result ℕ E)
+    → answers (lines ++ text_behind ended) (status_behind ended) → Appends (contents old) (contents now) lines → IfOk r (λ s. s ≡ status_behind ended)
+    → OnOk r (Wrote contents is_finished now (text_behind ended) new) → Prints answers (Wrote contents is_finished) old new r
+end_said contents is_finished old now new answers lines ended (Err e) answered listed is wrote = (lines ++ text_behind ended, (status_behind ended, answered))
+end_said contents is_finished old now new answers lines ended (Ok s) answered listed is wrote = (
+  lines ++ text_behind ended,
+  subst (λ n. answers (lines ++ text_behind ended) n) (sym is) answered,
+  (Appends-trans (contents old) (contents now) (contents new) lines (text_behind ended) listed wrote.0, wrote.1),
 )
+
+-- the bytes that came, by what the reader says
+by_reader : {X : Type 0} (first many : Option ℕ) (lines : List ℕ) (listed : Result X ReadFault) (bytes came : List ℕ) (is_over over : Bool) → came ≡ bytes → over ≡ is_over
+    → IsListedTo first many lines listed bytes is_over → IsListedTo first many lines listed came over
+by_reader first many lines listed bytes came is_over over same ends to =
+    subst (λ (b : List ℕ). IsListedTo first many lines listed b over) (sym same) (subst (λ (o : Bool). IsListedTo first many lines listed bytes o) (sym ends) to)
+
+-- a log was listed and closed, and what is said behind the lines was, or wasn't
+pub listing_ended : {W E X : Type 0} (contents : W → Option (List ℕ)) (is_finished : W → Type 0) (old now new : W) (first many : Option ℕ) (lines : List ℕ) (listed : Result X ReadFault)
+    (bytes came : List ℕ) (is_over over : Bool) (read : Read) (ended : Result X FaultOf) (r : Result ℕ E)
+    → Appends (contents old) (contents now) lines → IsListedTo first many lines listed bytes is_over → came ≡ bytes → over ≡ is_over → EndsSo read listed came over ended
+    → IfOk r (λ s. s ≡ status_behind ended) → OnOk r (Wrote contents is_finished now (text_behind ended) new) → Prints (AnswersLogRecords first many read) (Wrote contents is_finished) old new r
+listing_ended contents is_finished old now new first many lines listed bytes came is_over over read ended r added to same ends is status wrote =
+    end_said contents is_finished old now new (AnswersLogRecords first many read) lines ended r
+    (closed_answers first many lines listed came over read ended (by_reader first many lines listed bytes came is_over over same ends to) is) added status wrote
+
+-- a write failed, and the log was closed
+pub torn_closed : {S Y : Type 0} (X : Type 0) (gives : Reads S) (old new : S) (name : List ℕ) (first many : Option ℕ) (lines bytes came : List ℕ) (is_over over failed : Bool) (r : Result Y SourceError)
+    → IsListedTo first many lines (stopped X) bytes is_over → came ≡ bytes → over ≡ is_over → Closes gives old name came over failed r new
+    → (read : Read) × gives old name read new × ((text : List ℕ) × ((status : ℕ) × AnswersLogRecords first many read text status))
+torn_closed X gives old new name first many lines bytes came is_over over failed (Ok y) to same ends closes =
+    let listed = by_reader first many lines (stopped X) bytes came is_over over same ends to in
+    (Ok closes.1.0, closes.1.1.1, (lines ++ text_of OutOfMemory, (3, out_of_memory first many lines closes.1.0 (listed.1 closes.1.0 closes.1.1.0))))
+torn_closed X gives old new name first many lines bytes came is_over over failed (Err fault) to same ends closes =
+    let said = text_of (of_source fault) in
+    (Err fault, closes, (lines ++ said, (status_by (of_source fault), (to.0.0, (said, (refl, refl), ap (λ (t : List ℕ). t ++ said) to.0.1)))))

@@ -1,12 +1,12 @@
 -- This file serves the contracts of private functions alone, and is no part of the meaning.
 use Rattle.std.specs.List.{flat_map}
-use Rattle.std.specs.Prelude.{◌≡◌, ◌⊎◌, ◌&&◌, ℕ, ◌-◌, Bool, true, List, ◌++◌, Option, Some, None, Result, Ok, Err, nat_le, nat_lt, option_map}
+use Rattle.std.specs.Prelude.{◌≡◌, ◌⊎◌, ◌&&◌, ℕ, ◌-◌, Bool, true, List, [], ◌++◌, Option, Some, None, Result, Ok, Err, nat_le, nat_lt, option_map}
 use Rattle.report_lines.specs.declared.answer.Answer.{Answer}
 use Rattle.report_lines.specs.declared.answer.Answer.TheVariants.{Finding}
 use Rattle.report_lines.specs.declared.answer.Answer.TheVariants as answer
 use Rattle.report_lines.specs.declared.fault.Fault.{Fault}
 use Rattle.report_lines.specs.declared.fault.Fault.TheVariants.{OutOfMemory}
-use Rattle.report_lines.specs.Faults.{of_case}
+use Rattle.report_lines.specs.Faults.{of_case, of_log, of_source}
 use Rattle.report_lines.specs.Lines.{answer_status, answer_text, line}
 use Rattle.audit_core.specs.Lines.{IsLineOf}
 use Rattle.audit_core.specs.Report.{IsReport}
@@ -17,7 +17,7 @@ use Rattle.case_files.specs.declared.case_reading.ReadCase.{ReadCase}
 use Rattle.cap_reader.specs.Defaults.{default_limits}
 use Rattle.vat_log.specs.Log.{Log}
 use Rattle.vat_log.specs.Reading.{log_of}
-use Rattle.vat_log.specs.Streams.{MayBeAll}
+use Rattle.vat_log.specs.Streams.{MayBeAll, StreamSoFar}
 use Rattle.vat_log.specs.declared.read_fault.ReadFault.{ReadFault}
 use Rattle.vat_log.specs.declared.read_fault.ReadFault.TheVariants as read
 use Rattle.vat_rules.specs.Audit.{IsTrueOf}
@@ -25,7 +25,7 @@ use Rattle.vat_log.specs.Spelling.{log_bytes}
 use Rattle.vat_rules.specs.declared.slim.finding.SlimFinding.{SlimFinding}
 use Rattle.command_run.specs.declared.output.Failed.{Failed}
 use Rattle.command_run.specs.declared.output.Failed.TheVariants.{Out, File}
-use Rattle.command_run.specs.RecordAnswers.{first_number}
+use Rattle.command_run.specs.RecordAnswers.{AnswersRecords, first_number, listing}
 use Rattle.command_run.specs.CommandAnswers.{AnswersMigration, AnswersSalvage}
 use Rattle.command_run.specs.DrawAnswers.{IsDrawn}
 use Rattle.command_run.specs.JoinAnswers.{AreFilesOf}
@@ -57,6 +57,49 @@ Prints answers wrote old new (Err fault) = (text : List ℕ) × ((status : ℕ) 
 abbrev pub is_chosen : Option ℕ → Option ℕ → ℕ → Bool
 is_chosen first None number = nat_le (first_number first) number
 is_chosen first (Some many) number = nat_le (first_number first) number && nat_lt (number - first_number first) many
+
+-- Of a log that was read so far, these lines were written, and what is said behind them answers all bytes: nothing, where it
+-- was listed to its end, or the fault of the bytes, or out of memory, by which no record may have come. Where they can't be
+-- read that is left to the source.
+abbrev pub AnswersBehind : {X : Type 0} → Option ℕ → Option ℕ → List ℕ → Result X ReadFault → List ℕ → Type 0
+AnswersBehind first many lines (Ok _) all = AnswersRecords first many all lines 0
+AnswersBehind first many lines (Err (read.Bad fault)) all =
+    AnswersRecords first many all (lines ++ line (answer_text (answer.Fault (of_log fault)))) (answer_status (answer.Fault (of_log fault)))
+AnswersBehind first many lines (Err read.CannotRead) all = Unit {0}
+AnswersBehind first many lines (Err read.OutOfMemory) all =
+    AnswersRecords first many all (lines ++ line (answer_text (answer.Fault OutOfMemory))) (answer_status (answer.Fault OutOfMemory)) ⊎ (lines ≡ [])
+
+-- memory ran out
+abbrev pub stopped : (X : Type 0) → Result X ReadFault
+stopped X = Err read.OutOfMemory
+
+-- these lines are the listing of records that came so far, and answer all bytes, whatever comes
+abbrev pub IsListedTo : {X : Type 0} → Option ℕ → Option ℕ → List ℕ → Result X ReadFault → List ℕ → Bool → Type 0
+IsListedTo first many lines listed came is_over =
+    ((log : Log) × (lines ≡ listing first many log)) × ((all : List ℕ) → MayBeAll came is_over all → AnswersBehind first many lines listed all)
+
+-- what came of listing a log while it was read: lines, and how that ended; or a write failed, and there is an answer
+abbrev pub Lists : {W E X : Type 0} → Option ℕ → Option ℕ → Writing W → StreamSoFar → W → W → Result (Result X ReadFault) E → Type 0
+Lists first many adds log old new (Ok listed) = (lines : List ℕ) × adds old lines new × IsListedTo first many lines listed log.bytes log.is_over
+Lists {X = X} first many adds log old new (Err fault) =
+    (lines : List ℕ) × IsListedTo first many lines (stopped X) log.bytes log.is_over
+
+-- what is to be said where a log was listed so and was closed then: why the source can't read it, or else how its listing ended
+abbrev pub EndsSo : {X : Type 0} → Read → Result X ReadFault → List ℕ → Bool → Result X Fault → Type 0
+EndsSo (Err fault) listed came is_over ended = ended ≡ Err (of_source fault)
+EndsSo (Ok all) (Ok done) came is_over ended = MayBeAll came is_over all × (ended ≡ Ok done)
+EndsSo (Ok all) (Err (read.Bad fault)) came is_over ended = MayBeAll came is_over all × (ended ≡ Err (of_log fault))
+EndsSo (Ok all) (Err read.CannotRead) came is_over ended = ⊥
+EndsSo (Ok all) (Err read.OutOfMemory) came is_over ended = MayBeAll came is_over all × (ended ≡ Err OutOfMemory)
+
+-- what is said behind the lines of a log, and the status
+abbrev pub text_behind : {X : Type 0} → Result X Fault → List ℕ
+text_behind (Ok _) = []
+text_behind (Err fault) = line (answer_text (answer.Fault fault))
+
+abbrev pub status_behind : {X : Type 0} → Result X Fault → ℕ
+status_behind (Ok _) = 0
+status_behind (Err fault) = answer_status (answer.Fault fault)
 
 -- what came of a case that was judged: its report, or its fault, or memory ran out
 abbrev pub ComesJudged : {S : Type 0} → Reads S → S → List ℕ → Result Report Fault → S → Type 0

@@ -13,7 +13,8 @@ use Rattle.vat_rules.specs.Audit.{edition_of}
 use Rattle.report_lines.specs.declared.answer.Answer.{Answer}
 use Rattle.report_lines.specs.declared.answer.Answer.TheVariants.{Fault}
 use Rattle.report_lines.specs.declared.fault.Fault.TheVariants.{OutOfMemory}
-use Rattle.report_lines.specs.Faults.{of_log}
+use Rattle.case_files.specs.declared.source.SourceError.{SourceError}
+use Rattle.report_lines.specs.Faults.{of_log, of_source}
 use Rattle.report_lines.specs.Lines.{SaysAnswer, line}
 use Rattle.report_lines.specs.RecordText.{record_text}
 use Rattle.command_run.specs.Answers.{view_answer}
@@ -73,3 +74,8 @@ ListsNone bytes text status = (fault : LogError) × ((header_of bytes ≡ Err fa
 -- records are asked for, unless memory ran out.
 abbrev pub AnswersRecords : Option ℕ → Option ℕ → List ℕ → List ℕ → ℕ → Type 0
 AnswersRecords first many bytes text status = ListsAll first many bytes text status ⊎ ListsSome first many bytes text status ⊎ ListsNone bytes text status
+
+-- the log can't be read to its end: behind the lines of records that came before that, or of none, the source's fault is told
+abbrev pub ListsBefore : Option ℕ → Option ℕ → SourceError → List ℕ → ℕ → Type 0
+ListsBefore first many fault text status = (log : Log) × ((last : List ℕ) × SaysAnswer (Fault (of_source fault)) last status
+    × (text ≡ listing first many log ++ last))

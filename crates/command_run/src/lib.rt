@@ -1,7 +1,8 @@
 //! A command, run: what it asks of its source, and what it writes.
 //!
 //! It stands on `command_line`, whose `Command` it runs, on `case_files`, whose `Source` it asks, on the crates that read
-//! logs, frames and cases, on `log_ends`, which joins logs, on `audit_core`, which audits a case, and on `authority`, which finds the edges of its run;
+//! logs, frames and cases, on `log_lane` and `case_streams`, which judge a log and a case while they read them, on `log_ends`,
+//! which joins logs, on `audit_core`, which audits a case that is kept, and on `authority`, which finds the edges of its run;
 //! `report_lines` shows what it answers. It opens no file: a source gives bytes by name, and an [`Output`] takes lines and
 //! bytes. The answer of each command stands in `specs/CommandAnswers.antt`, over that of a log and of a frame
 //! (`specs/Answers.antt`), of a file of frames (`specs/FrameFiles.antt`), of the records of a log (`specs/RecordAnswers.antt`), of

@@ -4,7 +4,8 @@ use audit_core::Gate;
 
 /// What is told how far the audit of a case has come: of its beginning here, and of each piece as a gate.
 pub trait Watch: Gate {
-    /// A case of so many logs and links is about to be audited; its pieces are numbered so, the logs first.
+    /// A case of so many logs and links, which is kept, is about to be audited; its pieces are numbered so, the logs first. Of one
+    /// that is judged while it is read this isn't told.
     fn begins(&self, logs: usize, links: usize);
 }
 

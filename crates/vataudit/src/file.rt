@@ -3,6 +3,7 @@
 ghost use Rattle.std.specs.Prelude.{◌≡◌, ◌<◌, ◌≤◌, [], false, length, IfErr, IfOk, IfSome, OnOk};
 
 use crate::folder_reader::{FolderReader, Opened, copy_of};
+use crate::host::LogHost;
 use bytes::Bytes;
 use case_files::{RememberingSource, Source, SourceError};
 use command_run::SearchingSource;
@@ -16,6 +17,9 @@ use std::rt::Files;
 /// How many bytes a file may have that is read at once, and how many the files have together that are read once more: 2^30 at
 /// most.
 const LIMIT: usize = 1_073_741_824;
+
+/// How many files are held open at once, at most. Those that are opened when so many are open are read at once.
+const HELD_OPEN: usize = 256;
 
 /// All that was read, where it is at most the limit. Else the reason is told.
 fn within_limit(bytes: Vec<u8>, why: &mut Option<io::Error>) -> Result<Bytes, SourceError>
@@ -70,32 +74,18 @@ pub fn read_all<R: Read + Drop>(
     }
 }
 
-/// All bytes of standard input, which are there once. Where they can't be read the reason is told.
-fn read_input<R: Input + AllocGlobal>(
-    rt: &R,
-    was_read: &mut bool,
-    why: &mut Option<io::Error>,
-) -> Result<Bytes, SourceError> {
-    if *was_read {
-        *why = Some(io::Error::other("standard input was read before"));
-        return Err(SourceError::CannotRead);
-    }
-    *was_read = true;
-    read_all(rt.alloc(), rt.reader(), 0, why)
+/// Why standard input can't be read where it was read before.
+fn read_before() -> io::Error {
+    io::Error::other("standard input was read before")
 }
 
-/// All bytes of a file, or of standard input. Where they can't be read the reason is told.
-fn read_named<R: Files + Input + AllocGlobal>(
-    rt: &R,
-    name: &str,
-    input_was_read: &mut bool,
+/// All bytes of a file that was opened. Where they can't be read the reason is told.
+fn read_file<F: Read + OpenFile + Drop>(
+    alloc: Global,
+    opened: io::Result<F>,
     why: &mut Option<io::Error>,
 ) -> Result<Bytes, SourceError> {
-    let alloc = rt.alloc();
-    if name == "-" {
-        return read_input(rt, input_was_read, why);
-    }
-    match fs::open(rt, name) {
+    match opened {
         Ok(file) => {
             let room = room_for(&file);
             read_all(alloc, file, room, why)
@@ -104,9 +94,19 @@ fn read_named<R: Files + Input + AllocGlobal>(
     }
 }
 
-/// What was read, to be handed out; or why nothing was.
-fn opened(read: Result<Bytes, SourceError>, why: Option<io::Error>) -> Opened {
-    match read {
+/// Whether a file can be read once more under its name, as a pipe can't.
+fn lasts<F: OpenFile>(file: &F) -> bool {
+    match file.metadata() {
+        Ok(metadata) => metadata.is_file(),
+        Err(_) => false,
+    }
+}
+
+/// The bytes of a file that isn't held open, to be handed out; or why there are none.
+fn whole<F: Read + OpenFile + Drop, I>(alloc: Global, file: F) -> Opened<F, I> {
+    let room = room_for(&file);
+    let mut why = None;
+    match read_all(alloc, file, room, &mut why) {
         Ok(bytes) => Opened::Whole(bytes, 0),
         Err(SourceError::CannotRead) => Opened::Refused(why),
         Err(SourceError::OutOfMemory) => {
@@ -115,24 +115,75 @@ fn opened(read: Result<Bytes, SourceError>, why: Option<io::Error>) -> Opened {
     }
 }
 
-/// What hands out a file, or standard input.
-fn open_named<R: Files + Input + AllocGlobal>(
-    rt: &R,
-    name: &str,
-    input_was_read: &mut bool,
-) -> FolderReader
-    ensures { result.pieces ≡ record { bytes = []; is_over = false } }
-{
-    let mut why = None;
-    let read = read_named(rt, name, input_was_read, &mut why);
-    FolderReader::new(opened(read, why), name != "-")
+/// What was opened of the files of the working directory, and of standard input.
+#[derive(Drop)]
+struct Openings {
+    files: usize,
+    input_was_read: bool,
+}
+
+impl Openings {
+    /// Before anything is opened.
+    fn new() -> Openings {
+        Openings {
+            files: 0,
+            input_was_read: false,
+        }
+    }
+
+    /// All bytes of standard input, which are there once. Where they can't be read the reason is told.
+    fn read_input<I: Read + Drop>(
+        &mut self,
+        alloc: Global,
+        input: I,
+        why: &mut Option<io::Error>,
+    ) -> Result<Bytes, SourceError> {
+        if self.input_was_read {
+            *why = Some(read_before());
+            return Err(SourceError::CannotRead);
+        }
+        self.input_was_read = true;
+        read_all(alloc, input, 0, why)
+    }
+
+    /// What hands out a file that was opened.
+    fn of_file<F: Read + OpenFile + Drop, I>(
+        &mut self,
+        alloc: Global,
+        opened: io::Result<F>,
+    ) -> FolderReader<F, I>
+        ensures { result.pieces ≡ record { bytes = []; is_over = false } }
+    {
+        match opened {
+            Ok(file) => {
+                let lasts = lasts(&file);
+                if self.files < HELD_OPEN {
+                    self.files += 1;
+                    return FolderReader::new(alloc, Opened::File(file), lasts);
+                }
+                FolderReader::new(alloc, whole(alloc, file), lasts)
+            }
+            Err(why) => FolderReader::new(alloc, Opened::Refused(Some(why)), true),
+        }
+    }
+
+    /// What hands out standard input, once.
+    fn of_input<F, I: Drop>(&mut self, alloc: Global, input: I) -> FolderReader<F, I>
+        ensures { result.pieces ≡ record { bytes = []; is_over = false } }
+    {
+        if self.input_was_read {
+            return FolderReader::new(alloc, Opened::Refused(Some(read_before())), false);
+        }
+        self.input_was_read = true;
+        FolderReader::new(alloc, Opened::Input(input), false)
+    }
 }
 
 /// The files of the working directory, and standard input under the name `-`, which is read once. Contracts see nothing of it.
 #[derive(Drop)]
 pub struct Folder<'a, R> {
     rt: &'a R,
-    input_was_read: bool,
+    openings: Openings,
 }
 
 impl<'a, R> Model for Folder<'a, R> {
@@ -148,26 +199,36 @@ impl<'a, R> Folder<'a, R> {
     pub fn new(rt: &'a R) -> Folder<'a, R> {
         Folder {
             rt,
-            input_was_read: false,
+            openings: Openings::new(),
         }
     }
 }
 
-impl<R: Files + Input + AllocGlobal> Source for Folder<'_, R> {
-    type Reader = FolderReader;
+impl<R: LogHost> Source for Folder<'_, R> {
+    type Reader = FolderReader<R::LogFile, R::LogInput>;
 
     fn read(&mut self, name: &str) -> Result<Bytes, SourceError> {
-        read_named(self.rt, name, &mut self.input_was_read, &mut None)
+        let alloc = self.rt.alloc();
+        if name == "-" {
+            let input = self.rt.log_input();
+            return self.openings.read_input(alloc, input, &mut None);
+        }
+        read_file(alloc, self.rt.open_log(name), &mut None)
     }
 
-    fn open(&mut self, name: &str) -> FolderReader {
-        open_named(self.rt, name, &mut self.input_was_read)
+    fn open(&mut self, name: &str) -> FolderReader<R::LogFile, R::LogInput> {
+        let alloc = self.rt.alloc();
+        if name == "-" {
+            let input = self.rt.log_input();
+            return self.openings.of_input(alloc, input);
+        }
+        self.openings.of_file(alloc, self.rt.open_log(name))
     }
 
     fn close(
         &mut self,
         _name: &str,
-        _reader: &FolderReader,
+        _reader: &FolderReader<R::LogFile, R::LogInput>,
         failed: bool,
     ) -> Result<(), SourceError> {
         closed(failed)
@@ -188,23 +249,37 @@ fn closed(failed: bool) -> Result<(), SourceError>
 #[derive(Drop)]
 struct ClosedFile {
     name: String,
-    lasts: bool,
     count: u64,
-    bytes: Option<Bytes>,
+    again: Again,
+}
+
+/// Where the bytes of a file that was closed come from once more.
+#[derive(Drop)]
+enum Again {
+    /// From the file.
+    File,
+    /// From those that its reader kept.
+    Kept(Bytes),
+    /// From nowhere.
+    Nowhere,
 }
 
 impl ClosedFile {
     /// The file of this name, and what its reader has of it.
-    fn of(alloc: Global, name: &str, reader: &FolderReader) -> Result<ClosedFile, AllocError> {
-        let bytes = match reader.kept() {
-            Some(bytes) => Some(bytes.clone()?),
-            None => None,
+    fn of<F, I>(
+        alloc: Global,
+        name: &str,
+        reader: &FolderReader<F, I>,
+    ) -> Result<ClosedFile, AllocError> {
+        let again = match reader.kept() {
+            Some(bytes) => Again::Kept(Bytes::copy_from_slice(alloc, bytes)?),
+            None if reader.lasts() => Again::File,
+            None => Again::Nowhere,
         };
         Ok(ClosedFile {
             name: String::from_str(alloc, name)?,
-            lasts: reader.lasts(),
             count: reader.count(),
-            bytes,
+            again,
         })
     }
 }
@@ -213,12 +288,13 @@ impl ClosedFile {
 #[derive(Drop)]
 pub struct RememberingFolder<'a, R> {
     rt: &'a R,
-    input_was_read: bool,
+    openings: Openings,
     last: Option<String>,
     refusal: Option<io::Error>,
     kept: Vec<(String, Bytes)>,
     closed: Vec<ClosedFile>,
     left_out: Vec<String>,
+    lasting: Vec<String>,
 }
 
 impl<'a, R> Model for RememberingFolder<'a, R> {
@@ -234,12 +310,13 @@ impl<'a, R: AllocGlobal> RememberingFolder<'a, R> {
     pub fn new(rt: &'a R) -> RememberingFolder<'a, R> {
         RememberingFolder {
             rt,
-            input_was_read: false,
+            openings: Openings::new(),
             last: None,
             refusal: None,
             kept: Vec::new(rt.alloc()),
             closed: Vec::new(rt.alloc()),
             left_out: Vec::new(rt.alloc()),
+            lasting: Vec::new(rt.alloc()),
         }
     }
 
@@ -261,7 +338,7 @@ impl<'a, R: AllocGlobal> RememberingFolder<'a, R> {
     }
 }
 
-impl<R: Files + Input + AllocGlobal> RememberingFolder<'_, R> {
+impl<R: Files + AllocGlobal> RememberingFolder<'_, R> {
     /// How many bytes may still be read once more.
     fn room(&self) -> usize {
         let mut room = LIMIT;
@@ -272,7 +349,11 @@ impl<R: Files + Input + AllocGlobal> RememberingFolder<'_, R> {
     }
 
     /// Keeps the name whose reading ends, and what its reader has. Where memory is refused less is kept.
-    fn keep_closed(&mut self, name: &str, reader: &FolderReader) -> Result<(), AllocError> {
+    fn keep_closed<F, I>(
+        &mut self,
+        name: &str,
+        reader: &FolderReader<F, I>,
+    ) -> Result<(), AllocError> {
         self.keep_name(name)?;
         let file = ClosedFile::of(self.rt.alloc(), name, reader)?;
         self.closed.push(file)?;
@@ -280,13 +361,17 @@ impl<R: Files + Input + AllocGlobal> RememberingFolder<'_, R> {
     }
 
     /// The bytes of a file that was closed: those that its reader kept, or else those that are read once more; at most so many.
-    fn read_again(&self, file: &mut ClosedFile, room: usize) -> Option<Bytes> {
-        let bytes = match file.bytes.take() {
-            Some(bytes) => bytes,
-            None if file.lasts && file.count <= room as u64 => {
-                read_named(self.rt, file.name.as_str(), &mut true, &mut None).ok()?
+    fn read_again(&self, file: &ClosedFile, room: usize) -> Option<Bytes> {
+        if file.count > room as u64 {
+            return None;
+        }
+        let bytes = match &file.again {
+            Again::File => {
+                let opened = fs::open(self.rt, file.name.as_str());
+                read_file(self.rt.alloc(), opened, &mut None).ok()?
             }
-            None => return None,
+            Again::Kept(bytes) => bytes.clone().ok()?,
+            Again::Nowhere => return None,
         };
         if bytes.len() <= room {
             Some(bytes)
@@ -295,36 +380,59 @@ impl<R: Files + Input + AllocGlobal> RememberingFolder<'_, R> {
         }
     }
 
-    /// Keeps the bytes of a file that was closed, or else its name, where some came.
-    fn keep_again(&mut self, mut file: ClosedFile) -> Result<(), AllocError> {
+    /// Keeps the name of a file whose bytes aren't kept, where some came.
+    fn leave_out(&mut self, file: ClosedFile) -> Result<(), AllocError> {
+        if file.count == 0 {
+            return Ok(());
+        }
+        if let Again::File = file.again {
+            let name = String::from_str(self.rt.alloc(), file.name.as_str())?;
+            self.lasting.push(name)?;
+        }
+        self.left_out.push(file.name)?;
+        Ok(())
+    }
+
+    /// Keeps the bytes of a file that was closed, or else its name.
+    fn keep_again(&mut self, file: ClosedFile) -> Result<(), AllocError> {
         let room = self.room();
-        match self.read_again(&mut file, room) {
+        match self.read_again(&file, room) {
             Some(bytes) => self.kept.push((file.name, bytes))?,
-            None if file.count > 0 => self.left_out.push(file.name)?,
-            None => {}
+            None => self.leave_out(file)?,
         }
         Ok(())
     }
 }
 
-impl<R: Files + Input + AllocGlobal> Source for RememberingFolder<'_, R> {
-    type Reader = FolderReader;
+impl<R: LogHost> Source for RememberingFolder<'_, R> {
+    type Reader = FolderReader<R::LogFile, R::LogInput>;
 
     fn read(&mut self, name: &str) -> Result<Bytes, SourceError> {
         self.refusal = None;
-        let read = read_named(self.rt, name, &mut self.input_was_read, &mut self.refusal);
+        let alloc = self.rt.alloc();
+        let read = if name == "-" {
+            let input = self.rt.log_input();
+            self.openings.read_input(alloc, input, &mut self.refusal)
+        } else {
+            read_file(alloc, self.rt.open_log(name), &mut self.refusal)
+        };
         let _ = self.keep(name, &read);
         read
     }
 
-    fn open(&mut self, name: &str) -> FolderReader {
-        open_named(self.rt, name, &mut self.input_was_read)
+    fn open(&mut self, name: &str) -> FolderReader<R::LogFile, R::LogInput> {
+        let alloc = self.rt.alloc();
+        if name == "-" {
+            let input = self.rt.log_input();
+            return self.openings.of_input(alloc, input);
+        }
+        self.openings.of_file(alloc, self.rt.open_log(name))
     }
 
     fn close(
         &mut self,
         name: &str,
-        reader: &FolderReader,
+        reader: &FolderReader<R::LogFile, R::LogInput>,
         failed: bool,
     ) -> Result<(), SourceError> {
         self.refusal = match reader.refusal() {
@@ -336,7 +444,7 @@ impl<R: Files + Input + AllocGlobal> Source for RememberingFolder<'_, R> {
     }
 }
 
-impl<R: Files + Input + AllocGlobal> RememberingSource for RememberingFolder<'_, R> {
+impl<R: LogHost> RememberingSource for RememberingFolder<'_, R> {
     fn last(&self) -> Option<&str> {
         self.last.as_ref().map(String::as_str)
     }
@@ -360,9 +468,17 @@ impl<R: Files + Input + AllocGlobal> RememberingSource for RememberingFolder<'_,
     fn left_out(&self) -> &[String] {
         &self.left_out
     }
+
+    fn open_again(&self, name: &str) -> Option<FolderReader<R::LogFile, R::LogInput>> {
+        if !self.lasting.iter().any(|lasting| lasting.as_str() == name) {
+            return None;
+        }
+        let file = self.rt.open_log(name).ok()?;
+        Some(FolderReader::new(self.rt.alloc(), Opened::File(file), true))
+    }
 }
 
-impl<R: Files + Input + AllocGlobal> SearchingSource for RememberingFolder<'_, R> {
+impl<R: LogHost> SearchingSource for RememberingFolder<'_, R> {
     fn has(&self, name: &str) -> bool {
         fs::exists(self.rt, name).unwrap_or(false)
     }

@@ -23,6 +23,7 @@ ghost use Rattle.report_lines.specs.Faults.{fault_status};
 
 mod file;
 mod folder_reader;
+mod host;
 mod made;
 mod manner;
 mod named_file;
@@ -40,6 +41,7 @@ use command_run::{
     run_as_json, run_as_json_with_notes, run_on, run_telling, run_with_notes,
 };
 use file::{Folder, RememberingFolder};
+use host::LogHost;
 use json_lines::OUT_OF_MEMORY;
 use made::Made;
 use manner::{Manner, take_manner};
@@ -130,7 +132,7 @@ fn may_take_long(command: &Command<'_>) -> bool {
 }
 
 /// Runs a command with lines as text and without notes.
-fn run_quietly<R: Threads + Wait + Sync + Files + Input + AllocGlobal, W: Write>(
+fn run_quietly<R: Threads + Wait + Sync + LogHost, W: Write>(
     rt: &R,
     command: &Command<'_>,
     out: &mut W,
@@ -149,7 +151,7 @@ fn tells_more(telling: Telling<'_>) -> bool {
 
 /// Runs a command with lines and notes as text, with names and reasons where these are told.
 fn run_noted<
-    R: Threads + Wait + Sync + Files + Input + AllocGlobal,
+    R: Threads + Wait + Sync + LogHost,
     G: Watch + Sync,
     S: SearchingSource,
     W: Write,
@@ -172,7 +174,7 @@ fn run_noted<
 }
 
 /// Runs a command with lines and notes as text, and tells nothing of its progress.
-fn run_plainly<R: Threads + Wait + Sync + Files + Input + AllocGlobal, W: Write, N: Write + Drop>(
+fn run_plainly<R: Threads + Wait + Sync + LogHost, W: Write, N: Write + Drop>(
     rt: &R,
     telling: Telling<'_>,
     command: &Command<'_>,
@@ -193,14 +195,7 @@ fn run_plainly<R: Threads + Wait + Sync + Files + Input + AllocGlobal, W: Write,
 /// Runs a command with lines and notes as text, and tells of its progress meanwhile. Where no thread can be started it tells
 /// nothing.
 fn run_with_progress<
-    R: Threads
-        + Wait
-        + Clock
-        + Sync
-        + Files<File: Send>
-        + Input<Reader: Send>
-        + Eprint
-        + AllocGlobal,
+    R: Threads + Wait + Clock + Sync + LogHost + Eprint,
     W: Write,
     N: Write + Drop,
 >(
@@ -260,7 +255,7 @@ fn json_output<'a, W: Write>(
 }
 
 /// Runs a command with lines as JSON objects, the last of which has the notes where none asks for quiet.
-fn run_in_json<R: Threads + Wait + Sync + Files + Input + AllocGlobal, W: Write>(
+fn run_in_json<R: Threads + Wait + Sync + LogHost, W: Write>(
     rt: &R,
     telling: Telling<'_>,
     command: &Command<'_>,
@@ -281,15 +276,7 @@ fn run_in_json<R: Threads + Wait + Sync + Files + Input + AllocGlobal, W: Write>
 
 /// Runs a command with lines as text, and gives the exit status.
 fn run_in_text<
-    R: Threads
-        + Wait
-        + Clock
-        + Sync
-        + Files<File: Send>
-        + Input<Reader: Send>
-        + Print
-        + Eprint
-        + AllocGlobal,
+    R: Threads + Wait + Clock + Sync + LogHost + Print + Eprint,
     W: Write,
     N: Write + IsTerminal + Drop,
 >(
@@ -330,15 +317,7 @@ fn refuse_schema<R: Print + Eprint + AllocGlobal>(
 
 /// Runs a command in a manner, with these names where any are asked for, and gives the exit status.
 fn run_named<
-    R: Threads
-        + Wait
-        + Clock
-        + Sync
-        + Files<File: Send>
-        + Input<Reader: Send>
-        + Print
-        + Eprint
-        + AllocGlobal,
+    R: Threads + Wait + Clock + Sync + LogHost + Print + Eprint,
     W: Write,
     N: Write + IsTerminal + Drop,
 >(
@@ -376,15 +355,7 @@ fn asked_names<'a>(manner: &Manner, names: &'a Names) -> Option<&'a Names> {
 
 /// Runs a command in a manner, with the names of the schemas that are asked for, and gives the exit status.
 fn run_in<
-    R: Threads
-        + Wait
-        + Clock
-        + Sync
-        + Files<File: Send>
-        + Input<Reader: Send>
-        + Print
-        + Eprint
-        + AllocGlobal,
+    R: Threads + Wait + Clock + Sync + LogHost + Print + Eprint,
     W: Write,
     N: Write + IsTerminal + Drop,
 >(rt: &R, manner: &Manner, command: &Command<'_>, out: &mut W, notes: N) -> u8
@@ -402,15 +373,7 @@ fn run_in<
 /// Does what the words ask, writes its lines to `out` and, where none asks for quiet, notes to `notes`, or both as JSON
 /// objects to `out`; and gives the exit status.
 fn start<
-    R: Threads
-        + Wait
-        + Clock
-        + Sync
-        + Files<File: Send>
-        + Input<Reader: Send>
-        + Print
-        + Eprint
-        + AllocGlobal,
+    R: Threads + Wait + Clock + Sync + LogHost + Print + Eprint,
     W: Write,
     N: Write + IsTerminal + Drop,
 >(rt: &R, out: &mut W, notes: N, words: &mut Vec<String>) -> u8 {

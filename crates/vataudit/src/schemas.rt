@@ -1,12 +1,12 @@
 //! The schemas whose names are printed.
 
 use crate::file::Folder;
+use crate::host::LogHost;
 use crate::manner::Manner;
 use case_files::{Source, SourceError};
 use json_lines::bad_schema_object;
 use schema_names::{Limits, Names, SchemaError, read_names};
 use std::alloc::{AllocError, Global};
-use std::rt::Files;
 
 /// Why a schema isn't read.
 #[derive(Clone, Copy, Debug, PartialEq, Eq)]
@@ -47,7 +47,7 @@ impl From<SchemaError> for SchemaFault {
 }
 
 /// Puts the names of a file behind those that are there.
-fn add_names<R: Files + Input + AllocGlobal>(
+fn add_names<R: LogHost>(
     alloc: Global,
     folder: &mut Folder<'_, R>,
     file: &str,
@@ -60,7 +60,7 @@ fn add_names<R: Files + Input + AllocGlobal>(
 }
 
 /// The names of all these files, or the first one that has none, and why.
-pub fn names_of<'a, R: Files + Input + AllocGlobal>(
+pub fn names_of<'a, R: LogHost>(
     rt: &R,
     files: &'a [String],
 ) -> Result<Names, (&'a str, SchemaFault)> {

@@ -93,6 +93,14 @@ impl<S: RememberingSource> RememberingSource for CountedSource<'_, S> {
     fn left_out(&self) -> &[String] {
         self.source.left_out()
     }
+
+    fn open_again(&self, name: &str) -> Option<Self::Reader> {
+        let reader = self.source.open_again(name)?;
+        Some(CountedReader {
+            reader,
+            progress: self.progress,
+        })
+    }
 }
 
 impl<S: SearchingSource> SearchingSource for CountedSource<'_, S> {

@@ -6,20 +6,20 @@ ghost use Rattle.report_lines.specs.Lines.{line};
 ghost use Rattle.report_lines.specs.RecordText.{record_text};
 ghost use Rattle.vat_log.specs.Runs.{BeginsWith};
 ghost use Rattle.command_run.specs.CommandAnswers.{AnswersLogRecords};
-ghost use Rattle.command_run.specs.Glue.{Prints, is_chosen};
-ghost use Rattle.command_run.specs.RecordAnswers.{AnswersRecords, record_line};
+ghost use Rattle.command_run.specs.Glue.{EndsSo, Lists, Prints, is_chosen, status_behind, text_behind};
+ghost use Rattle.command_run.specs.RecordAnswers.{record_line};
 ghost use Rattle.command_run.specs.Runs.{Adds, Wrote};
 
 use crate::answering::say;
 use crate::commands::hex_frame::answer_of_bytes;
 use crate::output::Output;
-use bytes::Bytes;
+use byte_pieces::Pieces;
 use case_files::Source;
 use cause_notes::Heard;
 use report_lines::{Answer, Fault, NumberedRecord};
 use rpc_view::Edition;
 use std::alloc::{AllocError, Global};
-use vat_log::{Body, LogReader, Record};
+use vat_log::{Body, LogStream, ReadFault, Record};
 use vat_rules::edition_of_header;
 
 /// Which records of a log are asked for.
@@ -76,63 +76,86 @@ fn put_numbered<O: Output>(shown: NumberedRecord<'_>, out: &mut O) -> Result<(),
     out.write_line(&shown)
 }
 
-/// Says the records that are asked for of a log whose reader stands in front of the first one, their frames read by the log's
-/// edition, and then its fault, if there is one. No record is kept, and those that aren't asked for are read, too.
-fn say_listing<O: Output>(
+/// Lists the records that are asked for of a log of which only the header was read, their frames read by the log's edition: to
+/// its end, or why not. Each is written as soon as it is read, and none is kept; those that aren't asked for are read, too.
+///
+/// # Errors
+///
+/// That of a write; nothing is written after it.
+fn list_stream<P: Pieces, O: Output>(
     alloc: Global,
-    mut reader: LogReader,
+    stream: &mut LogStream<P>,
     range: RecordRange,
-    heard: &mut Heard,
     out: &mut O,
-) -> Result<u8, O::Error>
+) -> Result<Result<(), ReadFault>, O::Error>
     requires out { O.can_write out.old }
-    requires begun { BeginsWith reader.bytes reader.log }
-    requires none { reader.log.records ≡ [] }
-    ensures { Prints (AnswersRecords range.from range.count reader.bytes)
-        (Wrote O.contents O.is_finished) out.old out.new result }
+    requires begun { BeginsWith stream.old.bytes stream.old.log }
+    requires none { stream.old.log.records ≡ [] }
+    ensures lines { Lists range.from range.count (Adds O.contents) stream.new out.old out.new result }
+    ensures more { OnOk result (O.can_write out.new) }
 {
-    let edition = edition_of_header(reader.header());
+    let edition = edition_of_header(stream.header());
     loop {
-        let number = reader.given();
-        match reader.next(alloc) {
+        let number = stream.given();
+        match stream.next(alloc) {
             Ok(Some(event)) => {
                 if range.has(number) {
                     let Ok(shown) = numbered(alloc, number, &event, edition) else {
-                        return say(Answer::Fault(Fault::OutOfMemory), heard, out);
+                        return Ok(Err(ReadFault::OutOfMemory));
                     };
                     put_numbered(shown, out)?;
                 }
             }
-            Ok(None) => break,
-            Err(fault) => return say(Answer::Fault(Fault::from(fault)), heard, out),
+            Ok(None) => return Ok(Ok(())),
+            Err(fault) => return Ok(Err(fault)),
         }
     }
-    out.finish()?;
-    Ok(0)
 }
 
-/// Says the records that are asked for of the log that these bytes are, up to its end or its first fault.
-fn say_log<O: Output>(
-    alloc: Global,
-    bytes: Bytes,
-    range: RecordRange,
+/// Ends the reading of a log that was listed to its end, or why not: what is to be said behind the lines, if anything is.
+fn ended<S: Source>(
+    source: &mut S,
+    name: &str,
+    reader: &S::Reader,
+    listed: Result<(), ReadFault>,
+) -> Result<(), Fault>
+    ensures { (read : Read) × S.read_gives source.old name.now read source.new
+        × EndsSo read listed (S.Reader.came reader.now) (S.Reader.is_over reader.now) result }
+{
+    let cannot_read = matches!(listed, Err(ReadFault::CannotRead));
+    source.close(name, reader, cannot_read)?;
+    match listed {
+        Ok(()) => Ok(()),
+        Err(ReadFault::Bad(fault)) => Err(Fault::from(fault)),
+        Err(ReadFault::CannotRead) => Err(Fault::CannotRead),
+        Err(ReadFault::OutOfMemory) => Err(Fault::OutOfMemory),
+    }
+}
+
+/// Ends the lines of a log: by why it wasn't listed to its end, or by none more.
+fn say_end<O: Output>(
+    ended: Result<(), Fault>,
     heard: &mut Heard,
     out: &mut O,
 ) -> Result<u8, O::Error>
     requires { O.can_write out.old }
-    ensures { Prints (AnswersRecords range.from range.count bytes)
-        (Wrote O.contents O.is_finished) out.old out.new result }
+    ensures status { IfOk result (λ status. status ≡ status_behind ended) }
+    ensures line { OnOk result (Wrote O.contents O.is_finished out.old (text_behind ended) out.new) }
 {
-    match LogReader::new(bytes) {
-        Ok(reader) => say_listing(alloc, reader, range, heard, out),
-        Err(fault) => say(Answer::Fault(Fault::from(fault)), heard, out),
+    match ended {
+        Ok(()) => {
+            out.finish()?;
+            Ok(0)
+        }
+        Err(fault) => say(Answer::Fault(fault), heard, out),
     }
 }
 
-/// Says the records that are asked for of the log that a source has under a name, each as soon as it is read. Where the log's
-/// bytes have a fault, that is said behind the records in front of it; where no log begins so, or it can't be read, that is said
-/// alone. The log is read to its end or its fault also where fewer records are asked for: the exit status is 0 where it is
-/// whole, whatever its frames are. Where memory runs out that is said in a last line.
+/// Says the records that are asked for of the log that a source has under a name, each as soon as it is read; of the log a
+/// window alone is kept. Where the log's bytes have a fault, or they can't be read to their end, that is said behind the records
+/// in front of it; where no log begins so, that is said alone. The log is read to its end or its fault also where fewer records
+/// are asked for: the exit status is 0 where it is whole, whatever its frames are. Where memory runs out that is said in a last
+/// line.
 ///
 /// # Errors
 ///
@@ -150,8 +173,14 @@ pub fn say_records<S: Source, O: Output>(
         × Prints (AnswersLogRecords range.from range.count read)
         (Wrote O.contents O.is_finished) out.old out.new result }
 {
-    match source.read(name) {
-        Ok(bytes) => say_log(alloc, bytes, range, heard, out),
-        Err(fault) => say(Answer::Fault(Fault::from(fault)), heard, out),
+    match LogStream::begin(alloc, source.open(name)) {
+        Ok(mut stream) => match list_stream(alloc, &mut stream, range, out) {
+            Ok(listed) => say_end(ended(source, name, stream.pieces(), listed), heard, out),
+            Err(fault) => {
+                let _ = source.close(name, stream.pieces(), false);
+                Err(fault)
+            }
+        },
+        Err((fault, reader)) => say_end(ended(source, name, &reader, Err(fault)), heard, out),
     }
 }

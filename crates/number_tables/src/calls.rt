@@ -209,22 +209,14 @@ impl Calls {
         }
     }
 
-    /// Nothing is kept of this call: neither how far it has come, nor what it asked for.
-    fn remove(&mut self, call: u64)
+    /// This call isn't bound. Nothing is kept of it: neither how far it has come, nor what it asked for.
+    pub fn forget(&mut self, call: u64)
         ensures states { (c : ℕ) → call_state_at self.new c
             ≡ (if call == c then None else call_state_at self.old c) }
         ensures request { asked_at self.new call ≡ None }
     {
         self.entries.remove(call);
         let _ = self.requests.remove(&call);
-    }
-
-    /// This call isn't bound.
-    pub fn forget(&mut self, call: u64)
-        ensures { (c : ℕ) → call_state_at self.new c
-            ≡ (if call == c then None else call_state_at self.old c) }
-    {
-        self.remove(call);
     }
 
     /// Applies a change to a call, if it is bound. What a call asked for is forgotten once it leaves the vat.

@@ -31,4 +31,4 @@ returns-then-is_err-clause-err c = λ before place kept sound.
     c.bind_and_count.new.questions c.bind_and_count.new.lives c.bind_and_count.new.bound c.begin.new.self c.forget.new.self
     c.in-Some.call c.in-Some.progress refl
     (err_gives c.bind_and_count.result (sym c.is_err.ensures.value ∙ c.if-is_err.true) c.bind_and_count.ensures.err before place kept.tabled (fits before c.args.event.now sound))
-    c.in_ok-begin-in-Some.ensures.ok c.forget.ensures
+    c.in_ok-begin-in-Some.ensures.ok c.forget.ensures.states

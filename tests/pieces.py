@@ -13,6 +13,9 @@ import sys
 import tempfile
 import threading
 
+sys.path.insert(0, os.path.join(os.path.dirname(os.path.abspath(__file__)), "lib"))
+import rounds
+
 SAMPLES = os.path.join(os.path.dirname(os.path.abspath(__file__)), "..", "samples")
 program = os.path.realpath(sys.argv[1])
 passed = failed = 0
@@ -140,6 +143,56 @@ def many_logs():
         os.remove(name)
 
 
+# What the records of the two vats of `rounds` do, before their rounds and in each: a deed of its own, a frame sent or received.
+DEEDS = {1: ("SR", "OSRS"), 2: ("OOROS", "ROOSR")}
+
+
+def failing_step(order, deeds):
+    """The first step at which an order of the two vats' records doesn't fit, or none."""
+    taken, sent, received = {1: 0, 2: 0}, {1: 0, 2: 0}, {1: 0, 2: 0}
+    for step, vat in enumerate(order):
+        if vat not in deeds or taken[vat] == len(deeds[vat]):
+            return step
+        deed = deeds[vat][taken[vat]]
+        if deed == "R" and received[vat] == sent[3 - vat]:
+            return step
+        taken[vat] += 1
+        sent[vat] += deed == "S"
+        received[vat] += deed == "R"
+    return len(order) if any(taken[vat] < len(deeds[vat]) for vat in deeds) else None
+
+
+def fitting_order(deeds):
+    """An order that fits: each vat goes as far as it may before the other does."""
+    order, vat = [], 1
+    while failing_step(order, deeds) == len(order):
+        if failing_step(order + [vat], deeds) == len(order):
+            vat = 3 - vat
+        order.append(vat)
+    return order
+
+
+def long_orders():
+    """Orders of some hundred rounds, with and without a fault, by one worker and by four."""
+    count = 150
+    deeds = {vat: before + count * each for vat, (before, each) in DEEDS.items()}
+    for vat in (rounds.Asking, rounds.Answering):
+        open(f"long{vat.number}", "wb").write(b"".join(data for data, _ in rounds.log_bytes(vat, count)))
+    json.dump({"logs": ["long1", "long2"], "links": [[0, 1, 2]], "order": "order"}, open("long.json", "w"))
+    fits = fitting_order(deeds)
+    tried = [fits, fits[:-1], fits + [1], fits[:700] + [3] + fits[700:], []]
+    tried += [fits[:at] + [fits[at + 1], fits[at]] + fits[at + 2:] for at in [*range(250, 262), *range(506, 518), len(fits) - 3]]
+    for number, order in enumerate(tried):
+        open("order", "wb").write(b"VATORD01" + struct.pack(f"<{len(order)}I", *order))
+        step = failing_step(order, deeds)
+        records = sum(map(len, deeds.values()))
+        line = f"yes vats 2 records {records} delivered {count} under_way 0\n" if step is None else f"no order step {step}\n"
+        for workers in ("1", "4"):
+            must(f"order {number} by {workers}", said("--quiet", "check", "long.json", "--workers", workers), (line, "", int(step is not None)))
+    for name in ("long1", "long2", "long.json", "order"):
+        os.remove(name)
+
+
 with tempfile.TemporaryDirectory() as room:
     for file in os.listdir(SAMPLES):
         if file.endswith((".json", ".log")):
@@ -150,6 +203,7 @@ with tempfile.TemporaryDirectory() as room:
     listed()
     not_there()
     many_logs()
+    long_orders()
     os.chdir("/")
 print(f"{passed} as they must, {failed} differ")
 sys.exit(failed != 0)

@@ -123,7 +123,7 @@ filled_pass lanes longer taken pass grown there = record {
   alike = pass.alike;
 }
 
-filled_further : (lanes longer : List (Option LaneSoFar)) (taken : Taken) → IsPass lanes taken → AreFilled lanes longer → AreThere longer → AreFurther lanes longer
+pub filled_further : (lanes longer : List (Option LaneSoFar)) (taken : Taken) → IsPass lanes taken → AreFilled lanes longer → AreThere longer → AreFurther lanes longer
 filled_further lanes longer taken pass grown there i one is =
     let b = (are_grown lanes longer grown pass.there taken.all pass.in_step there).before i one is in
     (b.0, b.1, record { vat = b.2.vat; more = b.2.more; records = b.2.records; over = b.2.over })

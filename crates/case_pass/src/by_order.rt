@@ -38,7 +38,7 @@ fn take_next<L: Lane, T: Turns>(
     ensures { IfOk result (λ took. (before : LaneSoFar) (taken : Taken) → L.so_far lane.old ≡ Some before
         → T.taken turns.old ≡ Some taken → IsStep before taken (L.so_far lane.new) (T.taken turns.new) took) }
 {
-    lane.fill(alloc);
+    lane.fill(alloc, 1);
     if lane.is_refused() {
         return Err(AllocError);
     }
@@ -55,19 +55,20 @@ fn take_next<L: Lane, T: Turns>(
     Ok(true)
 }
 
-/// Takes records by an order, up to its first step that may not come. How many steps were taken.
+/// Takes records by these steps, up to the first that may not come. How many were taken.
 fn take_steps<L: Lane, T: Turns>(
     alloc: Global,
     lanes: &mut [L],
     turns: &mut T,
-    order: &Order,
+    steps: &[u32],
 ) -> Result<usize, AllocError>
-    ensures { IfOk result (λ count. (taken : Taken) → T.taken turns.old ≡ Some taken → taken.is_stuck ≡ false
+    ensures few { IfOk result (λ count. count ≤ length steps.now) }
+    ensures taken { IfOk result (λ count. (taken : Taken) → T.taken turns.old ≡ Some taken → taken.is_stuck ≡ false
         → IsPass (map L.so_far lanes.old) taken → (more : Taken) × (T.taken turns.new ≡ Some more)
-        × AreFollowedToTheEnd (map L.so_far lanes.old) (map L.so_far lanes.new) taken more order.now count) }
+        × AreFollowedToTheEnd (map L.so_far lanes.old) (map L.so_far lanes.new) taken more steps.now count) }
 {
     let mut count = 0;
-    for vat in order.as_slice() {
+    for vat in steps {
         let Some(place) = place_of(lanes, *vat) else {
             return Ok(count);
         };
@@ -77,6 +78,45 @@ fn take_steps<L: Lane, T: Turns>(
         count += 1;
     }
     Ok(count)
+}
+
+/// How many steps of an order are taken before the lanes are read ahead again. No lane that had enough ahead is used up by them.
+const STEPS: usize = 256;
+
+/// Takes records by an order, up to its first step that may not come; the lanes are read ahead from time to time. How many steps were
+/// taken.
+fn follow<R: Threads + Sync, L: Lane + Send, T: Turns>(
+    rt: &R,
+    alloc: Global,
+    lanes: &mut [L],
+    turns: &mut T,
+    order: &Order,
+    workers: usize,
+) -> Result<usize, AllocError>
+    requires { 0 < workers }
+    ensures { IfOk result (λ count. (taken : Taken) → T.taken turns.old ≡ Some taken → taken.is_stuck ≡ false
+        → IsPass (map L.so_far lanes.old) taken → (more : Taken) × (T.taken turns.new ≡ Some more)
+        × AreFollowedToTheEnd (map L.so_far lanes.old) (map L.so_far lanes.new) taken more order.now count) }
+{
+    let mut count = 0;
+    let mut rest = order.as_slice();
+    for _ in 0..u64::MAX {
+        if rest.is_empty() {
+            return Ok(count);
+        }
+        fill_round(rt, alloc, lanes, workers);
+        if are_refused(lanes) {
+            return Err(AllocError);
+        }
+        let (steps, later) = rest.split_at(STEPS.min(rest.len()));
+        let taken = take_steps(alloc, lanes, turns, steps)?;
+        count += taken;
+        if taken < steps.len() {
+            return Ok(count);
+        }
+        rest = later;
+    }
+    Err(AllocError)
 }
 
 /// Reads the logs of the lanes to their ends, and takes all their records: by an order as far as it fits, the rest as it comes.
@@ -99,7 +139,7 @@ pub fn take_by_order<R: Threads + Sync, L: Lane + Send, T: Turns>(
         → (more : Taken) × (T.taken turns.new ≡ Some more)
         × AreTakenBy (map L.so_far lanes.new) more order.now finding) }
 {
-    let count = take_steps(alloc, lanes, turns, order)?;
+    let count = follow(rt, alloc, lanes, turns, order, workers)?;
     fill_round(rt, alloc, lanes, workers);
     if are_refused(lanes) {
         return Err(AllocError);

@@ -29,3 +29,26 @@ pub fn take_round<L: Lane, T: Turns>(
     }
     Ok(some)
 }
+
+/// How many records of a lane are taken at most before the next lane has its turn.
+const MOST: usize = 256;
+
+/// The vats of the lanes take their turns, round after round, until none may take one with what is ahead. Whether any took one.
+pub(crate) fn take_rounds<L: Lane, T: Turns>(
+    lanes: &mut [L],
+    turns: &mut T,
+) -> Result<bool, AllocError>
+    ensures { IfOk result (λ some. (taken : Taken) → AreThere (map L.so_far lanes.old)
+        → T.taken turns.old ≡ Some taken → (more : Taken) × (T.taken turns.new ≡ Some more)
+        × AreThere (map L.so_far lanes.new)
+        × IsRound (map L.so_far lanes.old) (map L.so_far lanes.new) taken more some) }
+{
+    let mut some = false;
+    for _ in 0..u64::MAX {
+        if !take_round(lanes, turns, MOST)? {
+            return Ok(some);
+        }
+        some = true;
+    }
+    Err(AllocError)
+}

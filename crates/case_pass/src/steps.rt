@@ -7,14 +7,14 @@ ghost use Rattle.case_pass.specs.Turned.{Taken};
 ghost use Rattle.case_pass.specs.Pass.{AreFurther, AreHeldUp, IsPass};
 
 use crate::lane::{Lane, Turns};
-use crate::rounds::take_round;
+use crate::rounds::take_rounds;
 use std::alloc::{AllocError, Global};
 use std::thread::{self, Threads};
 
-/// How many records of a lane are taken at most before the next lane has its turn.
-const MOST: usize = 256;
+/// How many records ahead are enough, so that a lane isn't read further.
+const ENOUGH: usize = 512;
 
-/// Reads ahead in the lanes that have no record ahead, so many of them at once.
+/// Reads ahead in the lanes that haven't enough records ahead, so many of them at once.
 pub(crate) fn fill_round<R: Threads + Sync, L: Lane + Send>(
     rt: &R,
     alloc: Global,
@@ -35,7 +35,7 @@ pub(crate) fn fill_round<R: Threads + Sync, L: Lane + Send>(
             ensures { (before : LaneSoFar) → L.so_far lane.entry.now ≡ Some before
                 → IfSome (L.so_far lane.exit.now) (λ longer. GoesOn before longer × HasNext longer) }
         {
-            lane.fill(alloc);
+            lane.fill(alloc, ENOUGH);
         },
     );
 }
@@ -47,7 +47,8 @@ pub(crate) fn are_refused<L: Lane>(lanes: &[L]) -> bool
     lanes.iter().any(|lane| lane.is_refused())
 }
 
-/// Takes records of the lanes in turns, each as soon as it may come, until none may.
+/// Takes records of the lanes in turns, each as soon as it may come, until none may. More is read ahead only once none of those
+/// that are ahead may come: to start the workers costs more than some turns do.
 ///
 /// # Errors
 ///
@@ -73,7 +74,7 @@ pub fn take_in_step<R: Threads + Sync, L: Lane + Send, T: Turns>(
         if are_refused(lanes) {
             return Err(AllocError);
         }
-        if !take_round(lanes, turns, MOST)? {
+        if !take_rounds(lanes, turns)? {
             return Ok(());
         }
     }

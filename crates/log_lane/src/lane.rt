@@ -18,8 +18,8 @@ use std::mem;
 use vat_log::{LogStream, ReadFault, Record};
 use vat_rules::VatAudit;
 
-/// How many records are read ahead at most.
-const MOST_AHEAD: usize = 256;
+/// How many records more are read ahead at once, at most.
+const MORE: usize = 512;
 
 /// A log that is read ahead of what is taken of it, and judged as it is read. To a contract it is what was read, with the
 /// records that aren't taken yet, and why no more is read; nothing once memory was refused.
@@ -155,12 +155,12 @@ impl<P: Pieces> case_pass::Lane for Lane<P> {
         self.is_refused
     }
 
-    /// At most 256 records.
-    fn fill(&mut self, alloc: Global) {
-        if !self.ahead.is_empty() {
+    /// At most 512 more.
+    fn fill(&mut self, alloc: Global, enough: usize) {
+        if self.ahead.len() >= enough {
             return;
         }
-        for _ in 0..MOST_AHEAD {
+        for _ in 0..MORE {
             if self.ending.is_some() || self.read_next(alloc).is_err() {
                 return;
             }

@@ -11,11 +11,11 @@ pub returns-then-not-are_left : goal.returns-then-not-are_left
 returns-then-not-are_left g c = λ taken kept free none pass.
     let f = g.L.Lane.so_far in
     let ended = c.in_ok-count.ensures taken kept free pass in
-    let grown = filled f c.take_steps.new.lanes c.fill_round.new.lanes c.fill_round.auto.lanes c.fill_round.ensures in
+    let grown = filled f c.follow.new.lanes c.fill_round.new.lanes c.fill_round.auto.lanes c.fill_round.ensures in
     let there = none_refused f c.fill_round.new.lanes (sym c.are_refused.ensures ∙ c.if-are_refused.false) in (
       ended.0,
       ended.1,
-      order_fits (map f c.args.lanes.now) (map f c.take_steps.new.lanes) (map f c.fill_round.new.lanes) taken ended.0 c.args.order.now c.in_ok-count.count free none ended.2 grown there
+      order_fits (map f c.args.lanes.now) (map f c.follow.new.lanes) (map f c.fill_round.new.lanes) taken ended.0 c.args.order.now c.in_ok-count.count free none ended.2 grown there
           (c.if-count-as_slice.true ∙ ap length c.as_slice.ensures) (c.are_left.ensures.none there c.if-not-are_left.true),
     )
 
@@ -23,11 +23,11 @@ pub returns : goal.returns
 returns g c = λ taken kept free none pass.
     let f = g.L.Lane.so_far in
     let lanes = map f c.args.lanes.now in
-    let now = map f c.take_steps.new.lanes in
+    let now = map f c.follow.new.lanes in
     let longer = map f c.fill_round.new.lanes in
     let later = map f c.take_in_step.new.lanes in
     let ended = c.in_ok-count.ensures taken kept free pass in
-    let grown = filled f c.take_steps.new.lanes c.fill_round.new.lanes c.fill_round.auto.lanes c.fill_round.ensures in
+    let grown = filled f c.follow.new.lanes c.fill_round.new.lanes c.fill_round.auto.lanes c.fill_round.ensures in
     let there = none_refused f c.fill_round.new.lanes (sym c.are_refused.ensures ∙ c.if-are_refused.false) in
     let order = c.args.order.now in
     let count = c.in_ok-count.count in
@@ -35,7 +35,7 @@ returns g c = λ taken kept free none pass.
     let same = c.take_in_step.auto.lanes in
     let same_too = c.fill_round.auto.lanes in
     let long : length later ≡ length longer = omega (arith, same, length-map c.fill_round.new.lanes f, length-map c.take_in_step.new.lanes f) in
-    let long_too : length longer ≡ length now = omega (arith, same_too, length-map c.take_steps.new.lanes f, length-map c.fill_round.new.lanes f) in (
+    let long_too : length longer ≡ length now = omega (arith, same_too, length-map c.follow.new.lanes f, length-map c.fill_round.new.lanes f) in (
       rest.0,
       rest.1,
       elim c.else-count-as_slice.branch [

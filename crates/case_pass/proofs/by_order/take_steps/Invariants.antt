@@ -8,4 +8,4 @@ use Rattle.case_pass.proofs.by_order.take_steps.Given as goal
 abbrev pub invariant-loop-vat : goal.invariant-loop-vat
 invariant-loop-vat g l =
     (l.count ≡ l.vat-index) × ((taken : Taken) → g.T.Turns.taken l.fn.turns ≡ Some taken → taken.is_stuck ≡ false → IsPass (map g.L.Lane.so_far l.fn.lanes) taken
-    → (more : Taken) × (g.T.Turns.taken l.turns ≡ Some more) × AreFollowed (map g.L.Lane.so_far l.fn.lanes) (map g.L.Lane.so_far l.lanes) taken more l.fn.order l.count)
+    → (more : Taken) × (g.T.Turns.taken l.turns ≡ Some more) × AreFollowed (map g.L.Lane.so_far l.fn.lanes) (map g.L.Lane.so_far l.lanes) taken more l.fn.steps l.count)

@@ -5,12 +5,11 @@
 //! stands on the crates that find these: `rule_notes`, what led to a broken rule; `case_notes`, frames that differ, calls that
 //! overtake, what was found of the other logs; `open_notes`, what is open at the end, where nothing is wrong; `input_notes`, bad
 //! files, and connections that were judged by their bytes; and on what they share, `record_notes` and `past_records`. Of its own
-//! it has `inputs`, which file is bad or can't be read; `long_logs`, records of logs that are too long to be kept; `joins`, logs whose connections were joined; `row_limit`, rows of a
-//! picture; and `write_notes`, writes that fail.
+//! it has `inputs`, which file is bad or can't be read; `long_logs`, records of logs that are too long to be kept; `joins`, logs
+//! whose connections were joined; `row_limit`, rows of a picture; and `write_notes`, writes that fail.
 //!
 //! A note says what was found in the records, and nothing else: where a search finds nothing the note is left out. A note costs
-//! one walk over the log that it tells of. What is open at the end of a case is told by
-//! its logs, which are read once more for it.
+//! one walk over the log that it tells of. What is open at the end of a case is told by its logs, which are read once more for it.
 #![tactic(auto)]
 
 mod heard;

@@ -11,7 +11,7 @@ use record_notes::{put_stored, vat_of};
 use rpc_view::Edition;
 use rule_notes::put_past_cause;
 use std::alloc::{AllocError, Global};
-use vat_log::{LogError, LogStream, ReadFault, Record, VatLog, write_log};
+use vat_log::{LogStream, ReadFault, Record, VatLog, write_log};
 use vat_rules::{Rule, edition_of_header};
 use vat_view::DecodedRecord;
 
@@ -47,7 +47,7 @@ fn next_of<P: Pieces>(
 ) -> Result<Option<Record>, AllocError> {
     match stream.next(alloc) {
         Ok(next) => Ok(next),
-        Err(ReadFault::OutOfMemory | ReadFault::Bad(LogError::OutOfMemory)) => Err(AllocError),
+        Err(ReadFault::OutOfMemory) => Err(AllocError),
         Err(_) => Ok(None),
     }
 }
@@ -108,12 +108,7 @@ fn record_in<'a, S: SearchingSource>(
 
 /// Whether the log of this vat is one of these files.
 fn is_kept(files: &[(String, Bytes)], vat: u32) -> bool {
-    for (_, bytes) in files {
-        if vat_of(bytes) == Some(vat) {
-            return true;
-        }
-    }
-    false
+    files.iter().any(|(_, bytes)| vat_of(bytes) == Some(vat))
 }
 
 /// The record of which this tells, where its log isn't kept and can be read once more.
@@ -129,11 +124,7 @@ pub(crate) fn far_record<S: SearchingSource>(
     let Some((vat, at)) = place_of(told) else {
         return Ok(None);
     };
-    if source
-        .kept()
-        .iter()
-        .any(|(_, bytes)| vat_of(bytes) == Some(vat))
-    {
+    if is_kept(source.kept(), vat) {
         return Ok(None);
     }
     for name in source.left_out() {

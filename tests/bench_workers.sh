@@ -1,12 +1,13 @@
 #!/usr/bin/env bash
-# What workers save: the time of `check --workers 4` over that of `check --workers 1`, on one case of four pairs of vats.
+# What workers save: the time of `check --workers 4` over that of `check --workers 1`, on one case of four pairs of vats. Notes are
+# left out, since those of what is open at the end go through the records once more, by one worker.
 # usage: tests/bench_workers.sh PROGRAM FOLDER
 # FOLDER has a case.json with two logs of vats 1 and 2 and the link [0, 1, 2] (samples/pipelined_call.json shows the form),
 # large ones, or it says nothing. They are laid into a temporary folder four times, under vat numbers 1 to 8 and connections 0
 # to 3. Five runs of each, taken in turns; the best of each counts. Run it on a quiet machine with four processors. It is no
 # part of the gate.
 set -euo pipefail
-[ $# = 2 ] || { sed -n 3p "$0"; exit 2; }
+[ $# = 2 ] || { sed -n 4p "$0"; exit 2; }
 exec python3 - "$@" <<'END_OF_PROGRAM'
 import json, os, struct, subprocess, sys, tempfile, time
 program, folder = os.path.abspath(sys.argv[1]), sys.argv[2]
@@ -61,7 +62,7 @@ with tempfile.TemporaryDirectory() as room:
     for _ in range(5):
         for workers in taken:
             began = time.monotonic()
-            ran = subprocess.run([program, "check", "case.json", "--workers", str(workers)], cwd=room, capture_output=True, text=True)
+            ran = subprocess.run([program, "--quiet", "check", "case.json", "--workers", str(workers)], cwd=room, capture_output=True, text=True)
             taken[workers].append(time.monotonic() - began)
             lines.add((ran.stdout, ran.returncode))
     if len(lines) != 1:

@@ -120,14 +120,25 @@ fn whole<F: Read + OpenFile + Drop, I>(alloc: Global, file: F) -> Opened<F, I> {
 struct Openings {
     files: usize,
     input_was_read: bool,
+    keeps: bool,
 }
 
 impl Openings {
-    /// Before anything is opened.
-    fn new() -> Openings {
+    /// Before anything is opened. The bytes of what can't be read once more are kept, or they aren't.
+    fn new(keeps: bool) -> Openings {
         Openings {
             files: 0,
             input_was_read: false,
+            keeps,
+        }
+    }
+
+    /// Where the bytes of what can or can't be read once more are kept, if they are.
+    fn room_to_keep(&self, alloc: Global, lasts: bool) -> Option<Vec<u8>> {
+        if self.keeps && !lasts {
+            Some(Vec::new(alloc))
+        } else {
+            None
         }
     }
 
@@ -157,13 +168,14 @@ impl Openings {
         match opened {
             Ok(file) => {
                 let lasts = lasts(&file);
+                let kept = self.room_to_keep(alloc, lasts);
                 if self.files < HELD_OPEN {
                     self.files += 1;
-                    return FolderReader::new(alloc, Opened::File(file), lasts);
+                    return FolderReader::new(Opened::File(file), lasts, kept);
                 }
-                FolderReader::new(alloc, whole(alloc, file), lasts)
+                FolderReader::new(whole(alloc, file), lasts, kept)
             }
-            Err(why) => FolderReader::new(alloc, Opened::Refused(Some(why)), true),
+            Err(why) => FolderReader::new(Opened::Refused(Some(why)), true, None),
         }
     }
 
@@ -172,14 +184,15 @@ impl Openings {
         ensures { result.pieces ≡ record { bytes = []; is_over = false } }
     {
         if self.input_was_read {
-            return FolderReader::new(alloc, Opened::Refused(Some(read_before())), false);
+            return FolderReader::new(Opened::Refused(Some(read_before())), false, None);
         }
         self.input_was_read = true;
-        FolderReader::new(alloc, Opened::Input(input), false)
+        FolderReader::new(Opened::Input(input), false, self.room_to_keep(alloc, false))
     }
 }
 
-/// The files of the working directory, and standard input under the name `-`, which is read once. Contracts see nothing of it.
+/// The files of the working directory, and standard input under the name `-`, which is read once. Nothing that was read is kept.
+/// Contracts see nothing of it.
 #[derive(Drop)]
 pub struct Folder<'a, R> {
     rt: &'a R,
@@ -199,7 +212,7 @@ impl<'a, R> Folder<'a, R> {
     pub fn new(rt: &'a R) -> Folder<'a, R> {
         Folder {
             rt,
-            openings: Openings::new(),
+            openings: Openings::new(false),
         }
     }
 }
@@ -310,7 +323,7 @@ impl<'a, R: AllocGlobal> RememberingFolder<'a, R> {
     pub fn new(rt: &'a R) -> RememberingFolder<'a, R> {
         RememberingFolder {
             rt,
-            openings: Openings::new(),
+            openings: Openings::new(true),
             last: None,
             refusal: None,
             kept: Vec::new(rt.alloc()),
@@ -474,7 +487,7 @@ impl<R: LogHost> RememberingSource for RememberingFolder<'_, R> {
             return None;
         }
         let file = self.rt.open_log(name).ok()?;
-        Some(FolderReader::new(self.rt.alloc(), Opened::File(file), true))
+        Some(FolderReader::new(Opened::File(file), true, None))
     }
 }
 

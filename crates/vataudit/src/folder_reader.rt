@@ -45,8 +45,8 @@ impl<F: Read, I: Read> Read for Opened<F, I> {
     }
 }
 
-/// What hands out a file or standard input piece by piece, and counts its bytes. Of what can't be read once more it keeps them,
-/// unless there are too many.
+/// What hands out a file or standard input piece by piece, and counts its bytes. Of what can't be read once more it keeps them
+/// where it is asked to, unless there are too many.
 #[derive(Drop)]
 pub struct FolderReader<F, I> {
     pieces: ReadPieces<Opened<F, I>>,
@@ -57,11 +57,10 @@ pub struct FolderReader<F, I> {
 }
 
 impl<F, I> FolderReader<F, I> {
-    /// What hands this out, which can be read once more or can't.
-    pub fn new(alloc: Global, opened: Opened<F, I>, lasts: bool) -> FolderReader<F, I>
+    /// What hands this out, which can be read once more or can't, and where its bytes are kept, if they are.
+    pub fn new(opened: Opened<F, I>, lasts: bool, kept: Option<Vec<u8>>) -> FolderReader<F, I>
         ensures { result.pieces ≡ record { bytes = []; is_over = false } }
     {
-        let kept = if lasts { None } else { Some(Vec::new(alloc)) };
         FolderReader {
             pieces: ReadPieces::new(opened),
             lasts,
@@ -89,7 +88,7 @@ impl<F, I> FolderReader<F, I> {
         }
     }
 
-    /// All bytes that came, where they can't be read once more and aren't too many.
+    /// All bytes that came, where they are kept and aren't too many.
     pub fn kept(&self) -> Option<&[u8]> {
         self.kept.as_deref()
     }

@@ -3,8 +3,8 @@
 # usage: tests/bench_records.sh PROGRAM FOLDER
 # FOLDER has a folder for each kind of log, with a large good log or several, and a case.json of them where they are a case
 # (samples/pipelined_call.json shows the form). `vat` is given the longest log. valgrind counts instructions; GNU time
-# says the peak. Notes are left out, since those of what is open at the end
-# go through the records once more. Prints a line of a table for each kind.
+# says the peak. Notes are left out, since those of what is open at the end go through the records once more. Prints a line of a
+# table for each kind.
 set -euo pipefail
 [ $# -eq 2 ] || { sed -n '2,6s/^# //p' "$0" >&2; exit 2; }
 exec python3 - "$@" <<'END_OF_PROGRAM'

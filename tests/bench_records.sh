@@ -6,7 +6,7 @@
 # says the peak. Notes are left out, since those of what is open at the end go through the records once more. Prints a line of a
 # table for each kind.
 set -euo pipefail
-[ $# -eq 2 ] || { sed -n '2,6s/^# //p' "$0" >&2; exit 2; }
+[ $# -eq 2 ] || { sed -n '2,7s/^# //p' "$0" >&2; exit 2; }
 exec python3 - "$@" <<'END_OF_PROGRAM'
 import glob, os, re, subprocess, sys
 program, folder = os.path.abspath(sys.argv[1]), sys.argv[2]

@@ -81,7 +81,7 @@ fn take_steps<L: Lane, T: Turns>(
 }
 
 /// How many steps of an order are taken before the lanes are read ahead again. No lane that had enough ahead is used up by them.
-const STEPS: usize = 256;
+const STEPS: usize = 2048;
 
 /// Takes records by an order, up to its first step that may not come; the lanes are read ahead from time to time. How many steps were
 /// taken.

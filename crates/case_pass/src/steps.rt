@@ -11,8 +11,9 @@ use crate::rounds::take_rounds;
 use std::alloc::{AllocError, Global};
 use std::thread::{self, Threads};
 
-/// How many records ahead are enough, so that a lane isn't read further.
-const ENOUGH: usize = 512;
+/// How many records ahead are enough, so that a lane isn't read further. With fewer the workers would be started so often that their
+/// starts took longer than what they save.
+const ENOUGH: usize = 4096;
 
 /// Reads ahead in the lanes that haven't enough records ahead, so many of them at once.
 pub(crate) fn fill_round<R: Threads + Sync, L: Lane + Send>(

@@ -1,30 +1,36 @@
 -- A lane reads one record more, or sees that there is none.
-use Rattle.std.proofs.Common.{◌≡◌, Bool, true, false, List, [], ◌∷◌, ◌++◌, Option, Some, None, Result, Ok, Err, refl, sym, ap, subst, ◌∙◌}
-use Rattle.std.specs.Prelude.{IfSome, is_some, is_err, OnOk, OnErr}
-use Rattle.std.specs.Option.{option_map, option_to_list}
-use Rattle.std.proofs.lemmas.List.{append_assoc, append-nil}
+use Rattle.std.proofs.Common.{◌≡◌, ◌≢◌, ◌≤◌, ℕ, Bool, true, false, List, [], ◌∷◌, ◌++◌, length, Option, Some, None, Result, Ok, Err, refl, sym, ap, subst, ◌∙◌, arith, length-append, inl, inr}
+use Rattle.std.specs.Prelude.{is_some, is_err, drop, take, OnOk}
+use Rattle.std.specs.Option.{option_map}
+use Rattle.std.proofs.lemmas.List.{append_assoc, append-nil, drop-append-le, take-append-drop}
 use Rattle.cap_reader.specs.Defaults.{default_limits}
 use Rattle.vat_log.specs.Log.{Log}
 use Rattle.vat_log.specs.Runs as runs
 use Rattle.vat_log.specs.Streams.{StreamSoFar}
 use Rattle.vat_log.specs.declared.body.Body.{Body}
 use Rattle.vat_rules.specs.Audited.{Audited, with_record}
-use Rattle.case_pass.specs.Lanes.{LaneSoFar, GoesOn, HasNext}
+use Rattle.case_pass.specs.Lanes.{LaneSoFar, without_first, GoesOn, HasNext}
 use Rattle.log_lane.specs.Glue.{lane_unless, AreOfOne}
 use Rattle.log_lane.specs.Lanes.{ReadAhead, EndsSo, as_lane}
 use Rattle.log_lane.specs.declared.ending.Ending.{Ending}
 
 -- the first record ahead is taken
-pub one_left : (is_spent : Bool) (read : StreamSoFar) (audit : Audited) (used ahead rest : List Body) (first : Option Body) (ending : Option Ending) → ahead ≡ option_to_list first ++ rest
-    → AreOfOne is_spent read audit used ahead ending → AreOfOne is_spent read audit used rest ending
-one_left is_spent read audit used ahead rest first ending is so = record {
+pub one_left : (is_spent : Bool) (read : StreamSoFar) (audit : Audited) (used ahead : List Body) (ending : Option Ending)
+    → AreOfOne is_spent read audit used ahead ending → AreOfOne is_spent read audit used (drop 1 ahead) ending
+one_left is_spent read audit used ahead ending so = record {
   audited = so.audited;
   used_too = so.used_too;
   spent = so.spent;
-  before = so.before ++ option_to_list first;
-  last = so.last ∙ ap (λ (l : List Body). so.before ++ l) is ∙ sym (append_assoc so.before (option_to_list first) rest);
+  before = so.before ++ take 1 ahead;
+  last = so.last ∙ ap (λ (l : List Body). so.before ++ l) (sym (take-append-drop 1 ahead)) ∙ sym (append_assoc so.before (take 1 ahead) (drop 1 ahead));
   ended = so.ended;
 }
+
+-- and so it is seen
+pub left_view : (refused : Bool) (read : StreamSoFar) (ahead rest : List Body) (ending : Option Ending) → rest ≡ drop 1 ahead
+    → option_map as_lane (lane_unless refused read rest ending) ≡ option_map without_first (option_map as_lane (lane_unless refused read ahead ending))
+left_view true read ahead rest ending is = refl
+left_view false read ahead rest ending is = ap (λ (l : List Body). let lane : ReadAhead = record { read = read; ahead = l; ending = ending } in Some (as_lane lane)) is
 
 -- a lane that reads on isn't spent
 not_spent : (is_spent : Bool) (ending : Option Ending) → is_some ending ≡ false → (is_spent ≡ true → is_some ending ≡ true) → is_spent ≡ false
@@ -62,10 +68,17 @@ module _ (is_spent : Bool) (read now : StreamSoFar) (audit : Audited) (used ahea
     ended = ends;
   }
 
--- ---- lanes go on
+-- what was read behind so many records stands behind the rest of them, too
+pub put_behind : (taken : ℕ) (read now : List Body) (body : Body) → taken ≤ length read → now ≡ read ++ body ∷ [] → drop taken now ≡ drop taken read ++ body ∷ []
+put_behind taken read now body within put = ap (λ (l : List Body). drop taken l) put ∙ drop-append-le taken read (body ∷ []) within
 
-pub goes_on_itself : (lane : LaneSoFar) → GoesOn lane lane
-goes_on_itself lane = record { vat = refl; more = []; records = sym (append-nil lane.log.records); ahead = sym (append-nil lane.ahead); over = λ ended. (refl, ended) }
+pub still_within : (taken : ℕ) (read now : List Body) (body : Body) → taken ≤ length read → now ≡ read ++ body ∷ [] → taken ≤ length now
+still_within taken read now body within put =
+    let long = ap length put ∙ length-append read (body ∷ []) in
+    let one : length (body ∷ []) ≡ 1 = refl in
+    omega (arith, within, long, one)
+
+-- ---- lanes go on
 
 pub goes_on_both : (one two three : LaneSoFar) → GoesOn one two → GoesOn two three → GoesOn one three
 goes_on_both one two three first second = record {
@@ -80,22 +93,59 @@ goes_on_both one two three first second = record {
       );
 }
 
--- what a lane is filled with
-abbrev pub IsFilled : Option ReadAhead → Option ReadAhead → Type 0
-IsFilled old now = (lane : LaneSoFar) → option_map as_lane old ≡ Some lane → IfSome (option_map as_lane now) (λ longer. GoesOn lane longer × HasNext longer)
-
-pub filled_none : (old now : Option ReadAhead) → now ≡ None → IsFilled old now
-filled_none old now none lane is = subst (λ (o : Option ReadAhead). IfSome (option_map as_lane o) (λ longer. GoesOn lane longer × HasNext longer)) (sym none) tt
-
-pub filled_some : (old now : Option ReadAhead) → ((lane : ReadAhead) → old ≡ Some lane → (longer : ReadAhead) × (now ≡ Some longer) × GoesOn (as_lane lane) (as_lane longer) × HasNext (as_lane longer)) → IsFilled old now
-filled_some None now some lane is = absurd (let no : ⊥ = cc in no)
-filled_some (Some old) now some lane is =
-    let to = some old refl in
-    let same : as_lane old ≡ lane = some_lane (as_lane old) lane is in
-    subst (λ (o : Option ReadAhead). IfSome (option_map as_lane o) (λ longer. GoesOn lane longer × HasNext longer)) (sym to.1) (subst (λ (l : LaneSoFar). GoesOn l (as_lane to.0)) same to.2, to.3)
+-- a lane whose parts are these
+pub seen : (refused : Bool) (read : StreamSoFar) (ahead : List Body) (ending : Option Ending) (lane : ReadAhead) → refused ≡ false → lane_unless refused read ahead ending ≡ Some lane
+    → record { read = read; ahead = ahead; ending = ending } ≡ lane
+seen true read ahead ending lane free is = absurd (let no : ⊥ = cc in no)
+seen false read ahead ending lane free is = same_lane (record { read = read; ahead = ahead; ending = ending }) lane is
   where
-    some_lane : (a b : LaneSoFar) → ◌≡◌ {A = Option LaneSoFar} (Some a) (Some b) → a ≡ b
-    some_lane a b e = cc
+    same_lane : (a b : ReadAhead) → ◌≡◌ {A = Option ReadAhead} (Some a) (Some b) → a ≡ b
+    same_lane a b e = cc
+
+not_nil : (ahead : List Body) (entry : Body) → ahead ++ entry ∷ [] ≢ []
+not_nil [] entry e = let no : ⊥ = cc in no
+not_nil (first ∷ ahead) entry e = let no : ⊥ = cc in no
+
+module _ (read now : StreamSoFar) (ahead : List Body) (ending : Option Ending) (lane : ReadAhead) (is : record { read = read; ahead = ahead; ending = ending } ≡ lane) (open_still : lane.ending ≡ None) where
+  abbrev pub IsLonger : ReadAhead → Type 0
+  IsLonger longer = GoesOn (as_lane lane) (as_lane longer) × HasNext (as_lane longer)
+
+  never : {P : Type 0} → is_some ending ≡ true → P
+  never ended = let same = ap (λ (l : ReadAhead). l.ending) is in absurd (let no : ⊥ = cc in no)
+
+  -- with one record more
+  pub one_more : (ahead_now : List Body) (entry : Body) → now.log ≡ runs.with_record entry read.log → ahead_now ≡ ahead ++ entry ∷ [] → IsLonger (record { read = now; ahead = ahead_now; ending = ending })
+  one_more ahead_now entry given put =
+      (subst (λ (l : ReadAhead). GoesOn (as_lane l) (as_lane longer)) is goes, inl (λ none. not_nil ahead entry (sym put ∙ none)))
+    where
+      longer : ReadAhead
+      longer = record { read = now; ahead = ahead_now; ending = ending }
+
+      goes : GoesOn (as_lane (record { read = read; ahead = ahead; ending = ending })) (as_lane longer)
+      goes = record {
+        vat = ap (λ (log : Log). log.vat) given;
+        more = entry ∷ [];
+        records = ap (λ (log : Log). log.records) given;
+        ahead = put;
+        over = λ ended. never ended;
+      }
+
+  -- at its end
+  pub none_more : (last : Ending) → now.log ≡ read.log → IsLonger (record { read = now; ahead = ahead; ending = Some last })
+  none_more last same =
+      (subst (λ (l : ReadAhead). GoesOn (as_lane l) (as_lane longer)) is goes, inr refl)
+    where
+      longer : ReadAhead
+      longer = record { read = now; ahead = ahead; ending = Some last }
+
+      goes : GoesOn (as_lane (record { read = read; ahead = ahead; ending = ending })) (as_lane longer)
+      goes = record {
+        vat = ap (λ (log : Log). log.vat) same;
+        more = [];
+        records = ap (λ (log : Log). log.records) same ∙ sym (append-nil read.log.records);
+        ahead = sym (append-nil ahead);
+        over = λ ended. never ended;
+      }
 
 -- what is seen of a lane
 pub seen_ending : (refused : Bool) (read : StreamSoFar) (ahead : List Body) (ending : Option Ending) (lane : ReadAhead) → lane_unless refused read ahead ending ≡ Some lane → lane.ending ≡ ending
@@ -112,7 +162,3 @@ no_ending_is (Some ending) none = absurd (let no : ⊥ = cc in no)
 pub on_ok : {A E : Type 0} (r : Result A E) (P : Type 0) → is_err r ≡ false → OnOk r P → P
 on_ok (Ok a) P ok so = so
 on_ok (Err e) P ok so = absurd (let no : ⊥ = cc in no)
-
-pub on_err : {A E : Type 0} (r : Result A E) (P : Type 0) → is_err r ≡ true → OnErr r P → P
-on_err (Ok a) P bad so = absurd (let no : ⊥ = cc in no)
-on_err (Err e) P bad so = so

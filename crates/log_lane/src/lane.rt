@@ -1,6 +1,6 @@
 //! A log that is read ahead.
 
-ghost use Rattle.std.specs.Prelude.{◌≡◌, true, [], Some, None, Ok, IfOk, IfErr, IfSome, OnOk, OnErr};
+ghost use Rattle.std.specs.Prelude.{◌≡◌, true, [], Some, None, Ok, IfOk, IfErr, IfSome, OnOk, OnErr, drop, length};
 ghost use Rattle.cap_reader.specs.Defaults.{default_limits};
 ghost use Rattle.vat_log.specs.Reading.{log_of};
 ghost use Rattle.vat_log.specs.Streams.{StreamStopsBy};
@@ -15,11 +15,32 @@ use std::alloc::{AllocError, Global};
 use std::collections::VecDeque;
 use std::marker::Model;
 use std::mem;
-use vat_log::{LogStream, ReadFault, Record};
+use vat_log::{Body, LogStream, ReadFault, Record};
 use vat_rules::VatAudit;
 
-/// How many records more are read ahead at once, at most.
-const MORE: usize = 512;
+/// How many bytes of frames are read ahead at once, at most, but for the last frame.
+const BYTES: usize = 1_048_576;
+
+/// How many bytes the frame of a record has, if it has one.
+fn frame_length(stored: &Record) -> usize {
+    match stored.body() {
+        Body::Send { frame, .. } | Body::Receive { frame, .. } => frame.len(),
+        _ => 0,
+    }
+}
+
+/// Lets the first so many records go.
+fn let_go(records: &mut VecDeque<Record>, count: usize)
+    ensures { records.new.items ≡ drop count records.old.items }
+{
+    if count >= records.len() {
+        records.clear();
+        return;
+    }
+    for _ in 0..count {
+        let _ = records.pop_front();
+    }
+}
 
 /// A log that is read ahead of what is taken of it, and judged as it is read. To a contract it is what was read, with the
 /// records that aren't taken yet, and why no more is read; nothing once memory was refused.
@@ -28,23 +49,25 @@ pub struct Lane<P: Pieces> {
     stream: LogStream<P>,
     audit: VatAudit,
     used: UsedConnections,
-    ahead: VecDeque<Record>,
+    // the first of these were taken, so many; they go when more is read
+    read: VecDeque<Record>,
+    taken: usize,
     ending: Option<Ending>,
     is_refused: bool,
     is_spent: bool,
 }
 
 impl<P: Pieces> Model for Lane<P> {
-    ghost use Rattle.std.specs.Prelude.{◌≡◌, false, Option};
+    ghost use Rattle.std.specs.Prelude.{◌≡◌, ◌≤◌, false, drop, length, Option};
     ghost use Rattle.log_lane.specs.Lanes.{ReadAhead};
     ghost use Rattle.log_lane.specs.Glue.{lane_unless, AreOfOne};
 
     ghost Value = { Option ReadAhead };
 
-    ghost view = { λ lane. lane_unless lane.is_refused lane.stream lane.ahead.items lane.ending };
+    ghost view = { λ lane. lane_unless lane.is_refused lane.stream (drop lane.taken lane.read.items) lane.ending };
 
-    ghost invariant = { λ lane. lane.is_refused ≡ false
-        → AreOfOne lane.is_spent lane.stream lane.audit lane.used lane.ahead.items lane.ending };
+    ghost invariant = { λ lane. (lane.taken ≤ length lane.read.items) × (lane.is_refused ≡ false
+        → AreOfOne lane.is_spent lane.stream lane.audit lane.used (drop lane.taken lane.read.items) lane.ending) };
 }
 
 impl<P: Pieces> Lane<P> {
@@ -58,7 +81,8 @@ impl<P: Pieces> Lane<P> {
             stream,
             audit: VatAudit::new(alloc, header, Limits::default()),
             used: UsedConnections::new(alloc),
-            ahead: VecDeque::new(alloc),
+            read: VecDeque::new(alloc),
+            taken: 0,
             ending: None,
             is_refused: false,
             is_spent: false,
@@ -70,6 +94,16 @@ impl<P: Pieces> Lane<P> {
         ensures { IfSome self.now (λ lane. result ≡ lane.ending) }
     {
         self.ending
+    }
+
+    /// Lets the records go that were taken. How many are ahead.
+    fn let_taken_go(&mut self) -> usize
+        ensures same { self.new ≡ self.old }
+        ensures ahead { IfSome self.new (λ lane. result ≡ length lane.ahead) }
+    {
+        let_go(&mut self.read, self.taken);
+        self.taken = 0;
+        self.read.len()
     }
 
     /// Reads one record ahead, or sees that there is none, where more may come.
@@ -90,7 +124,7 @@ impl<P: Pieces> Lane<P> {
             Ok(Some(record)) => {
                 self.audit.take(alloc, record.body())?;
                 self.used.take(record.body())?;
-                self.ahead.push_back(record)?;
+                self.read.push_back(record)?;
             }
             Ok(None) => self.ending = Some(Ending::Whole),
             Err(ReadFault::OutOfMemory) => return Err(AllocError),
@@ -144,26 +178,30 @@ impl<P: Pieces> case_pass::Lane for Lane<P> {
     }
 
     fn first(&self) -> Option<&Record> {
-        self.ahead.front()
+        self.read.get(self.taken)
     }
 
     fn leave(&mut self) {
-        let _ = self.ahead.pop_front();
+        if self.taken < self.read.len() {
+            self.taken += 1;
+        }
     }
 
     fn is_refused(&self) -> bool {
         self.is_refused
     }
 
-    /// At most 512 more.
+    /// At most as many more, and none behind 2^20 bytes of frames. Those that were taken are let go.
     fn fill(&mut self, alloc: Global, enough: usize) {
-        if self.ahead.len() >= enough {
+        if self.let_taken_go() >= enough {
             return;
         }
-        for _ in 0..MORE {
-            if self.ending.is_some() || self.read_next(alloc).is_err() {
+        let mut bytes = 0;
+        for _ in 0..enough {
+            if self.ending.is_some() || bytes >= BYTES || self.read_next(alloc).is_err() {
                 return;
             }
+            bytes = bytes.saturating_add(self.read.back().map_or(0, frame_length));
         }
     }
 }

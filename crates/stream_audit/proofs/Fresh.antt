@@ -1,8 +1,9 @@
 -- Lanes of which only the headers were read.
-use Rattle.std.proofs.Common.{◌≡◌, ℕ, suc, zero, ◌<◌, List, [], ◌∷◌, ◌++◌, length, take, get_or, true, ◌+◌, ◌≤◌, Option, Some, None, Result, Ok, refl, sym, ap, subst, ◌∙◌, arith}
+use Rattle.std.proofs.Common.{◌≡◌, ◌≢◌, inl, inr, ℕ, suc, zero, ◌<◌, List, [], ◌∷◌, ◌++◌, length, take, get_or, true, ◌+◌, ◌≤◌, Option, Some, None, Result, Ok, refl, sym, ap, subst, ◌∙◌, arith}
 use Rattle.std.specs.Prelude.{Contains, IfSome, IsSomeAnd, slice_get, slice_set}
 use Rattle.std.proofs.lemmas.List.{take_all, take_more, map-append}
-use Rattle.std.proofs.lemmas.Option.{slice_get-get_or}
+use Rattle.std.proofs.lemmas.Bool.{cases_lt}
+use Rattle.std.proofs.lemmas.Option.{get_or_from_slice_get, slice_get-get_or}
 use Rattle.std.specs.Option.{option_map}
 use Rattle.cap_reader.specs.Defaults.{default_limits}
 use Rattle.vat_log.specs.Log.{Log}
@@ -32,6 +33,21 @@ lane_seen (Some read ∷ lanes) zero lane is = (read, refl, same (as_lane read) 
     same : (a b : LaneSoFar) → ◌≡◌ {A = Option (Option LaneSoFar)} (Some (Some a)) (Some (Some b)) → a ≡ b
     same a b e = cc
 lane_seen (o ∷ lanes) (suc i) lane is = lane_seen lanes i lane is
+
+-- where the lanes before are of others than this vat, and the one at this place is, those up to there are
+pub others_go_on : (lanes : List (Option ReadAhead)) (from place v vat : ℕ) (at : Option ReadAhead)
+    → ((i : ℕ) (lane : ReadAhead) → from ≤ i → i < place → slice_get lanes i ≡ Some (Some lane) → lane.read.log.vat ≢ vat)
+    → at ≡ get_or lanes place at → IfSome (option_map as_lane at) (λ lane. v ≡ lane.log.vat) → v ≢ vat
+    → (i : ℕ) (lane : ReadAhead) → from ≤ i → i < place + 1 → slice_get lanes i ≡ Some (Some lane) → lane.read.log.vat ≢ vat
+others_go_on lanes from place v vat at before is seen other i lane above lt stands =
+    elim (cases_lt i place) [
+      | inl less ↦ before i lane above less stands
+      | inr last ↦
+          let same : i ≡ place = omega (arith, lt, last) in
+          let there = subst (λ (k : ℕ). slice_get lanes k ≡ Some (Some lane)) same stands in
+          let read : at ≡ Some lane = is ∙ get_or_from_slice_get lanes place (Some lane) at there in
+          λ own. other (subst (λ (o : Option ReadAhead). IfSome (option_map as_lane o) (λ l. v ≡ l.log.vat)) read seen ∙ own)
+    ]
 
 there_fresh : (lanes : List (Option ReadAhead)) → AreFresh lanes → AreThere (so_far lanes)
 there_fresh [] fresh i lt = absurd (omega (arith, lt))

@@ -1,6 +1,6 @@
 //! The audit of a case whose logs come in streams.
 
-ghost use Rattle.std.specs.Prelude.{◌≡◌, ◌<◌, ℕ, Some, None, List, Option, IfOk, IfErr};
+ghost use Rattle.std.specs.Prelude.{◌≡◌, ◌<◌, ℕ, Some, None, [], false, List, Option, IfOk, IfErr};
 ghost use Rattle.case_book.specs.Case.{HoldsJust, IsCase, refusal_of};
 ghost use Rattle.case_book.specs.Ties.{tie_fault_of};
 ghost use Rattle.audit_core.specs.Lines.{IsLineOf};
@@ -102,6 +102,33 @@ fn line_of(
     }
 }
 
+/// The report of a case before whose records no turn was taken, by at least one worker. The turns are the caller's, so that they are
+/// dropped in one place.
+fn check_by_turns<R: Threads + Sync, P: Pieces + Send>(
+    rt: &R,
+    alloc: Global,
+    lanes: &mut [Lane<P>],
+    links: Vec<Link>,
+    order: &Option<Order>,
+    workers: usize,
+    turns: &mut CaseTurns,
+) -> Result<Report, StreamError>
+    requires fresh { AreFresh lanes.old }
+    requires some { 0 < workers }
+    requires begun { turns.old ≡ Some (record { links = links.items; in_order = []; all = []; is_stuck = false }) }
+    ensures err { IfErr result (IsRefusalOf lanes.new links.items workers) }
+    ensures line { IfOk result (IsLineOfStreams lanes.new links.items order.now) }
+{
+    if !are_apart(lanes) {
+        read_alone(rt, alloc, lanes, workers)?;
+        tied_case(take_logs(alloc, lanes)?, links)?;
+        return Err(StreamError::OutOfMemory);
+    }
+    let found = read_in_turns(rt, alloc, lanes, turns, order, workers)?;
+    let case = tied_case(take_logs(alloc, lanes)?, links)?;
+    Ok(line_of(alloc, &case, turns, found)?)
+}
+
 /// Audits a case whose logs come in streams, for its line alone, and reads each log once. Of each only the header was read
 /// before. It keeps none of them, but what is under
 /// way, and what a later record may still name. What it answers is the report of [`audit`](audit_core::audit) of the logs that
@@ -132,12 +159,13 @@ pub fn check_streams<R: Threads + Sync, P: Pieces + Send>(
         return Err(StreamError::TooManyWorkers);
     }
     let mut turns = CaseTurns::new(alloc, &links)?;
-    if !are_apart(lanes) {
-        read_alone(rt, alloc, lanes, workers as usize)?;
-        tied_case(take_logs(alloc, lanes)?, links)?;
-        return Err(StreamError::OutOfMemory);
-    }
-    let found = read_in_turns(rt, alloc, lanes, &mut turns, &order, workers as usize)?;
-    let case = tied_case(take_logs(alloc, lanes)?, links)?;
-    Ok(line_of(alloc, &case, &turns, found)?)
+    check_by_turns(
+        rt,
+        alloc,
+        lanes,
+        links,
+        &order,
+        workers as usize,
+        &mut turns,
+    )
 }

@@ -9,7 +9,7 @@ use Rattle.stream_audit.specs.Streamed.{IsRefusalOf}
 use Rattle.stream_audit.specs.declared.error.StreamError.TheVariants.{OutOfMemory}
 use Rattle.stream_audit.proofs.Fresh.{begun}
 use Rattle.stream_audit.proofs.Streaming.{err_of, line_of_streams}
-use Rattle.stream_audit.proofs.checking.check_streams.Goals as goal
+use Rattle.stream_audit.proofs.checking.check_by_turns.Goals as goal
 
 pub returns-in_err-take_logs-clause-err : goal.returns-in_err-take_logs-clause-err
 returns-in_err-take_logs-clause-err g c =
@@ -42,12 +42,12 @@ returns-in_err-line_of-clause-err g c =
 
 pub returns-clause-line : goal.returns-clause-line
 returns-clause-line g c =
-    let begins : Taken = record { links = c.deref.result.now; in_order = []; all = []; is_stuck = false } in
+    let begins : Taken = record { links = c.args.links.items; in_order = []; all = []; is_stuck = false } in
     let apart = c.are_apart.ensures c.if-not-are_apart.false in
-    let step = c.in_ok-found.ensures begins c.in_ok-turns.ensures refl refl (begun c.args.lanes.now (turned begins) c.requires apart refl refl) in
+    let step = c.in_ok-found.ensures begins c.requires.begun refl refl (begun c.args.lanes.now (turned begins) c.requires.fresh apart refl refl) in
     let found = c.in_ok-take_logs-2.ensures.ok in
     let made = c.in_ok-case.ensures.ok in
     let logs = logs_of c.in_ok-take_logs-2.field-0.items in
     let same = found.same ∙ ap (λ (ls : List (Option ReadAhead)). case_logs (so_far ls)) c.in_ok-take_logs-2.ensures.lanes in
-    line_of_streams c.take_logs-2.new.lanes c.args.links.items c.args.order c.in_ok-case.case c.in_ok-take_logs-2.field-0.items c.in_ok-line_of.field-0 found made.0 made.1 made.2 made.3
-    (c.in_ok-line_of.ensures (so_far c.read_in_turns.new.lanes) logs c.args.order step.0 step.1 step.2 same made.1.just_logs made.2 made.3)
+    line_of_streams c.take_logs-2.new.lanes c.args.links.items c.args.order.now c.in_ok-case.case c.in_ok-take_logs-2.field-0.items c.in_ok-line_of.field-0 found made.0 made.1 made.2 made.3
+    (c.in_ok-line_of.ensures (so_far c.read_in_turns.new.lanes) logs c.args.order.now step.0 step.1 step.2 same made.1.just_logs made.2 made.3)

@@ -1,14 +1,14 @@
 #!/usr/bin/env python3
-"""Which functions of a crate are dear to prove: proves it from nothing, with one job, and prints the slowest and the largest.
+"""Which functions of a crate are dear to prove: checks it with one job, and prints the slowest and the largest.
 
 usage: tests/proof_times.py CRATE [COUNT]        (without a count: 12 of either)
 
 A line of the first table has the seconds, which part of all of them it and those above it take, and the function. Several
 functions are prepared together, and the time of that stands beside whichever is checked next. So a second table has the
 functions whose states take most bytes: what holds at each point of the body, with all parts of each value that may be dropped
-there. Large states are large goals: a function of the first table that isn't in the second stands there for another.
-The libraries below are built first, where they have changed, and aren't counted. What earlier checks of the crate left is thrown
-away. It is no part of the gate.
+there. A function of the first table that isn't in the second may stand there for another, or its goals take long to be searched
+for. The libraries below are built first, where they have changed, and aren't counted. What earlier checks of the crate left here
+is thrown away; what one in another checkout on this machine left is begun with. It is no part of the gate.
 """
 import os, re, shutil, subprocess, sys, time
 
@@ -26,7 +26,7 @@ def checked(folder):
             found = re.match(r"checked (\S+), \d+ of \d+", line)
             if found and last is not None:
                 taken.append((now - last, found[1]))
-            elif re.match(r"fn |.*error", line) and "proved" not in line:
+            elif re.match(r"fn |.*error", line) and not line.endswith(": proved\n"):
                 print(line, end="", file=sys.stderr)
             last = now
     return taken, check.returncode == 0

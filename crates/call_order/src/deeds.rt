@@ -6,7 +6,7 @@ ghost use Rattle.call_order.specs.Glue.Deeds.{deed_of};
 use vat_log::Body;
 
 /// What a record does to the calls of its vat.
-#[derive(Clone, Copy, Debug, PartialEq, Eq)]
+#[derive(Clone, Copy, PartialEq, Eq)]
 pub(crate) enum Deed {
     /// It makes a call through a reference.
     Make {

@@ -6,7 +6,7 @@ use std::alloc::{AllocError, Global};
 use std::fmt::Write;
 
 /// A field of a message, with its value as text.
-#[derive(Debug, Drop)]
+#[derive(Drop)]
 pub(crate) struct Field {
     /// Its name.
     pub(crate) name: String,

@@ -12,7 +12,7 @@ use vat_log::{LogError, VatLog, parse_log};
 const MOST: usize = 64;
 
 /// A link of a case file.
-#[derive(Clone, Copy, Debug)]
+#[derive(Clone, Copy)]
 struct Tie {
     connection: u32,
     a: u32,

@@ -6,7 +6,7 @@ use std::alloc::AllocError;
 use vat_log::Body;
 
 /// How many records were taken, and how many of them are of some kinds.
-#[derive(Clone, Copy, Debug)]
+#[derive(Clone, Copy)]
 pub(crate) struct Counts {
     pub(crate) records: u64,
     /// Those that deliver a call.

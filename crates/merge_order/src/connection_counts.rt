@@ -7,7 +7,7 @@ use std::alloc::{AllocError, Global};
 use std::collections::BTreeMap;
 
 /// How often each connection came up.
-#[derive(Debug, Drop)]
+#[derive(Drop)]
 pub struct ConnectionCounts {
     counts: BTreeMap<u32, u64>,
 }

@@ -11,7 +11,7 @@ use std::sync::Arc;
 use vat_log::{Body, Record, VatLog};
 
 /// A log, how many of its records came already, and how many frames these sent and received on each connection.
-#[derive(Debug, Drop)]
+#[derive(Drop)]
 pub struct Cursor {
     log: Arc<VatLog>,
     came: usize,

@@ -14,7 +14,7 @@ use vat_log::{Body, VatLog};
 
 /// Several logs by rising vat numbers, each with how many of its records came already, and how many frames all the vats
 /// sent on each connection by then.
-#[derive(Debug, Drop)]
+#[derive(Drop)]
 pub struct Progress {
     cursors: Vec<Cursor>,
     totals: ConnectionCounts,

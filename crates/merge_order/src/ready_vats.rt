@@ -8,7 +8,7 @@ use std::alloc::{AllocError, Global};
 use std::collections::BTreeSet;
 
 /// The vats that are ready to be tried, by their numbers.
-#[derive(Debug, Drop)]
+#[derive(Drop)]
 pub struct ReadyVats {
     vats: BTreeSet<u32>,
 }

@@ -14,7 +14,7 @@ use vat_log::VatLog;
 /// Several logs, each with how many of its records came already, and the smallest vat number whose next record may come. Each
 /// vat whose next record may come is ready. A vat whose next record is a RECV that may not come yet is ready too until it is
 /// tried; then it waits on its connection until another vat sends there.
-#[derive(Debug, Drop)]
+#[derive(Drop)]
 pub struct Schedule {
     progress: Progress,
     ready: ReadyVats,

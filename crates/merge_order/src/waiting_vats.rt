@@ -8,7 +8,7 @@ use std::alloc::{AllocError, Global};
 use std::collections::BTreeMap;
 
 /// The vats that wait for a frame, by the connection on which they wait.
-#[derive(Debug, Drop)]
+#[derive(Drop)]
 pub struct WaitingVats {
     alloc: Global,
     vats: BTreeMap<u32, Vec<u32>>,

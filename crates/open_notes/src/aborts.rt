@@ -8,7 +8,7 @@ use std::fmt::Write;
 use vat_view::DecodedRecord;
 
 /// An abort that a record sends or receives.
-#[derive(Clone, Copy, Debug)]
+#[derive(Clone, Copy)]
 pub(crate) struct Aborted {
     connection: u32,
     sent: bool,

@@ -19,7 +19,7 @@ struct Sent {
 }
 
 /// How a record brings a call further.
-#[derive(Clone, Copy, Debug)]
+#[derive(Clone, Copy)]
 pub(crate) enum Does {
     Receives,
     SendsOn,
@@ -28,7 +28,7 @@ pub(crate) enum Does {
 }
 
 /// A record that brings a call further, and its vat.
-#[derive(Clone, Copy, Debug)]
+#[derive(Clone, Copy)]
 pub(crate) struct Hop {
     pub(crate) vat: u32,
     pub(crate) at: usize,
@@ -36,7 +36,7 @@ pub(crate) struct Hop {
 }
 
 /// Where a call stands that has no Return: at which vat, where its log is there.
-#[derive(Clone, Copy, Debug)]
+#[derive(Clone, Copy)]
 pub(crate) enum Stands {
     /// It was sent to a vat whose log isn't there.
     Sent,

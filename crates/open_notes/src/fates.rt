@@ -6,7 +6,7 @@ use std::collections::BTreeMap;
 use vat_view::DecodedRecord;
 
 /// What became last of a call at a vat.
-#[derive(Clone, Copy, Debug)]
+#[derive(Clone, Copy)]
 pub(crate) enum Fate {
     /// Nothing: it waits.
     Waits,

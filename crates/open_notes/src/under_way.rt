@@ -8,7 +8,7 @@ use std::alloc::{AllocError, Global};
 use std::fmt::Write;
 
 /// How many frames one end of a connection sent and the other never received, and the record that sent the first of them.
-#[derive(Clone, Copy, Debug)]
+#[derive(Clone, Copy)]
 pub(crate) struct UnderWay {
     pub(crate) connection: u32,
     pub(crate) sender: u32,

@@ -10,7 +10,7 @@ use report_lines::call_of_step;
 use run_model::{Name, Step, vat_of};
 
 /// The vat that made a call, and the reference through which it made it.
-#[derive(Clone, Copy, Debug, PartialEq, Eq)]
+#[derive(Clone, Copy, PartialEq, Eq)]
 pub struct Maker {
     /// The vat.
     pub vat: u32,

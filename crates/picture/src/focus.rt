@@ -10,7 +10,7 @@ use audit_core::Report;
 use case_book::Case;
 
 /// The records that a verdict names: the one at fault, and the other end of its message where the verdict is on a link.
-#[derive(Clone, Copy, Debug)]
+#[derive(Clone, Copy)]
 pub struct Focus {
     /// The record at fault.
     pub at: Option<Place>,

@@ -16,7 +16,7 @@ use run_model::Step;
 use std::marker::Model;
 
 /// A case, an order in which its records are drawn, what the verdict names, and which steps are drawn.
-#[derive(Debug, Drop)]
+#[derive(Drop)]
 pub struct Scene<'a> {
     /// The case.
     pub case: &'a Case,

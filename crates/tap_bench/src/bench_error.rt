@@ -7,7 +7,7 @@ use vat_log::{Body, LogError};
 use vat_tap::Full;
 
 /// Why something isn't measured.
-#[derive(Clone, Copy, Debug, PartialEq, Eq)]
+#[derive(Clone, Copy, PartialEq, Eq)]
 pub enum BenchError {
     /// A growth of memory was refused.
     OutOfMemory,

@@ -12,7 +12,7 @@ use vat_log::Record;
 use vat_tap::Lane;
 
 /// What is timed.
-#[derive(Clone, Copy, Debug, PartialEq, Eq)]
+#[derive(Clone, Copy, PartialEq, Eq)]
 pub enum Timed {
     /// The recording alone: the records are made before.
     Record,
@@ -21,7 +21,7 @@ pub enum Timed {
 }
 
 /// What each lane does.
-#[derive(Clone, Copy, Debug)]
+#[derive(Clone, Copy)]
 pub struct Work {
     /// What is timed.
     pub timed: Timed,

@@ -4,7 +4,7 @@ use std::fmt;
 use std::fmt::{Display, Formatter, Write};
 
 /// How many nanoseconds so many records take, by one lane and by two at once.
-#[derive(Clone, Copy, Debug)]
+#[derive(Clone, Copy)]
 pub struct LaneTimes {
     /// So many records by one lane.
     pub one: u128,
@@ -13,7 +13,7 @@ pub struct LaneTimes {
 }
 
 /// What was measured.
-#[derive(Clone, Copy, Debug)]
+#[derive(Clone, Copy)]
 pub struct Measurements {
     /// How many records each lane recorded.
     pub count: usize,

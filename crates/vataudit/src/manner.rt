@@ -3,7 +3,7 @@
 use std::alloc::{AllocError, Global};
 
 /// How it is said.
-#[derive(Debug, Drop)]
+#[derive(Drop)]
 pub struct Manner {
     /// No notes: `--quiet`.
     pub is_quiet: bool,

@@ -9,7 +9,7 @@ use schema_names::{Limits, Names, SchemaError, read_names};
 use std::alloc::{AllocError, Global};
 
 /// Why a schema isn't read.
-#[derive(Clone, Copy, Debug, PartialEq, Eq)]
+#[derive(Clone, Copy, PartialEq, Eq)]
 pub enum SchemaFault {
     /// Its file can't be read, or isn't a schema.
     Bad(&'static str),

@@ -59,7 +59,7 @@ impl Vat<'_> {
 }
 
 /// What each end's next message lacks where nothing moves.
-#[derive(Clone, Copy, Debug)]
+#[derive(Clone, Copy)]
 pub(crate) struct Stuck {
     /// Of the first end.
     pub of_a: Option<Lack>,

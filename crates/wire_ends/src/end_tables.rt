@@ -4,7 +4,7 @@ use crate::vat::views::{EndView, NextView};
 use wire_plan::Entry;
 
 /// A question: one of this end's, or one that this end answers.
-#[derive(Clone, Copy, Debug)]
+#[derive(Clone, Copy)]
 pub(crate) struct Question {
     /// Its call.
     pub call: usize,
@@ -49,7 +49,7 @@ impl Question {
 }
 
 /// An export or an import.
-#[derive(Clone, Copy, Debug)]
+#[derive(Clone, Copy)]
 pub(crate) struct Held {
     /// How often it was introduced more than given back.
     pub count: u64,
@@ -62,7 +62,7 @@ pub(crate) struct Held {
 }
 
 /// A life of an import.
-#[derive(Clone, Copy, Debug)]
+#[derive(Clone, Copy)]
 pub(crate) struct Life {
     /// The reference with which it began.
     pub reference: u64,
@@ -71,7 +71,7 @@ pub(crate) struct Life {
 }
 
 /// What a promise of this end becomes.
-#[derive(Clone, Copy, Debug)]
+#[derive(Clone, Copy)]
 pub(crate) enum Becomes {
     /// What this entry of a sent table stands for.
     Entry(Entry),
@@ -82,7 +82,7 @@ pub(crate) enum Becomes {
 }
 
 /// A promise of this end.
-#[derive(Clone, Copy, Debug)]
+#[derive(Clone, Copy)]
 pub(crate) struct Promise {
     /// Its reference.
     pub reference: u64,
@@ -93,7 +93,7 @@ pub(crate) struct Promise {
 }
 
 /// Where a call is.
-#[derive(Clone, Copy, Debug, PartialEq, Eq)]
+#[derive(Clone, Copy, PartialEq, Eq)]
 pub(crate) enum CallPlace {
     /// It waits at this end.
     Here,
@@ -104,7 +104,7 @@ pub(crate) enum CallPlace {
 }
 
 /// What is known of a call's results.
-#[derive(Clone, Copy, Debug, PartialEq, Eq)]
+#[derive(Clone, Copy, PartialEq, Eq)]
 pub(crate) enum Known {
     /// Nothing yet.
     NotYet,
@@ -117,7 +117,7 @@ pub(crate) enum Known {
 }
 
 /// A call.
-#[derive(Clone, Copy, Debug)]
+#[derive(Clone, Copy)]
 pub(crate) struct MadeCall {
     /// What it is meant for, if that stands for anything.
     pub goal: Option<EndView>,
@@ -132,7 +132,7 @@ pub(crate) struct MadeCall {
 }
 
 /// A senderLoopback that came in and waits for its echo.
-#[derive(Clone, Copy, Debug)]
+#[derive(Clone, Copy)]
 pub(crate) struct AwaitedEcho {
     /// What its target stood for.
     pub view: Option<EndView>,

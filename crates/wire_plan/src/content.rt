@@ -17,14 +17,14 @@ impl Digest {
 }
 
 /// Where a pointer stands.
-#[derive(Clone, Copy, Debug)]
+#[derive(Clone, Copy)]
 struct PointerSpot {
     segment: u32,
     at: u64,
 }
 
 /// What a pointer says: its word, or the word of the pad to which it leads, and where what it points to begins.
-#[derive(Clone, Copy, Debug)]
+#[derive(Clone, Copy)]
 struct Pointed {
     word: u64,
     segment: u32,
@@ -80,7 +80,7 @@ fn follow(frame: &Frame, spot: PointerSpot) -> Option<Pointed> {
 }
 
 /// A struct's sections: where it begins, and the words of each.
-#[derive(Clone, Copy, Debug)]
+#[derive(Clone, Copy)]
 struct Sections {
     segment: u32,
     start: u64,

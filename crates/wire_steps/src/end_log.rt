@@ -25,7 +25,7 @@ pub struct EndLog {
 }
 
 /// How many frames of both files are in a log.
-#[derive(Clone, Copy, Debug)]
+#[derive(Clone, Copy)]
 pub struct Counts {
     /// Of the own file, which are sent.
     pub sent: usize,

@@ -23,7 +23,7 @@ use vat_log::{Body, LogStream, ReadFault, Record};
 use vat_rules::edition_of_header;
 
 /// Which records of a log are asked for.
-#[derive(Clone, Copy, Debug)]
+#[derive(Clone, Copy)]
 pub struct RecordRange {
     /// The number of the first one, counted from 0; the log's first where there is none.
     pub from: Option<u64>,

@@ -22,7 +22,7 @@ use std::thread::Threads;
 use wire_logs::{WireLogs, explain_wire};
 
 /// What is asked of a connection.
-#[derive(Clone, Copy, Debug)]
+#[derive(Clone, Copy)]
 pub struct AskedWire<'a> {
     /// The name of the file with what the first end sent.
     pub a: &'a str,

@@ -5,7 +5,7 @@ use std::fmt::{Display, Formatter};
 use wire_logs::Lack;
 
 /// What a message lacks, to be shown.
-#[derive(Clone, Copy, Debug)]
+#[derive(Clone, Copy)]
 pub(super) struct ShownLack(pub(super) Lack);
 
 /// What it lacks of questions.

@@ -14,7 +14,7 @@ use std::sync::Arc;
 use vat_log::VatLog;
 
 /// A turn: the next record of a vat comes.
-#[derive(Clone, Copy, Debug)]
+#[derive(Clone, Copy)]
 pub struct VatTurn {
     /// The vat.
     pub vat: u32,

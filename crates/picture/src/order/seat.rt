@@ -16,7 +16,7 @@ use vat_log::VatLog;
 
 /// A vat: its log, how many records of it came, and the connections of the frames that are under way to it, the one that was
 /// sent first in front.
-#[derive(Debug, Drop)]
+#[derive(Drop)]
 pub struct Seat {
     log: Arc<VatLog>,
     came: usize,

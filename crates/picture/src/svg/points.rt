@@ -8,7 +8,7 @@ use std::fmt;
 use std::fmt::{Display, Formatter};
 
 /// A point of a picture.
-#[derive(Clone, Copy, Debug)]
+#[derive(Clone, Copy)]
 pub struct Point {
     /// How far to the right.
     pub x: u64,

@@ -1,7 +1,7 @@
 //! What references, numbers and targets stand for at one end, and where that turns.
 
 /// What a reference, a number or a target stands for. Calls, promises and lives of imports are counted from 0.
-#[derive(Clone, Copy, Debug, PartialEq, Eq)]
+#[derive(Clone, Copy, PartialEq, Eq)]
 pub(crate) enum EndView {
     /// An own object, by its number.
     Object(u64),
@@ -14,7 +14,7 @@ pub(crate) enum EndView {
 }
 
 /// Where a view goes next.
-#[derive(Clone, Copy, Debug, PartialEq, Eq)]
+#[derive(Clone, Copy, PartialEq, Eq)]
 pub(crate) enum NextView {
     /// It stays what it is.
     Stays,
@@ -25,7 +25,7 @@ pub(crate) enum NextView {
 }
 
 /// A view as a key of a table.
-#[derive(Clone, Copy, Debug, PartialEq, Eq, PartialOrd, Ord)]
+#[derive(Clone, Copy, PartialEq, Eq, PartialOrd, Ord)]
 pub(crate) struct ViewKey(u8, u64, u32);
 
 impl EndView {

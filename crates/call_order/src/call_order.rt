@@ -15,13 +15,24 @@ use vat_log::Body;
 
 /// The order of calls, as vats take turns, each with the next record of its log. It keeps what is under way, and no record.
 /// Contracts see it as the turns so far, the newest first; as none, once memory was refused.
-#[derive(Drop)]
 pub struct CallOrder {
     tables: Tables,
     counts: Counts,
     vats: Erased<u32>,
     records: Erased<Body>,
     is_refused: bool,
+}
+
+impl Drop for CallOrder {
+    fn drop(self) {
+        let Self {
+            tables: _,
+            counts: _,
+            vats: _,
+            records: _,
+            is_refused: _,
+        } = self;
+    }
 }
 
 impl Model for CallOrder {

@@ -14,13 +14,24 @@ use std::marker::Model;
 
 /// One direction of a connection: what one end sent and what the other received. Contracts see both lists; it keeps only the
 /// frames that one end has and the other hasn't yet, and none once two differ.
-#[derive(Drop)]
 pub struct FrameQueue {
     sent: Erased<Bytes>,
     received: Erased<Bytes>,
     sent_count: u64,
     received_count: u64,
     comparison: Comparison,
+}
+
+impl Drop for FrameQueue {
+    fn drop(self) {
+        let Self {
+            sent: _,
+            received: _,
+            sent_count: _,
+            received_count: _,
+            comparison: _,
+        } = self;
+    }
 }
 
 impl Model for FrameQueue {

@@ -13,12 +13,23 @@ use vat_log::VatLog;
 
 /// A connection, the logs of its two ends, and what is found of them, which is what the definition says of them. Contracts
 /// see it as its ends.
-#[derive(Debug, Drop)]
+#[derive(Debug)]
 pub struct LinkFinding {
     connection: u32,
     first: Arc<VatLog>,
     second: Arc<VatLog>,
     outcome: LinkOutcome,
+}
+
+impl Drop for LinkFinding {
+    fn drop(self) {
+        let Self {
+            connection: _,
+            first: _,
+            second: _,
+            outcome: _,
+        } = self;
+    }
 }
 
 impl Model for LinkFinding {

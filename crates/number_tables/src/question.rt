@@ -6,7 +6,6 @@ ghost use Rattle.number_tables.specs.Glue.QuestionTables.{just_opened};
 use decoded_records::TableKeys;
 
 /// What is known of a question by its last opening and what came since.
-#[derive(Drop)]
 pub struct Question {
     /// The call noted beside its opening.
     pub(crate) call: u64,
@@ -26,6 +25,22 @@ pub struct Question {
     pub(crate) asked: TableKeys,
     /// The numbers that its Return introduced.
     pub(crate) brought: TableKeys,
+}
+
+impl Drop for Question {
+    fn drop(self) {
+        let Self {
+            call: _,
+            tail: _,
+            returned: _,
+            returned_lightly: _,
+            finished: _,
+            released: _,
+            taken: _,
+            asked: _,
+            brought: _,
+        } = self;
+    }
 }
 
 impl Question {

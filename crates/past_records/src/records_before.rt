@@ -7,7 +7,6 @@ use vat_log::VatLog;
 use vat_view::{DecodedRecord, VatState};
 
 /// A record, and what the numbers of its log are before it.
-#[derive(Drop)]
 pub struct Past<'a> {
     /// Where memory comes from.
     pub alloc: Global,
@@ -23,6 +22,20 @@ pub struct Past<'a> {
     pub events: Vec<DecodedRecord>,
     /// The lives of the numbers that are watched.
     pub lives: Lives,
+}
+
+impl Drop for Past<'_> {
+    fn drop(self) {
+        let Self {
+            alloc: _,
+            log: _,
+            at: _,
+            event: _,
+            state: _,
+            events: _,
+            lives: _,
+        } = self;
+    }
 }
 
 /// Applies so many records of a log and watches numbers meanwhile. None where one of them can't be applied.

@@ -7,11 +7,20 @@ use vat_log::VatLog;
 use vat_view::{DecodedRecord, VatState};
 
 /// What the records of a log came to so far, and the lives of the numbers that are watched.
-#[derive(Drop)]
 pub struct Replay {
     state: VatState,
     lives: Lives,
     count: usize,
+}
+
+impl Drop for Replay {
+    fn drop(self) {
+        let Self {
+            state: _,
+            lives: _,
+            count: _,
+        } = self;
+    }
 }
 
 impl Replay {

@@ -107,7 +107,7 @@ pub enum Loopback {
 }
 
 /// A message of the protocol's level 1: rpc.capnp's `Message`.
-#[derive(Debug, Drop)]
+#[derive(Debug)]
 pub enum RpcMessage {
     /// Asks for the peer's bootstrap object.
     Bootstrap {
@@ -172,4 +172,41 @@ pub enum RpcMessage {
     },
     /// Ends the connection; its reason isn't read.
     Abort,
+}
+
+impl Drop for RpcMessage {
+    fn drop(self) {
+        match self {
+            Self::Bootstrap { question: _ } => {}
+            Self::Call {
+                question: _,
+                target: _,
+                interface: _,
+                method: _,
+                params: _,
+                yourself: _,
+            } => {}
+            Self::Return {
+                answer: _,
+                release_param_caps: _,
+                outcome: _,
+                light: _,
+            } => {}
+            Self::Finish {
+                question: _,
+                release_result_caps: _,
+            } => {}
+            Self::Resolve {
+                promise: _,
+                resolution: _,
+            } => {}
+            Self::Release { id: _, count: _ } => {}
+            Self::Disembargo {
+                number: _,
+                loopback: _,
+                target: _,
+            } => {}
+            Self::Abort => {}
+        }
+    }
 }

@@ -12,12 +12,22 @@ use vat_log::Body;
 
 /// The turns that were taken. Contracts see it as the list of these, each a vat and its record, the newest first. It keeps no
 /// record: a number for each vat, for each connection, and for each vat on each of its connections.
-#[derive(Drop)]
 pub struct TurnsTaken {
     vats: Erased<u32>,
     records: Erased<Body>,
     count: u64,
     tables: Tables,
+}
+
+impl Drop for TurnsTaken {
+    fn drop(self) {
+        let Self {
+            vats: _,
+            records: _,
+            count: _,
+            tables: _,
+        } = self;
+    }
 }
 
 impl Model for TurnsTaken {

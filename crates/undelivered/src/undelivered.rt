@@ -12,11 +12,20 @@ use std::marker::Model;
 
 /// What was told of the calls of one vat, and where their order is broken. Contracts see it as the list of the moments, the
 /// newest first; it keeps of each call that isn't delivered its reference, its turn and one place.
-#[derive(Drop)]
 pub struct Undelivered {
     past: Erased<Moment>,
     count: u64,
     tables: Tables,
+}
+
+impl Drop for Undelivered {
+    fn drop(self) {
+        let Self {
+            past: _,
+            count: _,
+            tables: _,
+        } = self;
+    }
 }
 
 impl Model for Undelivered {

@@ -15,7 +15,6 @@ use std::alloc::{AllocError, Global};
 use wire_cut::End;
 
 /// What one end's file tells.
-#[derive(Drop)]
 pub struct FilePlan {
     /// Its messages.
     pub messages: Vec<Planned>,
@@ -27,6 +26,18 @@ pub struct FilePlan {
     pub named: NamedPaths,
     /// What its promises become of the other end's.
     pub leading: Leading,
+}
+
+impl Drop for FilePlan {
+    fn drop(self) {
+        let Self {
+            messages: _,
+            groups: _,
+            ties: _,
+            named: _,
+            leading: _,
+        } = self;
+    }
 }
 
 /// What both files tell.

@@ -113,7 +113,6 @@ fn outcome_of(good: Tally, refused: Option<(u64, Refusal)>) -> SlimOutcome
 
 /// The audit of one log that takes one record after another. It keeps none of them, but what the tables have of the good
 /// ones and how many these are, up to the first that isn't good; then that record's number and the reason alone.
-#[derive(Drop)]
 pub struct VatAudit {
     header: LogHeader,
     limits: Limits,
@@ -121,6 +120,19 @@ pub struct VatAudit {
     count: u64,
     good: Tally,
     refused: Option<(u64, Refusal)>,
+}
+
+impl Drop for VatAudit {
+    fn drop(self) {
+        let Self {
+            header: _,
+            limits: _,
+            taken: _,
+            count: _,
+            good: _,
+            refused: _,
+        } = self;
+    }
 }
 
 impl Model for VatAudit {

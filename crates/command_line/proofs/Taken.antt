@@ -60,7 +60,7 @@ file_taken name file e =
     let is = plain_word_is file e in
     let met : word_met (sub name).rules [] false idle 1 file (holding None) ≡ (holding None, value) = rw (is.0, is.1, is.2) refl in
     let w : walked (sub name).rules [] (at None 1 false) file ≡ at (given file) 2 false = ap (λ (m : Held × Step). after_step (sub name).rules file (at None 1 false) m.0 m.1) met in
-    let word : word_fault (sub name) [] false idle file (holding None) ≡ [] = rw (is.0, is.1, is.2) refl in
+    let word : word_fault (sub name) [] false idle file (holding None) ≡ [] = rw (is.0, is.1, is.2) (refl {a = []}) in
     let turn : turn_fault (sub name) [] (at None 1 false) file ≡ [] =
     ap₂ (λ (k : Kinds) (m : Held × Step). or_else k (step_fault (sub name) 1 m.0 m.1)) word met in
     let walks : walk_fault (sub name) [] (at None 1 false) (file ∷ []) ≡ [] = ap (λ k. or_else k []) turn in
@@ -85,7 +85,7 @@ graph_words : (case : Text) → is_flag case ≡ false → level_fault (shape_by
 unfolding clap_on_literals
 graph_words case e =
     let is = plain_word_is case e in
-    rw (is.0, is.1, is.2) refl
+    rw (is.0, is.1, is.2) (refl {a = []})
 
 takes_graph : (first case : Text) → is_flag case ≡ false → fault_of program (first ∷ name_of graphing ∷ case ∷ []) ≡ []
 unfolding clap_on_literals
@@ -99,7 +99,7 @@ graph_dot_words : (case : Text) → is_flag case ≡ false → level_fault (shap
 unfolding clap_on_literals
 graph_dot_words case e =
     let is = plain_word_is case e in
-    rw (is.0, is.1, is.2) refl
+    rw (is.0, is.1, is.2) (refl {a = []})
 
 -- `graph CASE --dot` has no fault, where CASE is no flag
 pub takes_graph_dot : (first case : Text) → is_flag case ≡ false → fault_of program (first ∷ name_of graphing ∷ case ∷ codes "--dot" ∷ []) ≡ []
@@ -112,7 +112,7 @@ frame_words : (hex : Text) → is_flag hex ≡ false → level_fault (shape_by f
 unfolding clap_on_literals
 frame_words hex e =
     let is = plain_word_is hex e in
-    rw (is.0, is.1, is.2) refl
+    rw (is.0, is.1, is.2) (refl {a = []})
 
 takes_frame : (first hex : Text) → is_flag hex ≡ false → fault_of program (first ∷ name_of framing ∷ hex ∷ []) ≡ []
 unfolding clap_on_literals
@@ -126,7 +126,7 @@ frame_later_words : (hex : Text) → is_flag hex ≡ false → level_fault (shap
 unfolding clap_on_literals
 frame_later_words hex e =
     let is = plain_word_is hex e in
-    rw (is.0, is.1, is.2) refl
+    rw (is.0, is.1, is.2) (refl {a = []})
 
 -- `frame --later HEX` has no fault, where HEX is no flag
 pub takes_frame_later : (first hex : Text) → is_flag hex ≡ false → fault_of program (first ∷ name_of framing ∷ codes "--later" ∷ hex ∷ []) ≡ []
@@ -156,7 +156,7 @@ pub takes_check : (first case : Text) → is_flag case ≡ false → fault_of pr
 unfolding clap_on_literals
 takes_check first case e =
     let is = plain_word_is case e in
-    let level : level_fault (shape_by checking) [] nothing_held (case ∷ []) false [] ≡ [] = rw (is.0, is.1, is.2) refl in
+    let level : level_fault (shape_by checking) [] nothing_held (case ∷ []) false [] ≡ [] = rw (is.0, is.1, is.2) (refl {a = []}) in
     ap (λ (k : Kinds). or_else k []) level
 
 workers_level : (case number : Text) (b : Bool) → is_flag case ≡ false → is_flag number ≡ false → accepts false (parser.Unsigned 1 64) number ≡ b
@@ -165,11 +165,11 @@ unfolding clap_on_literals
 workers_level case number true e h accepted =
     let is = plain_word_is case e in
     let are = plain_word_is number h in
-    rw (is.0, is.1, is.2, are.0, are.1, are.2, accepted) refl
+    rw (is.0, is.1, is.2, are.0, are.1, are.2, accepted) (refl {a = []})
 workers_level case number false e h refused =
     let is = plain_word_is case e in
     let are = plain_word_is number h in
-    rw (is.0, is.1, is.2, are.0, are.1, are.2, refused) refl
+    rw (is.0, is.1, is.2, are.0, are.1, are.2, refused) (refl {a = ValueValidation ∷ []})
 
 workers_by : (first case number : Text) (b : Bool) → is_flag case ≡ false → is_flag number ≡ false → accepts false (parser.Unsigned 1 64) number ≡ b
     → fault_of program (first ∷ name_of checking ∷ case ∷ codes "--workers" ∷ number ∷ []) ≡ (if b then [] else ValueValidation ∷ [])
@@ -203,7 +203,7 @@ unfolding clap_on_literals
 order_words file out e h =
     let is = plain_word_is file e in
     let are = plain_word_is out h in
-    rw (is.0, is.1, is.2, are.0, are.1, are.2) refl
+    rw (is.0, is.1, is.2, are.0, are.1, are.2) (refl {a = []})
 
 -- has no fault, where CASE and FILE are no flags
 pub takes_order : (first file out : Text) → is_flag file ≡ false → is_flag out ≡ false → fault_of program (first ∷ name_of ordering ∷ file ∷ codes "--out" ∷ out ∷ []) ≡ []
@@ -217,7 +217,7 @@ unfolding clap_on_literals
 draw_words file out e h =
     let is = plain_word_is file e in
     let are = plain_word_is out h in
-    rw (is.0, is.1, is.2, are.0, are.1, are.2) refl
+    rw (is.0, is.1, is.2, are.0, are.1, are.2) (refl {a = []})
 
 -- has no fault, where CASE and FILE are no flags
 pub takes_draw : (first file out : Text) → is_flag file ≡ false → is_flag out ≡ false → fault_of program (first ∷ name_of drawing ∷ file ∷ codes "--out" ∷ out ∷ []) ≡ []
@@ -230,7 +230,7 @@ unfolding clap_on_literals
 draw_page_words file out e h =
     let is = plain_word_is file e in
     let are = plain_word_is out h in
-    rw (is.0, is.1, is.2, are.0, are.1, are.2) refl
+    rw (is.0, is.1, is.2, are.0, are.1, are.2) (refl {a = []})
 
 -- nor has it with `--html`
 pub takes_draw_page : (first file out : Text) → is_flag file ≡ false → is_flag out ≡ false
@@ -245,7 +245,7 @@ unfolding clap_on_literals
 wire_words one another e h =
     let is = plain_word_is one e in
     let are = plain_word_is another h in
-    rw (is.0, is.1, is.2, are.0, are.1, are.2) refl
+    rw (is.0, is.1, is.2, are.0, are.1, are.2) (refl {a = []})
 
 -- `wire A B` has no fault, where neither is a flag
 pub takes_wire : (first one another : Text) → is_flag one ≡ false → is_flag another ≡ false → fault_of program (first ∷ name_of wiring ∷ one ∷ another ∷ []) ≡ []
@@ -259,7 +259,7 @@ wire_out_words one another out e h f =
     let is = plain_word_is one e in
     let are = plain_word_is another h in
     let too = plain_word_is out f in
-    rw (is.0, is.1, is.2, are.0, are.1, are.2, too.0, too.1, too.2) refl
+    rw (is.0, is.1, is.2, are.0, are.1, are.2, too.0, too.1, too.2) (refl {a = []})
 
 -- nor has it with `--out FOLDER`
 pub takes_wire_out : (first one another out : Text) → is_flag one ≡ false → is_flag another ≡ false → is_flag out ≡ false
@@ -276,7 +276,7 @@ join_words one another out e h f =
     let is = plain_word_is one e in
     let are = plain_word_is another h in
     let too = plain_word_is out f in
-    rw (is.0, is.1, is.2, are.0, are.1, are.2, too.0, too.1, too.2) refl
+    rw (is.0, is.1, is.2, are.0, are.1, are.2, too.0, too.1, too.2) (refl {a = []})
 
 -- `join LOG LOG --out FOLDER` has no fault, where none is a flag
 pub takes_join : (first one another out : Text) → is_flag one ≡ false → is_flag another ≡ false → is_flag out ≡ false
@@ -291,7 +291,7 @@ unfolding clap_on_literals
 migrate_words file out e h =
     let is = plain_word_is file e in
     let are = plain_word_is out h in
-    rw (is.0, is.1, is.2, are.0, are.1, are.2) refl
+    rw (is.0, is.1, is.2, are.0, are.1, are.2) (refl {a = []})
 
 -- has no fault, where neither FILE is a flag
 pub takes_migrate : (first file out : Text) → is_flag file ≡ false → is_flag out ≡ false → fault_of program (first ∷ name_of migrating ∷ file ∷ codes "--out" ∷ out ∷ []) ≡ []
@@ -304,7 +304,7 @@ unfolding clap_on_literals
 migrate_later_words file out e h =
     let is = plain_word_is file e in
     let are = plain_word_is out h in
-    rw (is.0, is.1, is.2, are.0, are.1, are.2) refl
+    rw (is.0, is.1, is.2, are.0, are.1, are.2) (refl {a = []})
 
 -- nor has it with `--later`
 pub takes_migrate_later : (first file out : Text) → is_flag file ≡ false → is_flag out ≡ false
@@ -319,7 +319,7 @@ unfolding clap_on_literals
 salvage_words file out e h =
     let is = plain_word_is file e in
     let are = plain_word_is out h in
-    rw (is.0, is.1, is.2, are.0, are.1, are.2) refl
+    rw (is.0, is.1, is.2, are.0, are.1, are.2) (refl {a = []})
 
 -- has no fault, where neither FILE is a flag
 pub takes_salvage : (first file out : Text) → is_flag file ≡ false → is_flag out ≡ false → fault_of program (first ∷ name_of salvaging ∷ file ∷ codes "--out" ∷ out ∷ []) ≡ []
@@ -333,7 +333,7 @@ pub takes_records : (first file : Text) → is_flag file ≡ false → fault_of 
 unfolding clap_on_literals
 takes_records first file e =
     let is = plain_word_is file e in
-    let level : level_fault (shape_by listing) [] nothing_held (file ∷ []) false [] ≡ [] = rw (is.0, is.1, is.2) refl in
+    let level : level_fault (shape_by listing) [] nothing_held (file ∷ []) false [] ≡ [] = rw (is.0, is.1, is.2) (refl {a = []}) in
     ap (λ (k : Kinds). or_else k []) level
 
 abbrev value_parser : ValueParser

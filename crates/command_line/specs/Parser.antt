@@ -1,9 +1,15 @@
 -- What clap is told of the command line.
-use Rattle.std.specs.Prelude.{ℕ, List, [], ◌∷◌, Some, codes, true}
-use Rattle.clap.specs.Words.{App, Rule, new_app, new_rule, with_rule, with_subcommand}
+use Rattle.std.specs.Prelude.{◌≡◌, ℕ, List, [], ◌∷◌, Some, codes, false, true}
+use Rattle.clap.specs.Words.{App, Rule, app_of, new_app, new_rule, with_rule, with_subcommand}
 use Rattle.clap.specs.Simple.{on_top}
+use Rattle.clap.specs.declared.builder.command.Command.TheViews.{out-Command as fields_of}
+use Rattle.clap.specs.declared.builder.command.Command.{Command}
 use Rattle.clap.specs.declared.builder.action.ArgAction.TheVariants.{Append, SetTrue}
 use Rattle.clap.specs.declared.builder.value_parser.ValueParser.TheVariants as parser
+
+-- clap is told this of a command, and none of its arguments is one for its subcommands, too
+abbrev pub IsTold : App → Command → Type 0
+IsTold app command = (app_of command ≡ app) × ((fields_of command).has_globals ≡ false)
 
 -- by what clap knows the one thing that a command reads
 abbrev pub input : List ℕ

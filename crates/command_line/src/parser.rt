@@ -1,8 +1,8 @@
 //! What `clap` is told of the command line.
 
-ghost use Rattle.std.specs.Prelude.{◌≡◌, IfOk, Some, false};
-ghost use Rattle.clap.specs.Words.{app_of, new_rule, rule_of, with_subcommand};
-ghost use Rattle.command_line.specs.Parser.{check, draw, flag_rule, flagged, folder_rule, input_rule, judging, migrate, other_rule, path_rule, program, reader, reading, records, top, wire, writer, writing, wiring, salvaging, join, logs_rule};
+ghost use Rattle.std.specs.Prelude.{◌≡◌, IfOk, Some, codes, false, true};
+ghost use Rattle.clap.specs.Words.{App, new_app, new_rule, rule_of, with_rule, with_subcommand};
+ghost use Rattle.command_line.specs.Parser.{IsTold, check, draw, flag_rule, flagged, folder_rule, frame, graph, join, judging, logs_rule, migrate, most, number_rule, path_rule, program, reader, reading, records, top, wire, workers_rule, writer};
 
 use crate::help;
 use clap::builder::ValueParser;
@@ -47,12 +47,13 @@ struct Reader<'a> {
     help: &'a str,
 }
 
-/// The one thing that a command reads, which has to be given.
-fn input<'a>(alloc: Global, thing: &'a str, help: &'a str) -> Arg<'a>
-    ensures rule { rule_of result ≡ input_rule }
+/// A thing that a command reads, which has to be given.
+fn input<'a>(alloc: Global, name: &'a str, thing: &'a str, help: &'a str) -> Arg<'a>
+    ensures rule { rule_of result
+        ≡ record (new_rule name.entry.now) { value_names = 1; required = true } }
     ensures local { result.global ≡ false }
 {
-    Arg::new(alloc, INPUT)
+    Arg::new(alloc, name)
         .value_name(thing)
         .required(true)
         .help(help)
@@ -78,6 +79,23 @@ fn number_option<'a>(
         .help(help)
 }
 
+/// An option whose value is a number of 64 bits.
+fn word_option<'a>(alloc: Global, name: &'a str, thing: &'a str, help: &'a str) -> Arg<'a>
+    ensures rule { rule_of result ≡ number_rule name.entry.now 0 most }
+    ensures local { result.global ≡ false }
+{
+    number_option(alloc, name, thing, clap::value_parser!(u64), help)
+}
+
+/// The option `--workers N`, a number from 1 to 64, which is 1 where it isn't given.
+fn workers_option<'a>(alloc: Global) -> Arg<'a>
+    ensures rule { rule_of result ≡ workers_rule }
+    ensures local { result.global ≡ false }
+{
+    let workers = clap::value_parser!(u64).range(1..=64);
+    number_option(alloc, WORKERS, "N", workers, help::WORKERS).default_value("1")
+}
+
 /// An option that has no value.
 fn flag<'a>(alloc: Global, name: &'a str, help: &'a str) -> Arg<'a>
     ensures rule { rule_of result ≡ flag_rule name.entry.now }
@@ -89,16 +107,16 @@ fn flag<'a>(alloc: Global, name: &'a str, help: &'a str) -> Arg<'a>
         .help(help)
 }
 
-/// The option `--out FILE`, which has to be given.
-fn out<'a>(alloc: Global) -> Arg<'a>
+/// The option `--out THING`, which has to be given.
+fn out<'a>(alloc: Global, thing: &'a str, help: &'a str) -> Arg<'a>
     ensures rule { rule_of result ≡ path_rule }
     ensures local { result.global ≡ false }
 {
     Arg::new(alloc, OUT)
         .long("out")
-        .value_name("FILE")
+        .value_name(thing)
         .required(true)
-        .help(help::OUT)
+        .help(help)
 }
 
 /// The logs that `join` reads, of which one at least has to be given.
@@ -113,29 +131,6 @@ fn logs<'a>(alloc: Global) -> Arg<'a>
         .help(help::LOGS)
 }
 
-/// The option `--out FOLDER`, which has to be given.
-fn joined<'a>(alloc: Global) -> Arg<'a>
-    ensures rule { rule_of result ≡ path_rule }
-    ensures local { result.global ≡ false }
-{
-    Arg::new(alloc, OUT)
-        .long("out")
-        .value_name("FOLDER")
-        .required(true)
-        .help(help::JOIN_FOLDER)
-}
-
-/// The second file that `wire` reads, which has to be given.
-fn other<'a>(alloc: Global) -> Arg<'a>
-    ensures rule { rule_of result ≡ other_rule }
-    ensures local { result.global ≡ false }
-{
-    Arg::new(alloc, OTHER)
-        .value_name("B")
-        .required(true)
-        .help(help::WIRE_B)
-}
-
 /// The option `--out FOLDER`, which may be left out.
 fn folder<'a>(alloc: Global) -> Arg<'a>
     ensures rule { rule_of result ≡ folder_rule }
@@ -147,174 +142,128 @@ fn folder<'a>(alloc: Global) -> Arg<'a>
         .help(help::FOLDER)
 }
 
-/// The program with a command that reads one thing.
+/// A command without arguments.
+fn described<'a>(
+    alloc: Global,
+    name: &'a str,
+    about: &'a str,
+    long_about: &'a str,
+    after_help: &'a str,
+) -> Command<'a>
+    ensures { IsTold (new_app name.entry.now) result }
+{
+    Command::new(alloc, name)
+        .about(about)
+        .long_about(long_about)
+        .after_help(after_help)
+}
+
+/// A command with one more argument, where there was memory for it so far.
 ///
 /// # Errors
 ///
 /// Out of memory.
-fn with_reader<'a>(
-    alloc: Global,
-    program: Command<'a>,
-    said: Reader<'a>,
+fn with_argument<'a>(
+    command: Result<Command<'a>, AllocError>,
+    argument: Arg<'a>,
 ) -> Result<Command<'a>, AllocError>
-    ensures { IfOk result
-        (λ c. app_of c ≡ with_subcommand (app_of program.entry) (reader said.entry.name.now).top) }
+    requires { argument.global ≡ false }
+    ensures { (app : App) → IfOk command.entry (IsTold app)
+        → IfOk result (IsTold (with_rule app (rule_of argument.entry))) }
 {
-    let command = Command::new(alloc, said.name)
-        .about(said.about)
-        .long_about(said.long_about)
-        .after_help(said.after_help)
-        .arg(input(alloc, said.thing, said.help))?;
-    program.subcommand(command)
+    command?.arg(argument)
 }
 
-/// The program with its command `check CASE`, which has the option `--workers N`.
+/// A command with one more subcommand, where there was memory for both so far.
 ///
 /// # Errors
 ///
 /// Out of memory.
-fn with_check<'a>(alloc: Global, program: Command<'a>) -> Result<Command<'a>, AllocError>
-    ensures { IfOk result (λ c. app_of c ≡ with_subcommand (app_of program.entry) check.top) }
-{
-    let workers = clap::value_parser!(u64).range(1..=64);
-    let workers = number_option(alloc, WORKERS, "N", workers, help::WORKERS).default_value("1");
-    let check = Command::new(alloc, "check")
-        .about(help::CHECK)
-        .long_about(help::CHECK_LONG)
-        .after_help(help::CHECK_END)
-        .arg(input(alloc, "CASE", help::CASE))?
-        .arg(workers)?;
-    program.subcommand(check)
-}
-
-/// The program with a command that reads one thing and writes a file, which is given as `--out FILE`.
-///
-/// # Errors
-///
-/// Out of memory.
-fn with_writer<'a>(
-    alloc: Global,
-    program: Command<'a>,
-    said: Reader<'a>,
+fn with_command<'a>(
+    program: Result<Command<'a>, AllocError>,
+    command: Result<Command<'a>, AllocError>,
 ) -> Result<Command<'a>, AllocError>
-    ensures { IfOk result
-        (λ c. app_of c ≡ with_subcommand (app_of program.entry) (writer said.entry.name.now).top) }
+    ensures { (all one : App) → IfOk program.entry (IsTold all) → IfOk command.entry (IsTold one)
+        → IfOk result (IsTold (with_subcommand all one.top)) }
 {
-    let command = Command::new(alloc, said.name)
-        .about(said.about)
-        .long_about(said.long_about)
-        .after_help(said.after_help)
-        .arg(input(alloc, said.thing, said.help))?
-        .arg(out(alloc))?;
-    program.subcommand(command)
+    let program = program?;
+    program.subcommand(command?)
 }
 
-/// The program with a command that reads one thing and has this option without a value.
+/// A command that reads one thing.
 ///
 /// # Errors
 ///
 /// Out of memory.
-fn with_flagged<'a>(
+fn reader_command<'a>(alloc: Global, said: Reader<'a>) -> Result<Command<'a>, AllocError>
+    ensures { IfOk result (IsTold (reader said.entry.name.now)) }
+{
+    let thing = input(alloc, INPUT, said.thing, said.help);
+    let command = described(
+        alloc,
+        said.name,
+        said.about,
+        said.long_about,
+        said.after_help,
+    );
+    command.arg(thing)
+}
+
+/// A command that reads one thing and writes a file, which is given as `--out FILE`.
+///
+/// # Errors
+///
+/// Out of memory.
+fn writer_command<'a>(alloc: Global, said: Reader<'a>) -> Result<Command<'a>, AllocError>
+    ensures { IfOk result (IsTold (writer said.entry.name.now)) }
+{
+    with_argument(reader_command(alloc, said), out(alloc, "FILE", help::OUT))
+}
+
+/// A command that reads one thing and has this option without a value.
+///
+/// # Errors
+///
+/// Out of memory.
+fn flagged_command<'a>(
     alloc: Global,
-    program: Command<'a>,
     said: Reader<'a>,
     name: &'a str,
     flag_help: &'a str,
 ) -> Result<Command<'a>, AllocError>
-    ensures { IfOk result
-        (λ c. app_of c
-        ≡ with_subcommand (app_of program.entry) (flagged said.entry.name.now name.entry.now).top) }
+    ensures { IfOk result (IsTold (flagged said.entry.name.now name.entry.now)) }
 {
-    let command = Command::new(alloc, said.name)
-        .about(said.about)
-        .long_about(said.long_about)
-        .after_help(said.after_help)
-        .arg(input(alloc, said.thing, said.help))?
-        .arg(flag(alloc, name, flag_help))?;
-    program.subcommand(command)
+    with_argument(reader_command(alloc, said), flag(alloc, name, flag_help))
 }
 
-/// The program with its command `records FILE`, which has the options `--from I` and `--count N`.
+/// The command `check CASE`, which has the option `--workers N`.
 ///
 /// # Errors
 ///
 /// Out of memory.
-fn with_records<'a>(alloc: Global, program: Command<'a>) -> Result<Command<'a>, AllocError>
-    ensures { IfOk result (λ c. app_of c ≡ with_subcommand (app_of program.entry) records.top) }
+fn check_command<'a>(alloc: Global) -> Result<Command<'a>, AllocError>
+    ensures { IfOk result (IsTold check) }
 {
-    let from = number_option(alloc, FROM, "I", clap::value_parser!(u64), help::FROM);
-    let count = number_option(alloc, COUNT, "N", clap::value_parser!(u64), help::COUNT);
-    let records = Command::new(alloc, "records")
-        .about(help::RECORDS)
-        .long_about(help::RECORDS_LONG)
-        .after_help(help::RECORDS_END)
-        .arg(input(alloc, "FILE", help::FILE))?
-        .arg(from)?
-        .arg(count)?;
-    program.subcommand(records)
-}
-
-/// The program with its command `draw CASE --out FILE`, which has the options `--from STEP`, `--count N` and `--html`.
-///
-/// # Errors
-///
-/// Out of memory.
-fn with_drawing<'a>(alloc: Global, program: Command<'a>) -> Result<Command<'a>, AllocError>
-    ensures { IfOk result (λ c. app_of c ≡ with_subcommand (app_of program.entry) draw.top) }
-{
-    let from = number_option(
-        alloc,
-        FROM,
-        "STEP",
-        clap::value_parser!(u64),
-        help::FROM_STEP,
-    );
-    let count = number_option(
-        alloc,
-        COUNT,
-        "N",
-        clap::value_parser!(u64),
-        help::COUNT_STEPS,
-    );
-    let draw = Command::new(alloc, "draw")
-        .about(help::DRAW)
-        .long_about(help::DRAW_LONG)
-        .after_help(help::DRAW_END)
-        .arg(input(alloc, "CASE", help::CASE))?
-        .arg(out(alloc))?
-        .arg(from)?
-        .arg(count)?
-        .arg(flag(alloc, HTML, help::HTML))?;
-    program.subcommand(draw)
-}
-
-/// The program with its commands that read a case: `check CASE`, `order CASE --out FILE`, `graph CASE`, `run CASE` and
-/// `draw CASE --out FILE`.
-///
-/// # Errors
-///
-/// Out of memory.
-fn with_cases<'a>(alloc: Global, program: Command<'a>) -> Result<Command<'a>, AllocError>
-    requires { app_of program ≡ top }
-    ensures { IfOk result (λ c. app_of c ≡ judging) }
-{
-    let graph = Reader {
-        name: "graph",
-        about: help::GRAPH,
-        long_about: help::GRAPH_LONG,
-        after_help: help::GRAPH_END,
+    let said = Reader {
+        name: "check",
+        about: help::CHECK,
+        long_about: help::CHECK_LONG,
+        after_help: help::CHECK_END,
         thing: "CASE",
         help: help::CASE,
     };
-    let run = Reader {
-        name: "run",
-        about: help::RUN,
-        long_about: help::RUN_LONG,
-        after_help: help::RUN_END,
-        thing: "CASE",
-        help: help::CASE,
-    };
-    let order = Reader {
+    with_argument(reader_command(alloc, said), workers_option(alloc))
+}
+
+/// The command `order CASE --out FILE`.
+///
+/// # Errors
+///
+/// Out of memory.
+fn order_command<'a>(alloc: Global) -> Result<Command<'a>, AllocError>
+    ensures { IfOk result (IsTold (writer (codes "order"))) }
+{
+    let said = Reader {
         name: "order",
         about: help::ORDER,
         long_about: help::ORDER_LONG,
@@ -322,22 +271,79 @@ fn with_cases<'a>(alloc: Global, program: Command<'a>) -> Result<Command<'a>, Al
         thing: "CASE",
         help: help::CASE,
     };
-    let judging = with_writer(alloc, with_check(alloc, program)?, order)?;
-    let graphed = with_flagged(alloc, judging, graph, DOT, help::DOT_GRAPH)?;
-    let stepped = with_reader(alloc, graphed, run)?;
-    with_drawing(alloc, stepped)
+    writer_command(alloc, said)
 }
 
-/// The program with its commands that read a log or frames: `vat FILE`, `records FILE`, `frame HEX` and `frames FILE`.
+/// The command `graph CASE`, which has the option `--dot`.
 ///
 /// # Errors
 ///
 /// Out of memory.
-fn with_files<'a>(alloc: Global, cases: Command<'a>) -> Result<Command<'a>, AllocError>
-    requires { app_of cases ≡ judging }
-    ensures { IfOk result (λ c. app_of c ≡ reading) }
+fn graph_command<'a>(alloc: Global) -> Result<Command<'a>, AllocError>
+    ensures { IfOk result (IsTold graph) }
 {
-    let vat = Reader {
+    let said = Reader {
+        name: "graph",
+        about: help::GRAPH,
+        long_about: help::GRAPH_LONG,
+        after_help: help::GRAPH_END,
+        thing: "CASE",
+        help: help::CASE,
+    };
+    flagged_command(alloc, said, DOT, help::DOT_GRAPH)
+}
+
+/// The command `run CASE`.
+///
+/// # Errors
+///
+/// Out of memory.
+fn run_command<'a>(alloc: Global) -> Result<Command<'a>, AllocError>
+    ensures { IfOk result (IsTold (reader (codes "run"))) }
+{
+    let said = Reader {
+        name: "run",
+        about: help::RUN,
+        long_about: help::RUN_LONG,
+        after_help: help::RUN_END,
+        thing: "CASE",
+        help: help::CASE,
+    };
+    reader_command(alloc, said)
+}
+
+/// The command `draw CASE --out FILE`, which has the options `--from STEP`, `--count N` and `--html`.
+///
+/// # Errors
+///
+/// Out of memory.
+fn draw_command<'a>(alloc: Global) -> Result<Command<'a>, AllocError>
+    ensures { IfOk result (IsTold draw) }
+{
+    let said = Reader {
+        name: "draw",
+        about: help::DRAW,
+        long_about: help::DRAW_LONG,
+        after_help: help::DRAW_END,
+        thing: "CASE",
+        help: help::CASE,
+    };
+    let from = word_option(alloc, FROM, "STEP", help::FROM_STEP);
+    let count = word_option(alloc, COUNT, "N", help::COUNT_STEPS);
+    let begun = with_argument(writer_command(alloc, said), from);
+    let ended = with_argument(begun, count);
+    with_argument(ended, flag(alloc, HTML, help::HTML))
+}
+
+/// The command `vat FILE`.
+///
+/// # Errors
+///
+/// Out of memory.
+fn vat_command<'a>(alloc: Global) -> Result<Command<'a>, AllocError>
+    ensures { IfOk result (IsTold (reader (codes "vat"))) }
+{
+    let said = Reader {
         name: "vat",
         about: help::VAT,
         long_about: help::VAT_LONG,
@@ -345,7 +351,40 @@ fn with_files<'a>(alloc: Global, cases: Command<'a>) -> Result<Command<'a>, Allo
         thing: "FILE",
         help: help::FILE,
     };
-    let frame = Reader {
+    reader_command(alloc, said)
+}
+
+/// The command `records FILE`, which has the options `--from I` and `--count N`.
+///
+/// # Errors
+///
+/// Out of memory.
+fn records_command<'a>(alloc: Global) -> Result<Command<'a>, AllocError>
+    ensures { IfOk result (IsTold records) }
+{
+    let said = Reader {
+        name: "records",
+        about: help::RECORDS,
+        long_about: help::RECORDS_LONG,
+        after_help: help::RECORDS_END,
+        thing: "FILE",
+        help: help::FILE,
+    };
+    let from = word_option(alloc, FROM, "I", help::FROM);
+    let count = word_option(alloc, COUNT, "N", help::COUNT);
+    let begun = with_argument(reader_command(alloc, said), from);
+    with_argument(begun, count)
+}
+
+/// The command `frame HEX`, which has the option `--later`.
+///
+/// # Errors
+///
+/// Out of memory.
+fn frame_command<'a>(alloc: Global) -> Result<Command<'a>, AllocError>
+    ensures { IfOk result (IsTold frame) }
+{
+    let said = Reader {
         name: "frame",
         about: help::FRAME,
         long_about: help::FRAME_LONG,
@@ -353,7 +392,18 @@ fn with_files<'a>(alloc: Global, cases: Command<'a>) -> Result<Command<'a>, Allo
         thing: "HEX",
         help: help::HEX,
     };
-    let frames = Reader {
+    flagged_command(alloc, said, LATER, help::LATER_FRAME)
+}
+
+/// The command `frames FILE`.
+///
+/// # Errors
+///
+/// Out of memory.
+fn frames_command<'a>(alloc: Global) -> Result<Command<'a>, AllocError>
+    ensures { IfOk result (IsTold (reader (codes "frames"))) }
+{
+    let said = Reader {
         name: "frames",
         about: help::FRAMES,
         long_about: help::FRAMES_LONG,
@@ -361,40 +411,38 @@ fn with_files<'a>(alloc: Global, cases: Command<'a>) -> Result<Command<'a>, Allo
         thing: "FILE",
         help: help::FRAMES_FILE,
     };
-    let logs = with_records(alloc, with_reader(alloc, cases, vat)?)?;
-    let framed = with_flagged(alloc, logs, frame, LATER, help::LATER_FRAME)?;
-    with_reader(alloc, framed, frames)
+    reader_command(alloc, said)
 }
 
-/// The program with its command that writes a log in another version: `migrate FILE --out FILE`, which has the option `--later`.
+/// The command `migrate FILE --out FILE`, which has the option `--later`.
 ///
 /// # Errors
 ///
 /// Out of memory.
-fn with_migration<'a>(alloc: Global, readers: Command<'a>) -> Result<Command<'a>, AllocError>
-    requires { app_of readers ≡ reading }
-    ensures { IfOk result (λ c. app_of c ≡ writing) }
+fn migrate_command<'a>(alloc: Global) -> Result<Command<'a>, AllocError>
+    ensures { IfOk result (IsTold migrate) }
 {
-    let migrate = Command::new(alloc, "migrate")
-        .about(help::MIGRATE)
-        .long_about(help::MIGRATE_LONG)
-        .after_help(help::MIGRATE_END)
-        .arg(input(alloc, "FILE", help::FILE))?
-        .arg(flag(alloc, LATER, help::LATER_LOG))?
-        .arg(out(alloc))?;
-    readers.subcommand(migrate)
+    let said = Reader {
+        name: "migrate",
+        about: help::MIGRATE,
+        long_about: help::MIGRATE_LONG,
+        after_help: help::MIGRATE_END,
+        thing: "FILE",
+        help: help::FILE,
+    };
+    let flagged = flagged_command(alloc, said, LATER, help::LATER_LOG);
+    with_argument(flagged, out(alloc, "FILE", help::OUT))
 }
 
-/// The program with its command that writes what is whole of a log: `salvage FILE --out FILE`.
+/// The command `salvage FILE --out FILE`.
 ///
 /// # Errors
 ///
 /// Out of memory.
-fn with_salvage<'a>(alloc: Global, others: Command<'a>) -> Result<Command<'a>, AllocError>
-    requires { app_of others ≡ writing }
-    ensures { IfOk result (λ c. app_of c ≡ salvaging) }
+fn salvage_command<'a>(alloc: Global) -> Result<Command<'a>, AllocError>
+    ensures { IfOk result (IsTold (writer (codes "salvage"))) }
 {
-    let salvage = Reader {
+    let said = Reader {
         name: "salvage",
         about: help::SALVAGE,
         long_about: help::SALVAGE_LONG,
@@ -402,60 +450,96 @@ fn with_salvage<'a>(alloc: Global, others: Command<'a>) -> Result<Command<'a>, A
         thing: "FILE",
         help: help::FILE,
     };
-    with_writer(alloc, others, salvage)
+    writer_command(alloc, said)
 }
 
-/// The program with its command that reads the bytes of a connection: `wire A B`, which has the option `--out FOLDER`.
+/// The command `wire A B`, which has the option `--out FOLDER`.
 ///
 /// # Errors
 ///
 /// Out of memory.
-fn with_wire<'a>(alloc: Global, others: Command<'a>) -> Result<Command<'a>, AllocError>
-    requires { app_of others ≡ salvaging }
-    ensures { IfOk result (λ c. app_of c ≡ wiring) }
+fn wire_command<'a>(alloc: Global) -> Result<Command<'a>, AllocError>
+    ensures { IfOk result (IsTold wire) }
 {
-    let wire = Command::new(alloc, "wire")
-        .about(help::WIRE)
-        .long_about(help::WIRE_LONG)
-        .after_help(help::WIRE_END)
-        .arg(input(alloc, "A", help::WIRE_A))?
-        .arg(other(alloc))?
-        .arg(folder(alloc))?;
-    others.subcommand(wire)
+    let said = Reader {
+        name: "wire",
+        about: help::WIRE,
+        long_about: help::WIRE_LONG,
+        after_help: help::WIRE_END,
+        thing: "A",
+        help: help::WIRE_A,
+    };
+    let both = with_argument(
+        reader_command(alloc, said),
+        input(alloc, OTHER, "B", help::WIRE_B),
+    );
+    with_argument(both, folder(alloc))
 }
 
-/// The program with its command that joins logs: `join LOG .. --out FOLDER`.
+/// The command `join LOG .. --out FOLDER`.
 ///
 /// # Errors
 ///
 /// Out of memory.
-fn with_join<'a>(alloc: Global, others: Command<'a>) -> Result<Command<'a>, AllocError>
-    requires { app_of others ≡ wiring }
-    ensures { IfOk result (λ c. app_of c ≡ program) }
+fn join_command<'a>(alloc: Global) -> Result<Command<'a>, AllocError>
+    ensures { IfOk result (IsTold join) }
 {
-    let join = Command::new(alloc, "join")
-        .about(help::JOIN)
-        .long_about(help::JOIN_LONG)
-        .after_help(help::JOIN_END)
-        .arg(logs(alloc))?
-        .arg(joined(alloc))?;
-    others.subcommand(join)
+    let join = described(alloc, "join", help::JOIN, help::JOIN_LONG, help::JOIN_END);
+    let listed = with_argument(Ok(join), logs(alloc));
+    with_argument(listed, out(alloc, "FOLDER", help::JOIN_FOLDER))
 }
 
-/// The program's command line, with its help.
+/// The program without its commands.
+fn bare<'a>(alloc: Global) -> Command<'a>
+    ensures { IsTold top result }
+{
+    Command::new(alloc, "vataudit")
+        .about(help::PROGRAM)
+        .after_help(help::PROGRAM_END)
+        .subcommand_required(true)
+        .arg_required_else_help(true)
+}
+
+/// The program with its commands that read a case: `check`, `order`, `graph`, `run` and `draw`.
+///
+/// # Errors
+///
+/// Out of memory.
+fn with_cases<'a>(alloc: Global) -> Result<Command<'a>, AllocError>
+    ensures { IfOk result (IsTold judging) }
+{
+    let checking = with_command(Ok(bare(alloc)), check_command(alloc));
+    let ordering = with_command(checking, order_command(alloc));
+    let graphing = with_command(ordering, graph_command(alloc));
+    let stepping = with_command(graphing, run_command(alloc));
+    with_command(stepping, draw_command(alloc))
+}
+
+/// The program with those, and with its commands that read a log or frames: `vat`, `records`, `frame` and `frames`.
+///
+/// # Errors
+///
+/// Out of memory.
+fn with_files<'a>(alloc: Global) -> Result<Command<'a>, AllocError>
+    ensures { IfOk result (IsTold reading) }
+{
+    let auditing = with_command(with_cases(alloc), vat_command(alloc));
+    let listing = with_command(auditing, records_command(alloc));
+    let framing = with_command(listing, frame_command(alloc));
+    with_command(framing, frames_command(alloc))
+}
+
+/// The program's command line, with its help: those commands and the ones that write a log or read several inputs, `migrate`,
+/// `salvage`, `wire` and `join`.
 ///
 /// # Errors
 ///
 /// Out of memory.
 pub(crate) fn command_line<'a>(alloc: Global) -> Result<Command<'a>, AllocError>
-    ensures { IfOk result (λ c. app_of c ≡ program) }
+    ensures { IfOk result (IsTold program) }
 {
-    let top = Command::new(alloc, "vataudit")
-        .about(help::PROGRAM)
-        .after_help(help::PROGRAM_END)
-        .subcommand_required(true)
-        .arg_required_else_help(true);
-    let readers = with_files(alloc, with_cases(alloc, top)?)?;
-    let salvaging = with_salvage(alloc, with_migration(alloc, readers)?)?;
-    with_join(alloc, with_wire(alloc, salvaging)?)
+    let migrated = with_command(with_files(alloc), migrate_command(alloc));
+    let salvaged = with_command(migrated, salvage_command(alloc));
+    let wired = with_command(salvaged, wire_command(alloc));
+    with_command(wired, join_command(alloc))
 }

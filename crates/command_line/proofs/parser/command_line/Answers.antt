@@ -1,11 +1,10 @@
-use Rattle.std.proofs.Common.{◌∙◌, ap, true}
-use Rattle.clap.specs.Simple.{app_of_fields, on_top}
+use Rattle.std.proofs.Common.{codes}
+use Rattle.command_line.specs.Parser.{join, migrate, reading, salvaging, wire, wiring, writer, writing}
 use Rattle.command_line.proofs.parser.command_line.Goals as goal
 
-pub with_cases-requires : goal.with_cases-requires
-with_cases-requires c =
-    ap app_of_fields c.arg_required_else_help-top.ensures
-    ∙ ap (λ f. on_top (λ s. record s { arg_required_else_help = true }) (app_of_fields f)) c.subcommand_required.ensures
-    ∙ ap (λ f. on_top (λ s. record s { subcommand_required = true; arg_required_else_help = true }) (app_of_fields f)) c.after_help.ensures
-    ∙ ap (λ f. on_top (λ s. record s { subcommand_required = true; arg_required_else_help = true }) (app_of_fields f)) c.about.ensures
-    ∙ ap (on_top (λ s. record s { subcommand_required = true; arg_required_else_help = true })) c.new.ensures.app
+pub returns : goal.returns
+returns c =
+    let migrated = c.with_command-migrated.ensures reading migrate c.with_files.ensures c.migrate_command.ensures in
+    let salvaged = c.with_command-salvaged.ensures writing (writer (codes "salvage")) migrated c.salvage_command.ensures in
+    let wired = c.with_command-wired.ensures salvaging wire salvaged c.wire_command.ensures in
+    c.with_command.ensures wiring join wired c.join_command.ensures

@@ -9,9 +9,11 @@ use cap_frame::Frame;
 use cap_reader::Limits;
 use rpc_view::{Edition, read_bytes};
 use std::alloc::{AllocError, Global};
+use std::fmt;
+use std::fmt::{Display, Formatter, Write};
 
 /// What a file of frames has.
-#[derive(Debug, Drop)]
+#[derive(Clone, Copy)]
 pub struct Frames {
     /// The frames, cut off one after another.
     pub count: u64,
@@ -21,6 +23,21 @@ pub struct Frames {
     pub bytes: usize,
     /// The bytes that are left, of which no frame can be cut off.
     pub left: usize,
+}
+
+impl Display for Frames {
+    fn fmt<W: Write>(&self, f: &mut Formatter<W>) -> fmt::Result {
+        write!(
+            f,
+            "frames {} refused {} bytes {} left {}",
+            self.count, self.refused, self.bytes, self.left
+        )
+    }
+}
+
+/// Whether a frame isn't read as a message, by a fault or because memory ran out.
+fn is_refused(alloc: Global, frame: Bytes) -> bool {
+    read_bytes(alloc, frame, Limits::default(), Edition::First).is_err()
 }
 
 /// Cuts off frame after frame, and reads the message of each by the first edition of rpc.capnp, within the default limits.
@@ -45,7 +62,7 @@ pub fn read_frames(alloc: Global, bytes: Bytes) -> Result<Frames, AllocError>
     let mut refused: u64 = 0;
     while let Ok(len) = Frame::first_len(rest.as_slice()) {
         let frame = rest.split_to(len)?;
-        if read_bytes(alloc, frame, Limits::default(), Edition::First).is_err() {
+        if is_refused(alloc, frame) {
             refused += 1;
         }
         count += 1;

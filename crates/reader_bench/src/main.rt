@@ -11,13 +11,11 @@
 #![tactic(auto)]
 
 mod frame_file;
-#[cfg(test)]
-mod frame_files;
 mod reading_times;
 mod word_sum;
 
 use bytes::Bytes;
-use frame_file::read_frames;
+use frame_file::{Frames, read_frames};
 use reading_times::ReadingTimes;
 use std::alloc::Global;
 use std::rt::Files;
@@ -31,29 +29,45 @@ fn read_file<R: Files + AllocGlobal>(rt: &R, name: &str) -> io::Result<Bytes> {
     Ok(Bytes::from_vec(bytes)?)
 }
 
-/// Sums the words, reads the frames, and says how much processor time each took.
-fn measure(alloc: Global, clock: &impl CpuClock, bytes: Bytes) -> io::Result<ReadingTimes> {
+/// The sum of the words, and how many nanoseconds of processor time it takes.
+fn time_sum(clock: &impl CpuClock, bytes: &[u8]) -> io::Result<(u64, u128)> {
     let start = clock.thread_cpu_time()?;
-    let sum = word_sum(bytes.as_slice());
-    let between = clock.thread_cpu_time()?;
+    let sum = word_sum(bytes);
+    let end = clock.thread_cpu_time()?;
+    Ok((sum, end.saturating_sub(start).as_nanos()))
+}
+
+/// The frames, and how many nanoseconds of processor time reading them takes.
+fn time_reading(alloc: Global, clock: &impl CpuClock, bytes: Bytes) -> io::Result<(Frames, u128)> {
+    let start = clock.thread_cpu_time()?;
     let frames = read_frames(alloc, bytes)?;
     let end = clock.thread_cpu_time()?;
+    Ok((frames, end.saturating_sub(start).as_nanos()))
+}
+
+/// Sums the words, reads the frames, and says how much processor time each took.
+fn measure(alloc: Global, clock: &impl CpuClock, bytes: Bytes) -> io::Result<ReadingTimes> {
+    let (sum, summing) = time_sum(clock, bytes.as_slice())?;
+    let (frames, reading) = time_reading(alloc, clock, bytes)?;
     Ok(ReadingTimes {
         frames,
         sum,
-        reading: end.saturating_sub(between).as_nanos(),
-        summing: between.saturating_sub(start).as_nanos(),
+        reading,
+        summing,
     })
+}
+
+/// Measures a file, and prints what it took.
+fn report<R: Files + CpuClock + Print + AllocGlobal>(rt: &R, name: &str) -> io::Result<()> {
+    let bytes = read_file(rt, name)?;
+    let times = measure(rt.alloc(), rt, bytes)?;
+    println!(rt; "{times}")
 }
 
 fn main(rt: HostRuntime) -> io::Result<()> {
     let words: Vec<String> = env::args(&rt)?.collect(rt.alloc())?;
-    let Some(name) = words.get(1) else {
-        println!(rt; "usage: reader_bench FILE")?;
-        return Ok(());
-    };
-    let bytes = read_file(&rt, name.as_str())?;
-    let report = measure(rt.alloc(), &rt, bytes)?;
-    println!(rt; "{report}")?;
-    Ok(())
+    match words.get(1) {
+        Some(name) => report(&rt, name.as_str()),
+        None => println!(rt; "usage: reader_bench FILE"),
+    }
 }

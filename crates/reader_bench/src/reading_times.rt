@@ -5,7 +5,7 @@ use std::fmt;
 use std::fmt::{Display, Formatter, Write};
 
 /// What was read and summed, and how much processor time each took.
-#[derive(Debug, Drop)]
+#[derive(Clone, Copy)]
 pub struct ReadingTimes {
     /// What the file has.
     pub frames: Frames,
@@ -37,11 +37,8 @@ impl Display for ReadingTimes {
         let count = u128::from(self.frames.count);
         write!(
             f,
-            "frames {} refused {} bytes {} left {} sum {:016x} frame {} ns words {} ns times {}",
-            self.frames.count,
-            self.frames.refused,
-            self.frames.bytes,
-            self.frames.left,
+            "{} sum {:016x} frame {} ns words {} ns times {}",
+            self.frames,
             self.sum,
             ratio(self.reading, count),
             ratio(self.summing, count),

@@ -80,7 +80,8 @@ fn take_steps<L: Lane, T: Turns>(
     Ok(count)
 }
 
-/// How many steps of an order are taken before the lanes are read ahead again. No lane that had enough ahead is used up by them.
+/// How many steps of an order are taken before the lanes are read ahead again. A lane of which so many are ahead isn't used up by
+/// them.
 const STEPS: usize = 2048;
 
 /// Takes records by an order, up to its first step that may not come; the lanes are read ahead from time to time. How many steps were
@@ -104,7 +105,7 @@ fn follow<R: Threads + Sync, L: Lane + Send, T: Turns>(
         if rest.is_empty() {
             return Ok(count);
         }
-        fill_round(rt, alloc, lanes, workers);
+        fill_round(rt, alloc, lanes, STEPS, workers);
         if are_refused(lanes) {
             return Err(AllocError);
         }
@@ -140,7 +141,7 @@ pub fn take_by_order<R: Threads + Sync, L: Lane + Send, T: Turns>(
         × AreTakenBy (map L.so_far lanes.new) more order.now finding) }
 {
     let count = follow(rt, alloc, lanes, turns, order, workers)?;
-    fill_round(rt, alloc, lanes, workers);
+    fill_round(rt, alloc, lanes, 1, workers);
     if are_refused(lanes) {
         return Err(AllocError);
     }

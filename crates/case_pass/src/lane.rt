@@ -1,6 +1,6 @@
 //! What is read side by side, and what keeps the turns.
 
-ghost use Rattle.std.specs.Prelude.{◌≡◌, ◌<◌, Some, None, drop, IfSome, OnOk, OnErr, option_map, is_none, slice_get, true, false};
+ghost use Rattle.std.specs.Prelude.{◌≡◌, Some, None, drop, IfSome, OnOk, OnErr, option_map, is_none, slice_get, true, false};
 ghost use Rattle.std.specs.Option.{option_copied};
 ghost use Rattle.case_pass.specs.Lanes.{LaneSoFar, without_first, GoesOn, HasNext};
 ghost use Rattle.case_pass.specs.Turned.{with_turn, given_up, may_come};
@@ -32,9 +32,9 @@ pub trait Lane {
     fn is_refused(&self) -> bool
         ensures { result ≡ is_none (so_far self.now) };
 
-    /// Reads some records ahead, where fewer than so many are.
+    /// Reads some records ahead, where fewer than so many are, or none is. How many, is its own affair, but one at least if there
+    /// is one.
     fn fill(&mut self, alloc: Global, enough: usize)
-        requires { 0 < enough }
         ensures { (lane : LaneSoFar) → so_far self.old ≡ Some lane
             → IfSome (so_far self.new) (λ longer. GoesOn lane longer × HasNext longer) };
 }

@@ -11,15 +11,12 @@ use crate::rounds::take_rounds;
 use std::alloc::{AllocError, Global};
 use std::thread::{self, Threads};
 
-/// How many records ahead are enough, so that a lane isn't read further. With fewer the workers would be started so often that their
-/// starts took longer than what they save.
-const ENOUGH: usize = 4096;
-
-/// Reads ahead in the lanes that haven't enough records ahead, so many of them at once.
+/// Reads ahead in the lanes that have fewer than so many records ahead, in so many of them at once.
 pub(crate) fn fill_round<R: Threads + Sync, L: Lane + Send>(
     rt: &R,
     alloc: Global,
     lanes: &mut [L],
+    enough: usize,
     workers: usize,
 )
     requires { 0 < workers }
@@ -36,7 +33,7 @@ pub(crate) fn fill_round<R: Threads + Sync, L: Lane + Send>(
             ensures { (before : LaneSoFar) → L.so_far lane.entry.now ≡ Some before
                 → IfSome (L.so_far lane.exit.now) (λ longer. GoesOn before longer × HasNext longer) }
         {
-            lane.fill(alloc, ENOUGH);
+            lane.fill(alloc, enough);
         },
     );
 }
@@ -48,8 +45,8 @@ pub(crate) fn are_refused<L: Lane>(lanes: &[L]) -> bool
     lanes.iter().any(|lane| lane.is_refused())
 }
 
-/// Takes records of the lanes in turns, each as soon as it may come, until none may. More is read ahead only once none of those
-/// that are ahead may come: to start the workers costs more than some turns do.
+/// Takes records of the lanes in turns, each as soon as it may come, until none may. More is read only once none of those that are
+/// ahead may come, and of a log alone of which none is ahead: who writes the others may wait for it.
 ///
 /// # Errors
 ///
@@ -71,7 +68,7 @@ pub fn take_in_step<R: Threads + Sync, L: Lane + Send, T: Turns>(
         × AreHeldUp (map L.so_far lanes.new) more) }
 {
     for _ in 0..u64::MAX {
-        fill_round(rt, alloc, lanes, workers);
+        fill_round(rt, alloc, lanes, 1, workers);
         if are_refused(lanes) {
             return Err(AllocError);
         }

@@ -1,8 +1,8 @@
 -- A lane reads one record more, or sees that there is none.
-use Rattle.std.proofs.Common.{◌≡◌, ◌≢◌, ◌≤◌, ℕ, Bool, true, false, List, [], ◌∷◌, ◌++◌, length, Option, Some, None, Result, Ok, Err, refl, sym, ap, subst, ◌∙◌, arith, length-append, inl, inr}
-use Rattle.std.specs.Prelude.{is_some, is_err, drop, take, OnOk}
+use Rattle.std.proofs.Common.{◌≡◌, ◌≢◌, Bool, true, false, List, [], ◌∷◌, ◌++◌, Option, Some, None, refl, sym, ap, subst, ◌∙◌, inl, inr}
+use Rattle.std.specs.Prelude.{is_some, drop, take, IfSome}
 use Rattle.std.specs.Option.{option_map}
-use Rattle.std.proofs.lemmas.List.{append_assoc, append-nil, drop-append-le, take-append-drop}
+use Rattle.std.proofs.lemmas.List.{append_assoc, append-nil, take-append-drop}
 use Rattle.cap_reader.specs.Defaults.{default_limits}
 use Rattle.vat_log.specs.Log.{Log}
 use Rattle.vat_log.specs.Runs as runs
@@ -26,12 +26,6 @@ one_left is_spent read audit used ahead ending so = record {
   ended = so.ended;
 }
 
--- and so it is seen
-pub left_view : (refused : Bool) (read : StreamSoFar) (ahead rest : List Body) (ending : Option Ending) → rest ≡ drop 1 ahead
-    → option_map as_lane (lane_unless refused read rest ending) ≡ option_map without_first (option_map as_lane (lane_unless refused read ahead ending))
-left_view true read ahead rest ending is = refl
-left_view false read ahead rest ending is = ap (λ (l : List Body). let lane : ReadAhead = record { read = read; ahead = l; ending = ending } in Some (as_lane lane)) is
-
 -- a lane that reads on isn't spent
 not_spent : (is_spent : Bool) (ending : Option Ending) → is_some ending ≡ false → (is_spent ≡ true → is_some ending ≡ true) → is_spent ≡ false
 not_spent false ending none spent = refl
@@ -46,14 +40,25 @@ module _ (is_spent : Bool) (read now : StreamSoFar) (audit : Audited) (used ahea
   free = not_spent is_spent ending none so.spent
 
   -- one record more is read
-  pub some_read : (audit_now : Audited) (used_now ahead_now : List Body) (entry body other : Body) → now.log ≡ runs.with_record entry read.log → audit_now ≡ with_record body audit → used_now ≡ used ++ other ∷ []
-      → ahead_now ≡ ahead ++ entry ∷ [] → body ≡ entry → other ≡ entry → AreOfOne is_spent now audit_now used_now ahead_now ending
-  some_read audit_now used_now ahead_now entry body other given taken told put same same_too = record {
-    audited = λ free. taken ∙ ap (with_record body) (so.audited free) ∙ ap (λ (log : Log). let a : Audited = record { log = log; limits = default_limits } in a) (ap (λ (b : Body). runs.with_record b read.log) same ∙ sym given);
-    used_too = λ free. told ∙ ap (λ (l : List Body). l ++ other ∷ []) (so.used_too free) ∙ ap (λ (b : Body). read.log.records ++ b ∷ []) same_too ∙ ap (λ (log : Log). log.records) (sym given);
+  pub some_read : (audit_now : Audited) (used_now ahead_now : List Body) (entry : Body) → now.log ≡ runs.with_record entry read.log → audit_now ≡ with_record entry audit → used_now ≡ used ++ entry ∷ []
+      → ahead_now ≡ ahead ++ entry ∷ [] → AreOfOne is_spent now audit_now used_now ahead_now ending
+  some_read audit_now used_now ahead_now entry given taken told put = record {
+    audited = λ free. taken ∙ ap (with_record entry) (so.audited free) ∙ ap (λ (log : Log). let a : Audited = record { log = log; limits = default_limits } in a) (sym given);
+    used_too = λ free. told ∙ ap (λ (l : List Body). l ++ entry ∷ []) (so.used_too free) ∙ ap (λ (log : Log). log.records) (sym given);
     spent = so.spent;
     before = so.before;
     last = ap (λ (log : Log). log.records) given ∙ ap (λ (l : List Body). l ++ entry ∷ []) so.last ∙ append_assoc so.before ahead (entry ∷ []) ∙ ap (λ (l : List Body). so.before ++ l) (sym put);
+    ended = no_ending ending now none;
+  }
+
+  -- none is read, and more may come
+  pub nothing_read : now.log ≡ read.log → AreOfOne is_spent now audit used ahead ending
+  nothing_read same = record {
+    audited = λ free. so.audited free ∙ ap (λ (log : Log). let a : Audited = record { log = log; limits = default_limits } in a) (sym same);
+    used_too = λ free. so.used_too free ∙ ap (λ (log : Log). log.records) (sym same);
+    spent = so.spent;
+    before = so.before;
+    last = ap (λ (log : Log). log.records) same ∙ so.last;
     ended = no_ending ending now none;
   }
 
@@ -68,17 +73,25 @@ module _ (is_spent : Bool) (read now : StreamSoFar) (audit : Audited) (used ahea
     ended = ends;
   }
 
--- what was read behind so many records stands behind the rest of them, too
-pub put_behind : (taken : ℕ) (read now : List Body) (body : Body) → taken ≤ length read → now ≡ read ++ body ∷ [] → drop taken now ≡ drop taken read ++ body ∷ []
-put_behind taken read now body within put = ap (λ (l : List Body). drop taken l) put ∙ drop-append-le taken read (body ∷ []) within
-
-pub still_within : (taken : ℕ) (read now : List Body) (body : Body) → taken ≤ length read → now ≡ read ++ body ∷ [] → taken ≤ length now
-still_within taken read now body within put =
-    let long = ap length put ∙ length-append read (body ∷ []) in
-    let one : length (body ∷ []) ≡ 1 = refl in
-    omega (arith, within, long, one)
-
 -- ---- lanes go on
+
+pub goes_nowhere : (lane : LaneSoFar) → GoesOn lane lane
+goes_nowhere lane = record {
+  vat = refl;
+  more = [];
+  records = sym (append-nil lane.log.records);
+  ahead = sym (append-nil lane.ahead);
+  over = λ ended. (refl, ended);
+}
+
+-- a record that is ahead stays there
+appended_not_nil : (ahead more : List Body) → ahead ≢ [] → ahead ++ more ≢ []
+appended_not_nil [] more some e = some refl
+appended_not_nil (first ∷ ahead) more some e = let no : ⊥ = cc in no
+
+pub has_next_still : (lane longer : LaneSoFar) → GoesOn lane longer → HasNext lane → HasNext longer
+has_next_still lane longer goes (inl some) = inl (subst (λ (l : List Body). l ≢ []) (sym goes.ahead) (appended_not_nil lane.ahead goes.more some))
+has_next_still lane longer goes (inr ended) = inr (goes.over ended).1
 
 pub goes_on_both : (one two three : LaneSoFar) → GoesOn one two → GoesOn two three → GoesOn one three
 goes_on_both one two three first second = record {
@@ -112,6 +125,22 @@ module _ (read now : StreamSoFar) (ahead : List Body) (ending : Option Ending) (
 
   never : {P : Type 0} → is_some ending ≡ true → P
   never ended = let same = ap (λ (l : ReadAhead). l.ending) is in absurd (let no : ⊥ = cc in no)
+
+  -- with no record more
+  pub nothing_more : now.log ≡ read.log → GoesOn (as_lane lane) (as_lane (record { read = now; ahead = ahead; ending = ending }))
+  nothing_more same = subst (λ (l : ReadAhead). GoesOn (as_lane l) (as_lane longer)) is goes
+    where
+      longer : ReadAhead
+      longer = record { read = now; ahead = ahead; ending = ending }
+
+      goes : GoesOn (as_lane (record { read = read; ahead = ahead; ending = ending })) (as_lane longer)
+      goes = record {
+        vat = ap (λ (log : Log). log.vat) same;
+        more = [];
+        records = ap (λ (log : Log). log.records) same ∙ sym (append-nil read.log.records);
+        ahead = sym (append-nil ahead);
+        over = λ ended. never ended;
+      }
 
   -- with one record more
   pub one_more : (ahead_now : List Body) (entry : Body) → now.log ≡ runs.with_record entry read.log → ahead_now ≡ ahead ++ entry ∷ [] → IsLonger (record { read = now; ahead = ahead_now; ending = ending })
@@ -159,6 +188,28 @@ pub no_ending_is : (ending : Option Ending) → is_some ending ≡ false → end
 no_ending_is None none = refl
 no_ending_is (Some ending) none = absurd (let no : ⊥ = cc in no)
 
-pub on_ok : {A E : Type 0} (r : Result A E) (P : Type 0) → is_err r ≡ false → OnOk r P → P
-on_ok (Ok a) P ok so = so
-on_ok (Err e) P ok so = absurd (let no : ⊥ = cc in no)
+-- ---- a lane is read further, and goes on
+
+-- and further
+pub read_on : (waits : Bool) (old now : Option ReadAhead) (lane : ReadAhead) → IfSome old (λ before. GoesOn (as_lane lane) (as_lane before))
+    → ((before : ReadAhead) → old ≡ Some before → IfSome now (λ longer. GoesOn (as_lane before) (as_lane longer) × (waits ≡ true → HasNext (as_lane longer))))
+    → (old ≡ None → now ≡ None) → IfSome now (λ longer. GoesOn (as_lane lane) (as_lane longer))
+read_on waits None now lane so more refused = subst (λ (o : Option ReadAhead). IfSome o (λ longer. GoesOn (as_lane lane) (as_lane longer))) (sym (refused refl)) tt
+read_on waits (Some before) None lane so more refused = tt
+read_on waits (Some before) (Some longer) lane so more refused = goes_on_both (as_lane lane) (as_lane before) (as_lane longer) so (more before refl).0
+
+-- with a record ahead, or to its end, and then by what came
+pub filled : (old read now : Option ReadAhead) (lane : LaneSoFar) → option_map as_lane old ≡ Some lane
+    → ((before : ReadAhead) → old ≡ Some before → IfSome read (λ longer. GoesOn (as_lane before) (as_lane longer) × (true ≡ true → HasNext (as_lane longer))))
+    → ((before : ReadAhead) → read ≡ Some before → IfSome now (λ longer. GoesOn (as_lane before) (as_lane longer)))
+    → (read ≡ None → now ≡ None) → IfSome (option_map as_lane now) (λ longer. GoesOn lane longer × HasNext longer)
+filled None read now lane is first more refused = absurd (let no : ⊥ = cc in no)
+filled (Some before) None now lane is first more refused =
+    subst (λ (o : Option ReadAhead). IfSome (option_map as_lane o) (λ longer. GoesOn lane longer × HasNext longer)) (sym (refused refl)) tt
+filled (Some before) (Some mid) None lane is first more refused = tt
+filled (Some before) (Some mid) (Some longer) lane is first more refused =
+    subst (λ (from : LaneSoFar). GoesOn from (as_lane longer) × HasNext (as_lane longer)) (same_lane (as_lane before) lane is)
+    (goes_on_both (as_lane before) (as_lane mid) (as_lane longer) (first before refl).0 (more mid refl), has_next_still (as_lane mid) (as_lane longer) (more mid refl) ((first before refl).1 refl))
+  where
+    same_lane : (a b : LaneSoFar) → ◌≡◌ {A = Option LaneSoFar} (Some a) (Some b) → a ≡ b
+    same_lane a b e = cc

@@ -1,45 +1,69 @@
 //! A log that is read ahead.
 
-ghost use Rattle.std.specs.Prelude.{◌≡◌, true, [], Some, None, Ok, IfOk, IfErr, IfSome, OnOk, OnErr, drop, length};
+ghost use Rattle.std.specs.Prelude.{◌≡◌, ◌≢◌, true, false, [], ◌∷◌, ◌++◌, Some, None, Ok, IfOk, IfErr, IfSome, MatchOption, OnOk};
 ghost use Rattle.cap_reader.specs.Defaults.{default_limits};
 ghost use Rattle.vat_log.specs.Reading.{log_of};
+ghost use Rattle.vat_log.specs.Runs.{with_record};
 ghost use Rattle.vat_log.specs.Streams.{StreamStopsBy};
+ghost use Rattle.vat_rules.specs.Audited as judged;
 ghost use Rattle.case_pass.specs.Lanes.{GoesOn, HasNext};
-ghost use Rattle.log_lane.specs.Lanes.{ReadAhead, as_lane};
+ghost use Rattle.log_lane.specs.Lanes.{EndsSo, ReadAhead, as_lane};
 
 use crate::ending::Ending;
+use crate::records_ahead::RecordsAhead;
 use byte_pieces::Pieces;
 use rpc_view::Limits;
 use slim_case::{SlimLog, UsedConnections};
 use std::alloc::{AllocError, Global};
-use std::collections::VecDeque;
 use std::marker::Model;
 use std::mem;
-use vat_log::{Body, LogStream, ReadFault, Record};
+use vat_log::{LogStream, ReadFault, Record};
 use vat_rules::VatAudit;
 
-/// How many bytes of frames are read ahead at once, at most, but for the last frame.
+/// Where a record is ahead, nothing is read behind so many bytes of frames.
 const BYTES: usize = 1_048_576;
 
-/// How many bytes the frame of a record has, if it has one.
-fn frame_length(stored: &Record) -> usize {
-    match stored.body() {
-        Body::Send { frame, .. } | Body::Receive { frame, .. } => frame.len(),
-        _ => 0,
+/// How many records are read ahead at once, at most, behind the first.
+const RECORDS: usize = 4096;
+
+/// The next record of a log; or none, where it didn't come whole and more isn't to be waited for; or why there is none.
+fn next_of<P: Pieces>(
+    alloc: Global,
+    stream: &mut LogStream<P>,
+    waits: bool,
+) -> Result<Option<Record>, Ending>
+    ensures given { IfOk result (λ next. MatchOption next ((stream.new.log ≡ stream.old.log) × (waits ≡ false))
+        (λ entry. stream.new.log ≡ with_record entry stream.old.log)) }
+    ensures ended { IfErr result (λ ending. (stream.new.log ≡ stream.old.log) × EndsSo (Some ending) stream.new) }
+{
+    if !waits {
+        return match stream.next_ready(alloc) {
+            Ok(next) => Ok(next),
+            Err(fault) => Err(Ending::Fault(fault)),
+        };
+    }
+    match stream.next(alloc) {
+        Ok(Some(entry)) => Ok(Some(entry)),
+        Ok(None) => Err(Ending::Whole),
+        Err(fault) => Err(Ending::Fault(fault)),
     }
 }
 
-/// Lets the first so many records go.
-fn let_go(records: &mut VecDeque<Record>, count: usize)
-    ensures { records.new.items ≡ drop count records.old.items }
+/// A record that was read is judged, and stands behind those that are ahead.
+fn keep(
+    alloc: Global,
+    entry: Record,
+    audit: &mut VatAudit,
+    used: &mut UsedConnections,
+    ahead: &mut RecordsAhead,
+) -> Result<(), AllocError>
+    ensures judged { OnOk result (audit.new ≡ judged.with_record entry audit.old) }
+    ensures used { OnOk result (used.new ≡ used.old ++ entry ∷ []) }
+    ensures ahead { OnOk result (ahead.new ≡ ahead.old ++ entry ∷ []) }
 {
-    if count >= records.len() {
-        records.clear();
-        return;
-    }
-    for _ in 0..count {
-        let _ = records.pop_front();
-    }
+    audit.take(alloc, entry.body())?;
+    used.take(entry.body())?;
+    ahead.push(entry)
 }
 
 /// A log that is read ahead of what is taken of it, and judged as it is read. To a contract it is what was read, with the
@@ -49,25 +73,23 @@ pub struct Lane<P: Pieces> {
     stream: LogStream<P>,
     audit: VatAudit,
     used: UsedConnections,
-    // the first of these were taken, so many; they go when more is read
-    read: VecDeque<Record>,
-    taken: usize,
+    ahead: RecordsAhead,
     ending: Option<Ending>,
     is_refused: bool,
     is_spent: bool,
 }
 
 impl<P: Pieces> Model for Lane<P> {
-    ghost use Rattle.std.specs.Prelude.{◌≡◌, ◌≤◌, false, drop, length, Option};
+    ghost use Rattle.std.specs.Prelude.{◌≡◌, false, Option};
     ghost use Rattle.log_lane.specs.Lanes.{ReadAhead};
     ghost use Rattle.log_lane.specs.Glue.{lane_unless, AreOfOne};
 
     ghost Value = { Option ReadAhead };
 
-    ghost view = { λ lane. lane_unless lane.is_refused lane.stream (drop lane.taken lane.read.items) lane.ending };
+    ghost view = { λ lane. lane_unless lane.is_refused lane.stream lane.ahead lane.ending };
 
-    ghost invariant = { λ lane. (lane.taken ≤ length lane.read.items) × (lane.is_refused ≡ false
-        → AreOfOne lane.is_spent lane.stream lane.audit lane.used (drop lane.taken lane.read.items) lane.ending) };
+    ghost invariant = { λ lane. lane.is_refused ≡ false
+        → AreOfOne lane.is_spent lane.stream lane.audit lane.used lane.ahead lane.ending };
 }
 
 impl<P: Pieces> Lane<P> {
@@ -81,8 +103,7 @@ impl<P: Pieces> Lane<P> {
             stream,
             audit: VatAudit::new(alloc, header, Limits::default()),
             used: UsedConnections::new(alloc),
-            read: VecDeque::new(alloc),
-            taken: 0,
+            ahead: RecordsAhead::new(alloc),
             ending: None,
             is_refused: false,
             is_spent: false,
@@ -96,42 +117,70 @@ impl<P: Pieces> Lane<P> {
         self.ending
     }
 
-    /// Lets the records go that were taken. How many are ahead.
-    fn let_taken_go(&mut self) -> usize
-        ensures same { self.new ≡ self.old }
-        ensures ahead { IfSome self.new (λ lane. result ≡ length lane.ahead) }
+    /// Lets the records go that were taken.
+    fn let_taken_go(&mut self)
+        ensures { self.new ≡ self.old }
     {
-        let_go(&mut self.read, self.taken);
-        self.taken = 0;
-        self.read.len()
+        self.ahead.let_taken_go();
     }
 
-    /// Reads one record ahead, or sees that there is none, where more may come.
-    fn read_next(&mut self, alloc: Global) -> Result<(), AllocError>
-        ensures ok { OnOk result ((lane : ReadAhead) → self.old ≡ Some lane → lane.ending ≡ None
-            → IfSome self.new (λ longer. GoesOn (as_lane lane) (as_lane longer) × HasNext (as_lane longer))) }
-        ensures there { OnOk result ((lane : ReadAhead) × (self.new ≡ Some lane)) }
-        ensures err { OnErr result (self.new ≡ None) }
+    /// Reads one record ahead, or sees that there is none; where more isn't to be waited for, only if the record came whole. Whether
+    /// one came.
+    fn read(&mut self, alloc: Global, waits: bool) -> bool
+        ensures more { (lane : ReadAhead) → self.old ≡ Some lane → IfSome self.new (λ longer.
+            GoesOn (as_lane lane) (as_lane longer) × (waits ≡ true → HasNext (as_lane longer))) }
+        ensures refused { self.old ≡ None → self.new ≡ None }
     {
         if self.is_refused {
-            return Err(AllocError);
+            return false;
         }
         if self.ending.is_some() {
-            return Ok(());
+            return false;
         }
         self.is_refused = true;
-        match self.stream.next(alloc) {
-            Ok(Some(record)) => {
-                self.audit.take(alloc, record.body())?;
-                self.used.take(record.body())?;
-                self.read.push_back(record)?;
+        let mut came = false;
+        match next_of(alloc, &mut self.stream, waits) {
+            Ok(Some(entry)) => {
+                if keep(
+                    alloc,
+                    entry,
+                    &mut self.audit,
+                    &mut self.used,
+                    &mut self.ahead,
+                )
+                .is_err()
+                {
+                    return false;
+                }
+                came = true;
             }
-            Ok(None) => self.ending = Some(Ending::Whole),
-            Err(ReadFault::OutOfMemory) => return Err(AllocError),
-            Err(fault) => self.ending = Some(Ending::Fault(fault)),
+            Ok(None) => {}
+            Err(Ending::Fault(ReadFault::OutOfMemory)) => return false,
+            Err(ending) => self.ending = Some(ending),
         }
         self.is_refused = false;
-        Ok(())
+        came
+    }
+
+    /// Reads ahead what came whole, but for what is too much at once.
+    fn read_what_came(&mut self, alloc: Global)
+        ensures more { (lane : ReadAhead) → self.old ≡ Some lane
+            → IfSome self.new (λ longer. GoesOn (as_lane lane) (as_lane longer)) }
+        ensures refused { self.old ≡ None → self.new ≡ None }
+    {
+        for _ in 0..RECORDS {
+            if !self.read(alloc, false) {
+                return;
+            }
+        }
+    }
+
+    /// Whether so many records are ahead, or some with so many bytes that no more are to be read.
+    fn has_enough(&self, enough: usize) -> bool
+        ensures { IfSome self.now (λ lane. result ≡ true → lane.ahead ≢ []) }
+    {
+        let ahead = self.ahead.len();
+        ahead > 0 && (ahead >= enough || self.ahead.bytes() >= BYTES)
     }
 
     /// From where the log comes.
@@ -178,30 +227,25 @@ impl<P: Pieces> case_pass::Lane for Lane<P> {
     }
 
     fn first(&self) -> Option<&Record> {
-        self.read.get(self.taken)
+        self.ahead.first()
     }
 
     fn leave(&mut self) {
-        if self.taken < self.read.len() {
-            self.taken += 1;
-        }
+        self.ahead.leave();
     }
 
     fn is_refused(&self) -> bool {
         self.is_refused
     }
 
-    /// At most as many more, and none behind 2^20 bytes of frames. Those that were taken are let go.
+    /// Reads what one reading gives, and on until a record is there. Where one is, nothing is read behind 2^20 bytes of frames.
+    /// Those that were taken are let go.
     fn fill(&mut self, alloc: Global, enough: usize) {
-        if self.let_taken_go() >= enough {
+        if self.has_enough(enough) {
             return;
         }
-        let mut bytes = 0;
-        for _ in 0..enough {
-            if self.ending.is_some() || bytes >= BYTES || self.read_next(alloc).is_err() {
-                return;
-            }
-            bytes = bytes.saturating_add(self.read.back().map_or(0, frame_length));
-        }
+        self.let_taken_go();
+        self.read(alloc, true);
+        self.read_what_came(alloc);
     }
 }

@@ -8,6 +8,7 @@
 mod auditing;
 mod ending;
 mod lane;
+mod records_ahead;
 
 pub use auditing::audit_stream;
 pub use ending::Ending;

@@ -28,11 +28,10 @@ use std::marker::Model;
 const HEADER: usize = 12;
 
 /// How many bytes are asked for at once, where a record doesn't need more.
-const PIECE: usize = 65_536;
+const PIECE: usize = 262_144;
 
 /// A log that comes in pieces and is read record by record, through a window that has the bytes that aren't read yet. To a
 /// contract it is the bytes that came so far, whether they are all, and the log with the records that were given so far.
-#[derive(Drop)]
 pub struct LogStream<P: Pieces> {
     pieces: P,
     window: Bytes,
@@ -42,6 +41,21 @@ pub struct LogStream<P: Pieces> {
     vat: u32,
     count: usize,
     given: Erased<Body>,
+}
+
+impl<P: Pieces + Drop> Drop for LogStream<P> {
+    fn drop(self) {
+        let Self {
+            pieces: _,
+            window: _,
+            at: _,
+            begin: _,
+            version: _,
+            vat: _,
+            count: _,
+            given: _,
+        } = self;
+    }
 }
 
 impl<P: Pieces> Model for LogStream<P> {
@@ -234,8 +248,30 @@ impl<P: Pieces> LogStream<P> {
         self.next_behind(alloc)
     }
 
+    /// The next record, if it came whole: no more bytes are asked for. None where it didn't, be it that more may come or that the
+    /// log ends here. Memory is asked for what the record itself keeps.
+    ///
+    /// # Errors
+    ///
+    /// The first fault of the log, with the offset that [`parse_log`](crate::parse_log) gives, where it is one whatever comes; or
+    /// that memory was refused. The stream stays in front of the record, so it can be asked again.
+    pub fn next_ready(&mut self, alloc: Global) -> Result<Option<Record>, ReadFault>
+        // What was given is a run of whole records with which the bytes begin.
+        ensures begun { BeginsWith self.new.bytes self.new.log }
+        // A record is the next one; else nothing changed.
+        ensures given { IfOk result (λ next. MatchOption next (self.new ≡ self.old)
+            (λ entry. self.new ≡ record self.old { log = with_record entry self.old.log })) }
+        // Why there is no next one, whatever comes.
+        ensures err { IfErr result (λ fault. (self.new ≡ self.old) × StreamStopsBy fault self.old) }
+    {
+        match self.next_here(alloc) {
+            Ok(entry) => Ok(Some(entry)),
+            Err(Stop::Fault(fault)) => Err(fault),
+            Err(_) => Ok(None),
+        }
+    }
+
     /// The next record, where the window holds it whole.
-    #[cold]
     #[inline(never)]
     fn next_here(&mut self, alloc: Global) -> Result<Record, Stop>
         ensures ok { IfOk result (λ entry. self.new

@@ -1,5 +1,5 @@
 use Rattle.std.proofs.Common.{◌≡◌, drop}
-use Rattle.log_lane.proofs.lane.let_go.Given as goal
+use Rattle.log_lane.proofs.records_ahead.let_go.Given as goal
 
 -- so many went
 abbrev pub invariant-loop : goal.invariant-loop

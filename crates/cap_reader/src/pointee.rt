@@ -1,7 +1,7 @@
 //! What a pointer leads to, once its pads are followed.
 
 /// What a pointer leads to, once its pads are followed: where it begins, None before its segment.
-#[derive(Clone, Copy)]
+#[derive(Clone, Copy, Debug)]
 pub enum Pointee {
     /// All zeros.
     Null,

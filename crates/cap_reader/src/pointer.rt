@@ -6,7 +6,7 @@ ghost use Rattle.cap_reader.specs.Pointers.{offset_bits, data_bits, pointer_bits
 /// What a pointer's word says, by the encoding specification ("Structs", "Lists", "Inter-Segment Pointers",
 /// "Capabilities"). Offsets and sizes are in words; an offset of a struct or a list pointer is 30 bits of a signed
 /// number.
-#[derive(Clone, Copy)]
+#[derive(Clone, Copy, Debug)]
 pub enum Pointer {
     /// All zeros.
     Null,

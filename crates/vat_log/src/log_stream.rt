@@ -205,6 +205,13 @@ impl<P: Pieces> LogStream<P> {
         self.count
     }
 
+    /// How many bytes came behind the records that were given.
+    pub fn unread(&self) -> usize
+        ensures { length self.now.bytes ≡ length (log_bytes self.now.log) + result }
+    {
+        self.window.len() - self.at
+    }
+
     /// From where the bytes come.
     pub fn pieces(&self) -> &P
         ensures came { P.came result.now ≡ self.now.bytes }
@@ -258,16 +265,17 @@ impl<P: Pieces> LogStream<P> {
     pub fn next_ready(&mut self, alloc: Global) -> Result<Option<Record>, ReadFault>
         // What was given is a run of whole records with which the bytes begin.
         ensures begun { BeginsWith self.new.bytes self.new.log }
-        // A record is the next one; else nothing changed.
-        ensures given { IfOk result (λ next. MatchOption next (self.new ≡ self.old)
+        // A record is the next one; where none is given nothing changed, and none stands there whole.
+        ensures given { IfOk result (λ next. MatchOption next
+            ((self.new ≡ self.old) × IsLongestRun self.old.bytes self.old.log)
             (λ entry. self.new ≡ record self.old { log = with_record entry self.old.log })) }
         // Why there is no next one, whatever comes.
         ensures err { IfErr result (λ fault. (self.new ≡ self.old) × StreamStopsBy fault self.old) }
     {
         match self.next_here(alloc) {
             Ok(entry) => Ok(Some(entry)),
-            Err(Stop::Fault(fault)) => Err(fault),
-            Err(_) => Ok(None),
+            Err(Stop::Ends | Stop::Cut(ReadFault::Bad(_))) => Ok(None),
+            Err(Stop::Cut(fault) | Stop::Fault(fault)) => Err(fault),
         }
     }
 

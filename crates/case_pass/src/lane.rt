@@ -32,8 +32,8 @@ pub trait Lane {
     fn is_refused(&self) -> bool
         ensures { result ≡ is_none (so_far self.now) };
 
-    /// Reads some records ahead, where fewer than so many are, or none is. How many, is its own affair, but one at least if there
-    /// is one.
+    /// Reads some records ahead where none is, and may where fewer than so many are. How many, is its own affair, but one is ahead
+    /// then if there is one.
     fn fill(&mut self, alloc: Global, enough: usize)
         ensures { (lane : LaneSoFar) → so_far self.old ≡ Some lane
             → IfSome (so_far self.new) (λ longer. GoesOn lane longer × HasNext longer) };

@@ -11,7 +11,7 @@ use crate::rounds::take_rounds;
 use std::alloc::{AllocError, Global};
 use std::thread::{self, Threads};
 
-/// Reads ahead in the lanes that have fewer than so many records ahead, in so many of them at once.
+/// Reads ahead in the lanes that have fewer than so many records ahead, in as many of them at once as there are workers.
 pub(crate) fn fill_round<R: Threads + Sync, L: Lane + Send>(
     rt: &R,
     alloc: Global,
@@ -45,8 +45,11 @@ pub(crate) fn are_refused<L: Lane>(lanes: &[L]) -> bool
     lanes.iter().any(|lane| lane.is_refused())
 }
 
+/// How many records a lane is asked to have ahead. One that has some, and would have to wait for more, has enough.
+const ENOUGH: usize = 4096;
+
 /// Takes records of the lanes in turns, each as soon as it may come, until none may. More is read only once none of those that are
-/// ahead may come, and of a log alone of which none is ahead: who writes the others may wait for it.
+/// ahead may come. A log is waited for only where none of its records is ahead: who writes another may wait for it.
 ///
 /// # Errors
 ///
@@ -68,7 +71,7 @@ pub fn take_in_step<R: Threads + Sync, L: Lane + Send, T: Turns>(
         × AreHeldUp (map L.so_far lanes.new) more) }
 {
     for _ in 0..u64::MAX {
-        fill_round(rt, alloc, lanes, 1, workers);
+        fill_round(rt, alloc, lanes, ENOUGH, workers);
         if are_refused(lanes) {
             return Err(AllocError);
         }

@@ -26,6 +26,9 @@ const BYTES: usize = 1_048_576;
 /// How many records are read ahead at once, at most, behind the first.
 const RECORDS: usize = 4096;
 
+/// Where one reading gave so many bytes, more are there without waiting. A pipe gives half as many at once.
+const AMPLE: usize = 131_072;
+
 /// The next record of a log; or none, where it didn't come whole and more isn't to be waited for; or why there is none.
 fn next_of<P: Pieces>(
     alloc: Global,
@@ -75,6 +78,8 @@ pub struct Lane<P: Pieces> {
     used: UsedConnections,
     ahead: RecordsAhead,
     ending: Option<Ending>,
+    // whether the last reading gave so much that the next need not be waited for
+    is_ample: bool,
     is_refused: bool,
     is_spent: bool,
 }
@@ -105,6 +110,7 @@ impl<P: Pieces> Lane<P> {
             used: UsedConnections::new(alloc),
             ahead: RecordsAhead::new(alloc),
             ending: None,
+            is_ample: false,
             is_refused: false,
             is_spent: false,
         }
@@ -175,12 +181,19 @@ impl<P: Pieces> Lane<P> {
         }
     }
 
-    /// Whether so many records are ahead, or some with so many bytes that no more are to be read.
+    /// Sees whether the last reading gave so much that the next need not be waited for.
+    fn see_whether_ample(&mut self)
+        ensures { self.new ≡ self.old }
+    {
+        self.is_ample = self.stream.unread() >= AMPLE;
+    }
+
+    /// Whether so many records are ahead; or some, and more would be waited for, or their bytes are so many that no more are read.
     fn has_enough(&self, enough: usize) -> bool
         ensures { IfSome self.now (λ lane. result ≡ true → lane.ahead ≢ []) }
     {
         let ahead = self.ahead.len();
-        ahead > 0 && (ahead >= enough || self.ahead.bytes() >= BYTES)
+        ahead > 0 && (ahead >= enough || self.ahead.bytes() >= BYTES || !self.is_ample)
     }
 
     /// From where the log comes.
@@ -238,14 +251,15 @@ impl<P: Pieces> case_pass::Lane for Lane<P> {
         self.is_refused
     }
 
-    /// Reads what one reading gives, and on until a record is there. Where one is, nothing is read behind 2^20 bytes of frames.
-    /// Those that were taken are let go.
+    /// Reads what one reading gives, and on until a record is there. Where one is, nothing is read behind 2^20 bytes of frames,
+    /// nor where the last reading gave so little that the next may have to wait. Those that were taken are let go.
     fn fill(&mut self, alloc: Global, enough: usize) {
         if self.has_enough(enough) {
             return;
         }
         self.let_taken_go();
         self.read(alloc, true);
+        self.see_whether_ample();
         self.read_what_came(alloc);
     }
 }

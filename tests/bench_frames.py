@@ -1,5 +1,5 @@
 #!/usr/bin/env python3
-"""Writes a file of frames to standard output, for crates/reader_bench.
+"""Writes a file of frames to standard output, for `tools reader_bench` of trials/.
 
 usage: tests/bench_frames.py COUNT [piped|direct]
 

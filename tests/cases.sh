@@ -2,7 +2,7 @@
 # Runs the commands of docs/CASES.md, word for word, on a folder of cases that it makes of samples/, and compares each table
 # with the rows that must come: with GNU parallel, with xargs, and with Slurm, whose sbatch this test plays.
 # usage: tests/cases.sh PROGRAM          (the built program; GNU parallel is Debian's package parallel)
-# Each table that isn't as it must be is named, and the last line counts. What can't be run is named as skipped.
+# Each table that isn't as it must be is named, and the last line counts. What can't be run fails.
 set -uo pipefail
 program=$(realpath -e "${1:?usage: tests/cases.sh PROGRAM}") || exit 2
 top=$(realpath "$(dirname "$0")/..")
@@ -14,7 +14,6 @@ export PATH="$room/bin:$PATH"
 export LC_ALL=C
 passed=0
 failed=0
-skipped=0
 
 # block WORDS: the commands of docs/CASES.md that have these words, one block of them
 block() {
@@ -95,8 +94,8 @@ if parallel --version 2>/dev/null | grep -q '^GNU parallel'; then
     sort answers.tsv >came
     same "the table of parallel, in two runs" came wanted
 else
-    skipped=$((skipped + 1))
-    echo "skipped: GNU parallel isn't here (Debian's package parallel)"
+    failed=$((failed + 1))
+    echo "can't be run: GNU parallel isn't here (Debian's package parallel)"
 fi
 
 rm -f answers.tsv
@@ -133,5 +132,5 @@ block "#SBATCH --array" >cases.sbatch
 run "sbatch --parsable"
 same "the table of Slurm's array" answers.tsv wanted
 
-echo "$passed passed, $failed failed, $skipped skipped"
+echo "$passed passed, $failed failed"
 [ "$failed" = 0 ]

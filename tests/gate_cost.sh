@@ -57,7 +57,9 @@ if rt help 2>&1 | grep -q -- --anew; then anew=(--anew); fi
 seconds_of "$told/gate.txt" bash .ci/run "${anew[@]}" || failed=1
 python3 - "$told/gate.txt" "$room/alone" "$room"/beside*.seconds <<'END'
 import re, sys
-last = re.findall(r"^\d+ passed, \d+ failed$", open(sys.argv[1]).read(), re.M)
+# (tests count, too: those of the proofs come behind the line that begins them)
+proofs = open(sys.argv[1]).read().rpartition("\nproofs:\n")[2]
+last = re.findall(r"^\d+ passed, \d+ failed$", proofs, re.M)
 seconds = lambda file: [float(it) for it in open(file).read().split()]
 gate, clock = seconds(sys.argv[1] + ".seconds")
 alone, _ = seconds(sys.argv[2] + ".seconds")

@@ -1,7 +1,7 @@
 #!/usr/bin/env python3
 """Has logs read piece by piece, from files, pipes and standard input: lines, notes and statuses are those of the same bytes in files.
 
-usage: tests/pieces.py PROGRAM          (the built program)
+usage: tests/pieces.py PROGRAM [COUNT]         (the built program; a case of so many logs more, as 1024)
 Each difference is printed, and the last line counts.
 """
 import json
@@ -32,7 +32,7 @@ def must(what, came, wanted):
 
 def said(*words, given=b""):
     """The lines, the notes and the status of a run."""
-    run = subprocess.run([program, *words], input=given, capture_output=True, timeout=60)
+    run = subprocess.run([program, *words], input=given, capture_output=True, timeout=600)
     return run.stdout.decode(), run.stderr.decode(), run.returncode
 
 
@@ -133,7 +133,7 @@ def not_there():
 
 def many_logs():
     """Many logs, each of one vat that hosts an object."""
-    for count in (255, 256, 257, 1024):
+    for count in (255, 256, 257, *map(int, sys.argv[2:])):
         names = [f"many{number}" for number in range(count)]
         for number, name in enumerate(names):
             open(name, "wb").write(b"VATLOG02" + struct.pack("<IBQQ", number, 1, 1, 1))

@@ -4,10 +4,10 @@ by each of its commands over samples/, which has to end as ever, or to say that 
 --json, notes and what is open may be left out, and a file or folder that was made stands where memory ran out over the
 object of its line.
 
-usage: tests/refused.py [VATAUDIT [TRIALS [SCHEMAS]]]
+usage: tests/refused.py [VATAUDIT [TRIALS [TOOLS]]]
 
-They are built programs. `rt run` builds those that aren't named, for which everything is proved first: half an hour, the first
-time. tests/refuse.c refuses the allocations. Each run that differs is printed, and the last line counts. It takes some
+They are built programs: VATAUDIT, call_trials, and the program `tools` of trials/, which prints what schema_trials reads. Those that aren't
+named are built first, without a proof. tests/refuse.c refuses the allocations. Each run that differs is printed, and the last line counts. It takes some
 minutes and is no part of the gate; what it found stands in docs/TIMES.md.
 """
 import concurrent.futures
@@ -66,15 +66,13 @@ COMMANDS = [
 OUT_OF_MEMORY = {False: b"out of memory\n", True: b'{"kind":"out of memory"}\n'}
 
 
-def built(name, arguments, root=None):
-    """The path of a program, which is built and run. Without a root it is one of trials/, which are laid beside the crates in a copy."""
-    if not root:
-        root = f"{ROOM}/copy"
-        if not os.path.isdir(root):
-            words = f". tests/lib/with_trials.sh && with_trials {root} built"
-            subprocess.run(["bash", "-c", words], cwd=ROOT, check=True)
-    subprocess.run(["rt", "run", "--", *arguments], cwd=f"{root}/crates/{name}", check=True)
-    return f"{root}/crates/{name}/out/{name}"
+def built(name):
+    """The path of a program, which is built in a copy of the crates with those of trials/ beside them."""
+    copy = f"{ROOM}/copy"
+    if not os.path.isdir(copy):
+        subprocess.run(["bash", "-c", f". tests/lib/with_trials.sh && with_trials {copy}"], cwd=ROOT, check=True)
+    subprocess.run(["tests/lib/unproved.py", f"{copy}/crates/{name}", f"{ROOM}/{name}", "--level", "1"], cwd=ROOT, check=True)
+    return f"{ROOM}/{name}"
 
 
 def without_notes(text):
@@ -140,14 +138,14 @@ def refuse_each(words, may_run_out, place="samples"):
 
 with tempfile.TemporaryDirectory() as ROOM:
     subprocess.run(["cc", "-O2", "-shared", "-fPIC", "-o", f"{ROOM}/refuse.so", f"{ROOT}/tests/refuse.c"], check=True)
-    VATAUDIT = os.path.abspath(sys.argv[1]) if len(sys.argv) > 1 else built("vataudit", ["frame", ABORT], ROOT)
-    TRIALS = os.path.abspath(sys.argv[2]) if len(sys.argv) > 2 else built("call_trials", [])
+    VATAUDIT = os.path.abspath(sys.argv[1]) if len(sys.argv) > 1 else built("vataudit")
+    TRIALS = os.path.abspath(sys.argv[2]) if len(sys.argv) > 2 else built("call_trials")
     (status, text, _), refused, differences = refuse_each([TRIALS], False)
     differences += status
     answers = text.decode().strip()
     print(f"call_trials: {refused} allocations refused", flush=True)
-    schemas = os.path.abspath(sys.argv[3]) if len(sys.argv) > 3 else built("schema_trials", [])
-    (status, _, _), more, others = refuse_each([schemas], False, "trials/schema_trials/data")
+    tools = os.path.abspath(sys.argv[3]) if len(sys.argv) > 3 else built("tools")
+    (status, _, _), more, others = refuse_each([tools, "schemas"], False, "trials/schema_trials/data")
     print(f"schema_trials: {more} allocations refused", flush=True)
     refused += more
     differences += others + status

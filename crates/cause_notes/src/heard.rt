@@ -2,17 +2,16 @@
 
 use crate::joins::JoinNote;
 use crate::row_limit::RowLimit;
-use audit_core::{Breach, Report};
+use crate::wires::wire_found::WireFound;
 use case_book::Findings;
-use input_notes::WireFound;
+use case_report::{Breach, Report, WireAnswer};
 use report_lines::{Answer, Fault, report_sentence, why_sentence};
 use std::mem;
 use vat_log::{LogError, Salvaged};
 use vat_rules::{Outcome, SlimFinding, SlimOutcome, VatFinding};
-use wire_logs::WireAnswer;
 
 /// What was heard of the answer that was said last.
-#[derive(Clone, Copy, Debug, PartialEq, Eq)]
+#[derive(Clone, Copy)]
 pub(crate) enum HeardAnswer {
     /// Nothing that people are told more of.
     Nothing,
@@ -68,11 +67,9 @@ pub(crate) enum HeardAnswer {
     Yes,
 }
 
-/// What was heard of the answer that was said last, and what was found of the case that it judges, or of the connection, where
-/// notes are to be made.
-#[derive(Debug, Drop)]
+/// What was heard of the answer that was said last, and what was found of the case that it judges, or of the connection.
+#[derive(Drop)]
 pub struct Heard {
-    is_noted: bool,
     pub(crate) told: HeardAnswer,
     pub(crate) findings: Option<Findings>,
     pub(crate) is_of_case: bool,
@@ -147,10 +144,9 @@ fn of_salvaged(found: &Salvaged) -> HeardAnswer {
 }
 
 impl Heard {
-    /// Before any answer, of which notes are to be made or not.
-    fn before(is_noted: bool) -> Heard {
+    /// Before any answer.
+    pub fn new() -> Heard {
         Heard {
-            is_noted,
             told: HeardAnswer::Nothing,
             findings: None,
             is_of_case: false,
@@ -158,16 +154,6 @@ impl Heard {
             join: None,
             limit: None,
         }
-    }
-
-    /// Before any answer, of which notes are to be made.
-    pub fn new() -> Heard {
-        Heard::before(true)
-    }
-
-    /// Before any answer, of which no notes are to be made.
-    pub fn without_notes() -> Heard {
-        Heard::before(false)
     }
 
     /// Hears an answer, in the place of what was heard before.
@@ -199,13 +185,9 @@ impl Heard {
         self.join = Some(note);
     }
 
-    /// Keeps what was found of a case beside its report, where notes are to be made of it.
+    /// Keeps what was found of a case beside its report.
     pub fn keep(&mut self, findings: Findings) {
-        if self.is_noted {
-            self.findings = Some(findings);
-        } else {
-            mem::forget(findings);
-        }
+        self.findings = Some(findings);
     }
 
     /// Hears that the answer is the line of a case, of which nothing is kept.

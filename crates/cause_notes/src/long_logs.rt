@@ -3,13 +3,12 @@
 
 use crate::heard::HeardAnswer;
 use crate::inputs::unread::SearchingSource;
-use audit_core::Breach;
 use byte_pieces::Pieces;
 use bytes::Bytes;
-use past_records::{Replay, decoded_as};
-use record_notes::{put_stored, vat_of};
+use case_report::Breach;
+use past_records::{NoteText, Replay, decoded_as};
+use record_notes::{put_past_cause, put_stored, vat_of};
 use rpc_view::Edition;
-use rule_notes::put_past_cause;
 use std::alloc::{AllocError, Global};
 use vat_log::{LogStream, ReadFault, Record, VatLog, write_log};
 use vat_rules::{Rule, edition_of_header};
@@ -135,6 +134,37 @@ pub(crate) fn far_record<S: SearchingSource>(
     Ok(None)
 }
 
+/// Takes the next record of a log, and says whether it can be read and applied.
+fn take_next<P: Pieces>(
+    alloc: Global,
+    stream: &mut LogStream<P>,
+    edition: Edition,
+    replay: &mut Replay,
+) -> Result<bool, AllocError> {
+    let Some(stored) = next_of(alloc, stream)? else {
+        return Ok(false);
+    };
+    match decoded_as(alloc, &stored, edition)? {
+        Some(earlier) => replay.take(&earlier),
+        None => Ok(false),
+    }
+}
+
+/// Takes so many records of a log, and says whether each of them can be read and applied.
+fn take_all<P: Pieces>(
+    alloc: Global,
+    stream: &mut LogStream<P>,
+    far: &FarRecord<'_>,
+    replay: &mut Replay,
+) -> Result<bool, AllocError> {
+    for _ in 0..far.at {
+        if !take_next(alloc, stream, far.edition, replay)? {
+            return Ok(false);
+        }
+    }
+    Ok(true)
+}
+
 /// What the records before one came to.
 fn replayed<S: SearchingSource>(
     alloc: Global,
@@ -146,18 +176,11 @@ fn replayed<S: SearchingSource>(
         return Ok(None);
     };
     let mut replay = Replay::watching(alloc, event)?;
-    for _ in 0..far.at {
-        let Some(stored) = next_of(alloc, &mut stream)? else {
-            return Ok(None);
-        };
-        let Some(earlier) = decoded_as(alloc, &stored, far.edition)? else {
-            return Ok(None);
-        };
-        if !replay.take(&earlier)? {
-            return Ok(None);
-        }
+    if take_all(alloc, &mut stream, far, &mut replay)? {
+        Ok(Some(replay))
+    } else {
+        Ok(None)
     }
-    Ok(Some(replay))
 }
 
 /// A log of this vat that has no record.
@@ -168,52 +191,85 @@ fn no_records(alloc: Global, vat: u32) -> Result<VatLog, AllocError> {
     }
 }
 
+/// A record as it is judged, what those before it came to, and a log of its vat that has none of them.
+#[derive(Drop)]
+struct Found {
+    event: DecodedRecord,
+    replay: Replay,
+    log: VatLog,
+}
+
+/// What is found of a record that isn't kept, and of those before it.
+fn found_of<S: SearchingSource>(
+    alloc: Global,
+    source: &S,
+    far: &FarRecord<'_>,
+    event: DecodedRecord,
+) -> Result<Option<Found>, AllocError> {
+    match replayed(alloc, source, far, &event)? {
+        Some(replay) => {
+            let log = no_records(alloc, far.vat)?;
+            Ok(Some(Found { event, replay, log }))
+        }
+        None => Ok(None),
+    }
+}
+
+/// The same, where its frame is read.
+fn found_again<S: SearchingSource>(
+    alloc: Global,
+    source: &S,
+    far: &FarRecord<'_>,
+) -> Result<Option<Found>, AllocError> {
+    match decoded_as(alloc, &far.stored, far.edition)? {
+        Some(event) => found_of(alloc, source, far, event),
+        None => Ok(None),
+    }
+}
+
+impl Found {
+    /// Appends the notes of what led to it.
+    fn put(self, alloc: Global, text: &mut NoteText, rule: Rule) {
+        let Found { event, replay, log } = self;
+        put_past_cause(&replay.before(alloc, &log, event), text, rule);
+    }
+}
+
 /// Appends the notes of what led to a record that breaks a rule, as far as the tables know it.
 fn put_rule<S: SearchingSource>(
     alloc: Global,
-    text: &mut String,
+    text: &mut NoteText,
     source: &S,
     far: &FarRecord<'_>,
     rule: Rule,
-) -> Result<(), AllocError> {
-    let Some(event) = decoded_as(alloc, &far.stored, far.edition)? else {
-        return Ok(());
-    };
-    let Some(replay) = replayed(alloc, source, far, &event)? else {
-        return Ok(());
-    };
-    let log = no_records(alloc, far.vat)?;
-    put_past_cause(&replay.before(alloc, &log, event), text, rule)
+) {
+    match found_again(alloc, source, far) {
+        Ok(Some(found)) => found.put(alloc, text, rule),
+        Ok(None) => {}
+        Err(AllocError) => text.refuse(),
+    }
 }
 
 impl FarRecord<'_> {
     /// Appends the note of the record.
-    ///
-    /// # Errors
-    ///
-    /// Out of memory.
-    pub(crate) fn put(&self, alloc: Global, text: &mut String) -> Result<(), AllocError> {
-        put_stored(alloc, text, self.name, self.at, &self.stored, self.edition)
+    pub(crate) fn put(&self, alloc: Global, text: &mut NoteText) {
+        put_stored(alloc, text, self.name, self.at, &self.stored, self.edition);
     }
 
     /// Appends the notes of what led to it, where it breaks a rule of its log.
-    ///
-    /// # Errors
-    ///
-    /// Out of memory.
     pub(crate) fn put_cause<S: SearchingSource>(
         &self,
         alloc: Global,
-        text: &mut String,
+        text: &mut NoteText,
         source: &S,
         told: HeardAnswer,
-    ) -> Result<(), AllocError> {
+    ) {
         match told {
             HeardAnswer::Broken {
                 breach: Breach::Rule(rule),
                 ..
             } => put_rule(alloc, text, source, self, rule),
-            _ => Ok(()),
+            _ => {}
         }
     }
 }

@@ -1,10 +1,9 @@
 //! The note beside a picture of fewer rows than were asked for.
 
-use std::alloc::AllocError;
-use std::fmt::Write;
+use past_records::NoteText;
 
 /// How many rows were asked for, and how many are drawn at most, which is fewer.
-#[derive(Clone, Copy, Debug, PartialEq, Eq)]
+#[derive(Clone, Copy)]
 pub struct RowLimit {
     /// How many were asked for.
     pub asked: u64,
@@ -13,14 +12,11 @@ pub struct RowLimit {
 }
 
 /// The note of it, if there is one.
-pub(crate) fn put_limit(text: &mut String, limit: Option<RowLimit>) -> Result<(), AllocError> {
-    match limit {
-        Some(RowLimit { asked, most }) => {
-            write!(
-                text,
-                "note: --count {asked} asks for more rows than are drawn at most: {most}\n"
-            )
-        }
-        None => Ok(()),
+pub(crate) fn put_limit(text: &mut NoteText, limit: Option<RowLimit>) {
+    if let Some(RowLimit { asked, most }) = limit {
+        text.tell(
+            "note: --count # asks for more rows than are drawn at most: #\n",
+            &[asked, most],
+        );
     }
 }

@@ -1,5 +1,6 @@
 //! Writes that fail.
 
+use past_records::NoteText;
 use std::alloc::{AllocError, Global};
 use std::fmt::Write;
 use std::io;
@@ -16,16 +17,21 @@ pub fn write_note(
     name: Option<&str>,
     error: &io::Error,
 ) -> Result<String, AllocError> {
-    let mut text = String::new(alloc);
-    if error.kind() == ErrorKind::BrokenPipe {
-        return Ok(text);
+    let mut text = NoteText::new(alloc);
+    if error.kind() != ErrorKind::BrokenPipe {
+        put_write(&mut text, name, error);
     }
+    text.finish()
+}
+
+/// Appends that a write to a file failed, or else to standard output.
+fn put_write(text: &mut NoteText, name: Option<&str>, error: &io::Error) {
+    text.words("note: cannot write ");
     match name {
-        Some(name) => {
-            let name = name.escape_debug();
-            write!(text, "note: cannot write {name}: {error}\n")?;
-        }
-        None => write!(text, "note: cannot write to standard output: {error}\n")?,
+        Some(name) => text.name(name),
+        None => text.words("to standard output"),
     }
-    Ok(text)
+    text.words(": ");
+    text.shown(error);
+    text.words("\n");
 }

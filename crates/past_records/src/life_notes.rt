@@ -1,13 +1,13 @@
 //! Numbers that are used while they aren't held, and of which more is given back than is held.
 
-use crate::number_lives::{Life, Lives, number_described, number_named};
+use crate::note_text::NoteText;
+use crate::number_lives::{Lives, NumberLife, number_described, number_named};
 use crate::number_text::NumberText;
-use crate::openings::{Opening, opening_of};
-use crate::reading::decoded;
+use crate::openings::{QuestionOpening, opening_of};
+use crate::read_again::decoded;
 use crate::records_before::Past;
 use rpc_view::{Descriptor, RpcMessage};
 use std::alloc::AllocError;
-use std::fmt::Write;
 use vat_view::{DecodedRecord, Number};
 
 /// How a record gives a number back.
@@ -35,97 +35,99 @@ fn word_of(event: Option<&DecodedRecord>) -> &'static str {
     }
 }
 
-/// Notes where the last life of a number began and ended.
-///
-/// # Errors
-///
-/// Out of memory.
-pub fn put_life(past: &Past<'_>, text: &mut String, life: Life) -> Result<(), AllocError> {
-    let shown = NumberText {
-        connection: life.connection,
-        number: life.number,
-    };
-    let Some(began) = life.began else {
-        return write!(text, "note: no record before it introduces {shown}\n");
-    };
-    write!(text, "note: {shown} was introduced by record {began}\n")?;
-    if let Some(ended) = life.ended {
-        let word = word_of(past.get(ended));
-        write!(text, "note: it was {word} record {ended}\n")?;
-    }
-    Ok(())
-}
-
-/// Notes the life of a number that the record uses, where it isn't held; and says whether it isn't.
-fn put_if_gone(
-    past: &Past<'_>,
-    text: &mut String,
-    connection: u32,
-    number: Number,
-) -> Result<bool, AllocError> {
-    match past.lives.of(connection, number) {
-        Some(life) if life.held == 0 => {
-            put_life(past, text, life)?;
-            Ok(true)
+/// Notes where a life began.
+fn put_beginning(text: &mut NoteText, life: NumberLife) {
+    let shown = NumberText::of(life);
+    match life.began {
+        Some(began) => {
+            text.words("note: ");
+            text.shown(&shown);
+            text.tell(" was introduced by record #\n", &[began as u64]);
         }
-        _ => Ok(false),
+        None => {
+            text.words("note: no record before it introduces ");
+            text.shown(&shown);
+            text.words("\n");
+        }
     }
 }
 
-/// Notes the life of the first number that a capability of the record uses and that isn't held.
-fn put_described(past: &Past<'_>, text: &mut String, connection: u32) -> Result<(), AllocError> {
+/// Notes by which record a number, or a part of it, was given back, and how.
+fn put_back(text: &mut NoteText, part: &str, word: &str, at: usize) {
+    text.words(part);
+    text.words(word);
+    text.tell(" record #\n", &[at as u64]);
+}
+
+/// Notes where the last life of a number began and ended.
+pub fn put_life(past: &Past<'_>, text: &mut NoteText, life: NumberLife) {
+    put_beginning(text, life);
+    match (life.began, life.ended) {
+        (Some(_), Some(ended)) => {
+            put_back(text, "note: it was ", word_of(past.get(ended)), ended);
+        }
+        _ => {}
+    }
+}
+
+/// The life of a number that the record uses, where it isn't held.
+fn gone(past: &Past<'_>, connection: u32, number: Number) -> Option<NumberLife> {
+    match past.lives.of(connection, number) {
+        Some(life) if life.held == 0 => Some(life),
+        _ => None,
+    }
+}
+
+/// The life of the first number that a capability of the record uses and that isn't held.
+fn gone_described(past: &Past<'_>, connection: u32) -> Option<NumberLife> {
     for descriptor in past.event.descriptors() {
         if let Descriptor::ReceiverHosted(_) = descriptor {
             if let Some(number) = number_described(&past.event, descriptor) {
-                if put_if_gone(past, text, connection, number)? {
-                    return Ok(());
+                if let Some(life) = gone(past, connection, number) {
+                    return Some(life);
                 }
             }
         }
     }
-    Ok(())
+    None
+}
+
+/// The life of the number that the record uses and that isn't held.
+fn gone_used(past: &Past<'_>) -> Option<NumberLife> {
+    let DecodedRecord::Wire { connection, .. } = &past.event else {
+        return None;
+    };
+    if let Some(number) = number_named(&past.event) {
+        if let Some(life) = gone(past, *connection, number) {
+            return Some(life);
+        }
+    }
+    gone_described(past, *connection)
 }
 
 /// Notes the life of the number that the record uses and that isn't held.
-///
-/// # Errors
-///
-/// Out of memory.
-pub fn put_gone(past: &Past<'_>, text: &mut String) -> Result<(), AllocError> {
-    let DecodedRecord::Wire { connection, .. } = &past.event else {
-        return Ok(());
-    };
-    if let Some(number) = number_named(&past.event) {
-        if put_if_gone(past, text, *connection, number)? {
-            return Ok(());
-        }
+pub fn put_gone(past: &Past<'_>, text: &mut NoteText) {
+    if let Some(life) = gone_used(past) {
+        put_life(past, text, life);
     }
-    put_described(past, text, *connection)
+}
+
+/// Notes how often a number is held of which so much is given back.
+fn put_held(text: &mut NoteText, life: NumberLife, given: u64) {
+    text.tell("note: it gives back # of ", &[given]);
+    text.shown(&NumberText::of(life));
+    text.tell(", and # of it is held\n", &[life.held]);
 }
 
 /// Notes how often a number is held of which more is given back, and what was done to it before.
-fn put_counted(
-    past: &Past<'_>,
-    text: &mut String,
-    life: Life,
-    given: u64,
-) -> Result<(), AllocError> {
-    let shown = NumberText {
-        connection: life.connection,
-        number: life.number,
-    };
-    let held = life.held;
-    write!(
-        text,
-        "note: it gives back {given} of {shown}, and {held} of it is held\n"
-    )?;
-    put_life(past, text, life)?;
+fn put_counted(past: &Past<'_>, text: &mut NoteText, life: NumberLife, given: u64) {
+    put_held(text, life, given);
+    put_life(past, text, life);
     match life.lowered {
         Some(at) if life.ended != Some(at) => {
-            let word = word_of(past.get(at));
-            write!(text, "note: a part of it was {word} record {at}\n")
+            put_back(text, "note: a part of it was ", word_of(past.get(at)), at);
         }
-        _ => Ok(()),
+        _ => {}
     }
 }
 
@@ -141,58 +143,71 @@ fn introduced(event: &DecodedRecord, number: Number) -> u64 {
     count
 }
 
-/// Notes the first number of which the record gives back more than is held, of those that a record before introduced.
-fn put_overdrawn(past: &Past<'_>, text: &mut String, source: usize) -> Result<(), AllocError> {
-    let Some(event) = past.get(source) else {
-        return Ok(());
-    };
+/// The first number of which more is given back than is held, of those that a record before introduced, and how much that is.
+fn overdrawn(past: &Past<'_>, source: usize) -> Option<(NumberLife, u64)> {
+    let event = past.get(source)?;
     for life in past.lives.each() {
         let given = introduced(event, life.number);
         if life.held < given {
-            write!(
-                text,
-                "note: it gives back what record {source} introduced\n"
-            )?;
-            return put_counted(past, text, *life, given);
+            return Some((*life, given));
         }
     }
-    Ok(())
+    None
+}
+
+/// Notes the first number of which the record gives back more than is held, of those that a record before introduced.
+fn put_overdrawn(past: &Past<'_>, text: &mut NoteText, source: usize) {
+    if let Some((life, given)) = overdrawn(past, source) {
+        text.tell(
+            "note: it gives back what record # introduced\n",
+            &[source as u64],
+        );
+        put_counted(past, text, life, given);
+    }
 }
 
 /// The record whose capabilities this one gives back: the Call of a Return, the Return of a Finish.
 fn source_of(past: &Past<'_>) -> Option<usize> {
     if let Some(returned) = past.event.question_returned() {
-        return opening_of(past, returned).map(|opening: Opening| opening.at);
+        return opening_of(past, returned).map(|opening: QuestionOpening| opening.at);
     }
     let finished = past.event.question_finished()?;
-    opening_of(past, finished).and_then(|opening: Opening| opening.returned)
+    opening_of(past, finished).and_then(|opening: QuestionOpening| opening.returned)
 }
 
-/// Notes of the numbers that a Return or a Finish gives back: the log is walked once more, since these numbers stand in
-/// another record.
-fn put_given_back(past: &Past<'_>, text: &mut String) -> Result<(), AllocError> {
-    let Some(source) = source_of(past) else {
-        return Ok(());
-    };
+/// The numbers that a record before introduced.
+fn lives_introduced(past: &Past<'_>, source: usize) -> Result<Lives, AllocError> {
     let mut lives = Lives::none(past.alloc);
     if let Some(event) = past.get(source) {
         lives.add_described(event)?;
     }
-    let Some(event) = decoded(past.alloc, past.log, past.at)? else {
-        return Ok(());
+    Ok(lives)
+}
+
+/// The record and the log before it once more, with the numbers watched that a record before introduced.
+fn watching_introduced<'a>(past: &Past<'a>, source: usize) -> Result<Option<Past<'a>>, AllocError> {
+    let lives = lives_introduced(past, source)?;
+    match decoded(past.alloc, past.log, past.at)? {
+        Some(event) => Past::watching(past.alloc, past.log, past.at, event, lives),
+        None => Ok(None),
+    }
+}
+
+/// Notes of the numbers that a Return or a Finish gives back: the log is walked once more, since these numbers stand in
+/// another record.
+fn put_given_back(past: &Past<'_>, text: &mut NoteText) {
+    let Some(source) = source_of(past) else {
+        return;
     };
-    match Past::watching(past.alloc, past.log, past.at, event, lives)? {
-        Some(again) => put_overdrawn(&again, text, source),
-        None => Ok(()),
+    match watching_introduced(past, source) {
+        Ok(Some(again)) => put_overdrawn(&again, text, source),
+        Ok(None) => {}
+        Err(AllocError) => text.refuse(),
     }
 }
 
 /// Notes of what more is given back than is held.
-///
-/// # Errors
-///
-/// Out of memory.
-pub fn put_miscounted(past: &Past<'_>, text: &mut String) -> Result<(), AllocError> {
+pub fn put_miscounted(past: &Past<'_>, text: &mut NoteText) {
     let DecodedRecord::Wire {
         connection,
         message: RpcMessage::Release { count, .. },
@@ -204,6 +219,6 @@ pub fn put_miscounted(past: &Past<'_>, text: &mut String) -> Result<(), AllocErr
     let life = number_named(&past.event).and_then(|number| past.lives.of(*connection, number));
     match life {
         Some(life) => put_counted(past, text, life, u64::from(*count)),
-        None => Ok(()),
+        None => {}
     }
 }

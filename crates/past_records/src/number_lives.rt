@@ -8,8 +8,8 @@ use vat_view::{DecodedRecord, Number, TableKey, VatState};
 const MOST: usize = 16;
 
 /// What was seen of a number.
-#[derive(Clone, Copy, Debug)]
-pub struct Life {
+#[derive(Clone, Copy)]
+pub struct NumberLife {
     /// The connection.
     pub connection: u32,
     /// The number, an export or an import.
@@ -25,9 +25,9 @@ pub struct Life {
 }
 
 /// The numbers that are watched.
-#[derive(Debug, Drop)]
+#[derive(Drop)]
 pub struct Lives {
-    items: Vec<Life>,
+    items: Vec<NumberLife>,
 }
 
 /// An export or import number, as this vat names it.
@@ -70,7 +70,7 @@ impl Lives {
     /// Watches this number too, unless there are too many.
     pub(crate) fn add(&mut self, connection: u32, number: Number) -> Result<(), AllocError> {
         if self.items.len() < MOST && self.of(connection, number).is_none() {
-            self.items.push(Life {
+            self.items.push(NumberLife {
                 connection,
                 number,
                 held: 0,
@@ -126,12 +126,12 @@ impl Lives {
     }
 
     /// What was seen of each.
-    pub(crate) fn each(&self) -> &[Life] {
+    pub(crate) fn each(&self) -> &[NumberLife] {
         &self.items
     }
 
     /// What was seen of a number.
-    pub fn of(&self, connection: u32, number: Number) -> Option<Life> {
+    pub fn of(&self, connection: u32, number: Number) -> Option<NumberLife> {
         for life in &self.items {
             if life.connection == connection && life.number == number {
                 return Some(*life);

@@ -1,5 +1,6 @@
 //! Numbers of connections, as people are told of them.
 
+use crate::number_lives::NumberLife;
 use std::fmt;
 use std::fmt::{Display, Formatter};
 use vat_view::Number;
@@ -11,6 +12,16 @@ pub struct NumberText {
     pub connection: u32,
     /// The number.
     pub number: Number,
+}
+
+impl NumberText {
+    /// The number whose life this is.
+    pub fn of(life: NumberLife) -> NumberText {
+        NumberText {
+            connection: life.connection,
+            number: life.number,
+        }
+    }
 }
 
 impl Display for NumberText {

@@ -4,8 +4,8 @@ use crate::records_before::Past;
 use vat_view::{DecodedRecord, TableKey};
 
 /// The last opening of a question, and the records that returned it, finished it and took its results since.
-#[derive(Clone, Copy, Debug)]
-pub struct Opening {
+#[derive(Clone, Copy)]
+pub struct QuestionOpening {
     /// The record that opened it.
     pub at: usize,
     /// The call.
@@ -22,7 +22,7 @@ pub struct Opening {
 
 /// What a record does to a question.
 #[derive(Clone, Copy)]
-enum Change {
+enum QuestionStep {
     Opens(u64, bool),
     Returns,
     Finishes,
@@ -31,28 +31,32 @@ enum Change {
 }
 
 /// What a record does to this question.
-fn change_by(key: TableKey, event: &DecodedRecord) -> Option<Change> {
+fn change_by(key: TableKey, event: &DecodedRecord) -> Option<QuestionStep> {
     let sought = Some(key);
     if event.question_opened() == sought {
-        return Some(Change::Opens(event.noted_call(), event.asks_elsewhere()));
+        return Some(QuestionStep::Opens(event.noted_call(), event.asks_elsewhere()));
     }
     if event.question_finished() == sought {
-        return Some(Change::Finishes);
+        return Some(QuestionStep::Finishes);
     }
     let returns = event.question_returned() == sought;
     let takes = event.question_taken() == sought;
     match (returns, takes) {
-        (true, true) => Some(Change::ReturnsAndTakes),
-        (true, false) => Some(Change::Returns),
-        (false, true) => Some(Change::Takes),
+        (true, true) => Some(QuestionStep::ReturnsAndTakes),
+        (true, false) => Some(QuestionStep::Returns),
+        (false, true) => Some(QuestionStep::Takes),
         (false, false) => None,
     }
 }
 
 /// The question behind a change of it, made by the record of this number.
-fn changed(known: Option<Opening>, change: Change, at: usize) -> Option<Opening> {
-    if let Change::Opens(call, yourself) = change {
-        return Some(Opening {
+fn changed(
+    known: Option<QuestionOpening>,
+    change: QuestionStep,
+    at: usize,
+) -> Option<QuestionOpening> {
+    if let QuestionStep::Opens(call, yourself) = change {
+        return Some(QuestionOpening {
             at,
             call,
             yourself,
@@ -63,11 +67,11 @@ fn changed(known: Option<Opening>, change: Change, at: usize) -> Option<Opening>
     }
     let mut opening = known?;
     match change {
-        Change::Opens(_, _) => {}
-        Change::Returns => opening.returned = Some(at),
-        Change::Finishes => opening.finished = Some(at),
-        Change::Takes => opening.taken = Some(at),
-        Change::ReturnsAndTakes => {
+        QuestionStep::Opens(_, _) => {}
+        QuestionStep::Returns => opening.returned = Some(at),
+        QuestionStep::Finishes => opening.finished = Some(at),
+        QuestionStep::Takes => opening.taken = Some(at),
+        QuestionStep::ReturnsAndTakes => {
             opening.returned = Some(at);
             opening.taken = Some(at);
         }
@@ -76,7 +80,7 @@ fn changed(known: Option<Opening>, change: Change, at: usize) -> Option<Opening>
 }
 
 /// The last opening of a question before the record that is told of, and what passed of it since.
-pub fn opening_of(past: &Past<'_>, key: TableKey) -> Option<Opening> {
+pub fn opening_of(past: &Past<'_>, key: TableKey) -> Option<QuestionOpening> {
     let mut known = None;
     for at in 0..past.at {
         let event = past.get(at)?;

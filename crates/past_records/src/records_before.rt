@@ -1,7 +1,7 @@
 //! A log up to one of its records.
 
 use crate::number_lives::Lives;
-use crate::reading::decoded;
+use crate::read_again::decoded;
 use std::alloc::{AllocError, Global};
 use vat_log::VatLog;
 use vat_view::{DecodedRecord, VatState};
@@ -38,27 +38,50 @@ impl Drop for Past<'_> {
     }
 }
 
-/// Applies so many records of a log and watches numbers meanwhile. None where one of them can't be applied.
-fn walk(
+/// Takes the next record, and says whether it can be applied.
+fn take(
+    state: &mut VatState,
+    events: &mut Vec<DecodedRecord>,
+    event: DecodedRecord,
+) -> Result<bool, AllocError> {
+    if !state.is_sound(&event)? {
+        return Ok(false);
+    }
+    state.apply(&event)?;
+    events.push(event)?;
+    Ok(true)
+}
+
+/// Takes the record of this number, and says whether it can be read and applied.
+fn take_at(
     alloc: Global,
     log: &VatLog,
     at: usize,
-    lives: &mut Lives,
-) -> Result<Option<(VatState, Vec<DecodedRecord>)>, AllocError> {
-    let mut state = VatState::new(alloc);
-    let mut events = Vec::new(alloc);
-    for number in 0..at {
-        let Some(earlier) = decoded(alloc, log, number)? else {
-            return Ok(None);
-        };
-        if !state.is_sound(&earlier)? {
-            return Ok(None);
-        }
-        state.apply(&earlier)?;
-        events.push(earlier)?;
-        lives.see(&state, number);
+    state: &mut VatState,
+    events: &mut Vec<DecodedRecord>,
+) -> Result<bool, AllocError> {
+    match decoded(alloc, log, at)? {
+        Some(event) => take(state, events, event),
+        None => Ok(false),
     }
-    Ok(Some((state, events)))
+}
+
+/// Takes so many records of a log and watches numbers meanwhile; and says whether each of them can be applied.
+fn walk(
+    alloc: Global,
+    log: &VatLog,
+    end: usize,
+    state: &mut VatState,
+    events: &mut Vec<DecodedRecord>,
+    lives: &mut Lives,
+) -> Result<bool, AllocError> {
+    for at in 0..end {
+        if !take_at(alloc, log, at, state, events)? {
+            return Ok(false);
+        }
+        lives.see(state, at);
+    }
+    Ok(true)
 }
 
 impl<'a> Past<'a> {
@@ -68,20 +91,34 @@ impl<'a> Past<'a> {
         log: &'a VatLog,
         at: usize,
         event: DecodedRecord,
-        mut lives: Lives,
+        lives: Lives,
     ) -> Result<Option<Past<'a>>, AllocError> {
-        match walk(alloc, log, at, &mut lives)? {
-            Some((state, events)) => Ok(Some(Past {
-                alloc,
-                log,
-                at,
-                event,
-                state,
-                events,
-                lives,
-            })),
-            None => Ok(None),
+        let mut past = Past {
+            alloc,
+            log,
+            at,
+            event,
+            state: VatState::new(alloc),
+            events: Vec::new(alloc),
+            lives,
+        };
+        if past.walk()? {
+            Ok(Some(past))
+        } else {
+            Ok(None)
         }
+    }
+
+    /// Takes the records before it, and says whether each of them can be applied.
+    fn walk(&mut self) -> Result<bool, AllocError> {
+        walk(
+            self.alloc,
+            self.log,
+            self.at,
+            &mut self.state,
+            &mut self.events,
+            &mut self.lives,
+        )
     }
 
     /// The record of this number and the log before it, with the numbers watched that it uses. None where a frame isn't

@@ -5,7 +5,7 @@ use std::fmt;
 use std::fmt::{Display, Formatter};
 
 /// How much of a vat's is open, to be shown as a list.
-#[derive(Clone, Copy, Debug)]
+#[derive(Clone, Copy)]
 pub struct OpenCounts {
     /// Own questions without a Return.
     unreturned: usize,

@@ -1,16 +1,16 @@
 //! Inputs that are bad or can't be read.
 
+use crate::inputs::bad_case::{put_form, put_refused, put_untied};
+use crate::inputs::bad_file::{put_kind, put_log_fault, put_order_fault};
+use crate::inputs::bad_frame::{message_sentence, outside_sentence, put_hex, put_last_frame};
+use crate::inputs::file_kind::FileKind;
 use crate::inputs::unread::{SearchingSource, put_unread};
 use bytes::Bytes;
 use case_files::RememberingSource;
-use input_notes::{
-    FileKind, message_sentence, outside_sentence, put_form, put_hex, put_kind, put_last_frame,
-    put_log_fault, put_order_fault, put_refused, put_untied,
-};
+use past_records::NoteText;
 use record_notes::Logs;
 use report_lines::Fault;
-use std::alloc::{AllocError, Global};
-use std::fmt::Write;
+use std::alloc::Global;
 use vat_log::LogError;
 
 /// The file that was asked for last, where it was read and is kept.
@@ -24,27 +24,25 @@ fn last_file<'a, S: RememberingSource>(source: &'a S) -> Option<&'a (String, Byt
     }
 }
 
-/// Appends the notes of the file that was read last and is bad: its name, and what it is or why it isn't what it was to be.
-fn put_bad<S: RememberingSource>(
+/// Appends the note of which file is bad, which was to be this.
+fn put_name(text: &mut NoteText, word: &str, name: &str) {
+    text.words("note: the bad ");
+    text.words(word);
+    text.words(" is ");
+    text.name(name);
+    text.words("\n");
+}
+
+/// Appends the notes of what a bad file is, or why it isn't what it was to be.
+fn put_bad_file(
     alloc: Global,
-    text: &mut String,
-    source: &S,
+    text: &mut NoteText,
+    file: &(String, Bytes),
     fault: Fault,
-) -> Result<(), AllocError> {
-    let (word, wanted) = match fault {
-        Fault::Log(_) => ("log", FileKind::Log),
-        Fault::Order(_) => ("order", FileKind::Order),
-        _ => ("case file", FileKind::Case),
-    };
-    if let Some(name) = source.last() {
-        let name = name.escape_debug();
-        write!(text, "note: the bad {word} is {name}\n")?;
-    }
-    let Some(file) = last_file(source) else {
-        return Ok(());
-    };
-    if put_kind(alloc, text, file, wanted)? {
-        return Ok(());
+    wanted: FileKind,
+) {
+    if put_kind(alloc, text, file, wanted) {
+        return;
     }
     match fault {
         Fault::Log(fault) => put_log_fault(text, fault, file.1.len()),
@@ -53,61 +51,77 @@ fn put_bad<S: RememberingSource>(
     }
 }
 
+/// Appends the notes of the file that was read last and is bad: its name, and what it is or why it isn't what it was to be.
+fn put_bad<S: RememberingSource>(alloc: Global, text: &mut NoteText, source: &S, fault: Fault) {
+    let (word, wanted) = match fault {
+        Fault::Log(_) => ("log", FileKind::Log),
+        Fault::Order(_) => ("order", FileKind::Order),
+        _ => ("case file", FileKind::Case),
+    };
+    if let Some(name) = source.last() {
+        put_name(text, word, name);
+    }
+    if let Some(file) = last_file(source) {
+        put_bad_file(alloc, text, file, fault, wanted);
+    }
+}
+
+/// Appends the note of how many bytes of a file are left out, from one on.
+fn put_left(text: &mut NoteText, name: &str, left: usize, end: usize) {
+    text.tell("note: the last # bytes of ", &[left as u64]);
+    text.name(name);
+    text.tell(" are left out, from byte # on\n", &[end as u64]);
+}
+
 /// Appends the notes of what is left out of the log that was read last, behind its whole records, which have so many bytes; and
 /// why.
 pub(crate) fn put_left_out<S: RememberingSource>(
-    text: &mut String,
+    text: &mut NoteText,
     source: &S,
     fault: LogError,
     end: usize,
-) -> Result<(), AllocError> {
-    let Some((name, bytes)) = last_file(source) else {
-        return Ok(());
-    };
-    let name = name.escape_debug();
-    let left = bytes.len().saturating_sub(end);
-    write!(
-        text,
-        "note: the last {left} bytes of {name} are left out, from byte {end} on\n"
-    )?;
-    put_log_fault(text, fault, bytes.len())
+) {
+    if let Some((name, bytes)) = last_file(source) {
+        put_left(text, name.as_str(), bytes.len().saturating_sub(end), end);
+        put_log_fault(text, fault, bytes.len());
+    }
+}
+
+/// Appends the note of why a frame isn't judged, or isn't read.
+pub(crate) fn put_unjudged(text: &mut NoteText, words: &str, sentence: &str) {
+    text.words(words);
+    text.words(sentence);
+    text.words("\n");
 }
 
 /// Appends the notes of a frame that isn't read, the last of a file or the one of the command line.
-fn put_frame<S: RememberingSource>(
-    alloc: Global,
-    text: &mut String,
-    source: &S,
-    fault: Fault,
-) -> Result<(), AllocError> {
+fn put_frame<S: RememberingSource>(alloc: Global, text: &mut NoteText, source: &S, fault: Fault) {
     if let Some(file) = last_file(source) {
         return put_last_frame(alloc, text, file, fault);
     }
     if let Fault::Outside(why) = fault {
-        let sentence = outside_sentence(why);
-        return write!(text, "note: not judged: {sentence}\n");
+        return put_unjudged(text, "note: not judged: ", outside_sentence(why));
     }
-    match message_sentence(fault) {
-        Some(sentence) => write!(text, "note: the frame isn't read: {sentence}\n"),
-        None => Ok(()),
+    if let Some(sentence) = message_sentence(fault) {
+        put_unjudged(text, "note: the frame isn't read: ", sentence);
     }
 }
 
 /// Appends the notes of a fault of the input.
 pub(crate) fn put_fault<S: SearchingSource>(
     alloc: Global,
-    text: &mut String,
+    text: &mut NoteText,
     source: &S,
     hex: Option<&str>,
     fault: Fault,
-) -> Result<(), AllocError> {
+) {
     let logs = Logs {
         files: source.kept(),
         findings: None,
     };
     match fault {
         Fault::CannotRead => put_unread(alloc, text, source),
-        Fault::OutOfMemory => Ok(()),
+        Fault::OutOfMemory => {}
         Fault::BadHex => put_hex(alloc, text, hex),
         Fault::Log(_) | Fault::Order(_) | Fault::Form => put_bad(alloc, text, source, fault),
         Fault::Refused(refusal) => put_refused(alloc, text, &logs, refusal),

@@ -1,0 +1,7 @@
+//! Connections that were judged by their bytes.
+
+mod byte_kind;
+mod lack_text;
+pub(crate) mod wire_found;
+mod wire_messages;
+pub(crate) mod wire_notes;

@@ -1,0 +1,99 @@
+//! The records of a log, with their frames read.
+
+use crate::note_text::NoteText;
+use exception_reasons::record_reason;
+use rpc_view::{Edition, Limits, RpcMessage, ViewError, read_bytes};
+use std::alloc::{AllocError, Global};
+use vat_log::{Record, VatLog};
+use vat_rules::edition_of;
+use vat_view::DecodedRecord;
+
+/// What the frame of a record says, or why it isn't read. None where it has no frame.
+///
+/// # Errors
+///
+/// Out of memory.
+pub fn message_of(
+    alloc: Global,
+    stored: &Record,
+    edition: Edition,
+) -> Result<Option<Result<RpcMessage, ViewError>>, AllocError> {
+    let Some(frame) = stored.body().frame() else {
+        return Ok(None);
+    };
+    match read_bytes(alloc, frame.clone()?, Limits::default(), edition) {
+        Ok(message) => Ok(Some(Ok(message))),
+        Err(ViewError::OutOfMemory) => Err(AllocError),
+        Err(fault) => Ok(Some(Err(fault))),
+    }
+}
+
+/// What the frame says of the record of this number, or why it isn't read. None where it has no frame.
+///
+/// # Errors
+///
+/// Out of memory.
+pub fn message_at(
+    alloc: Global,
+    log: &VatLog,
+    at: usize,
+) -> Result<Option<Result<RpcMessage, ViewError>>, AllocError> {
+    match log.get(at) {
+        Some(stored) => message_of(alloc, stored, edition_of(log)),
+        None => Ok(None),
+    }
+}
+
+/// A record as it is judged. None where its frame isn't read.
+///
+/// # Errors
+///
+/// Out of memory.
+pub fn decoded_as(
+    alloc: Global,
+    stored: &Record,
+    edition: Edition,
+) -> Result<Option<DecodedRecord>, AllocError> {
+    match DecodedRecord::read(alloc, stored.body(), Limits::default(), edition) {
+        Ok(event) => Ok(Some(event)),
+        Err(ViewError::OutOfMemory) => Err(AllocError),
+        Err(_) => Ok(None),
+    }
+}
+
+/// The record of this number as it is judged. None where its frame isn't read, or there is none.
+///
+/// # Errors
+///
+/// Out of memory.
+pub fn decoded(
+    alloc: Global,
+    log: &VatLog,
+    at: usize,
+) -> Result<Option<DecodedRecord>, AllocError> {
+    match log.get(at) {
+        Some(stored) => decoded_as(alloc, stored, edition_of(log)),
+        None => Ok(None),
+    }
+}
+
+/// Appends the reason that a record gives, behind these words; nothing where it gives none.
+pub fn put_reason_of(alloc: Global, text: &mut NoteText, stored: &Record, words: &str) {
+    match record_reason(alloc, stored.body()) {
+        Ok(Some(reason)) => {
+            text.words(words);
+            text.words("\"");
+            text.shown(&reason);
+            text.words("\"");
+        }
+        Ok(None) => {}
+        Err(AllocError) => text.refuse(),
+    }
+}
+
+/// Appends the reason that the record of this number gives, behind these words; nothing where it gives none.
+pub fn put_reason(alloc: Global, text: &mut NoteText, log: &VatLog, at: usize, words: &str) {
+    if let Some(stored) = log.get(at) {
+        put_reason_of(alloc, text, stored, words);
+    }
+}

@@ -1,10 +1,9 @@
 //! Where the explanation stops: which message is to blame.
 
 use crate::both_ends::Stuck;
-use crate::lack::Lack;
 use crate::vat::Vat;
 use std::alloc::AllocError;
-use wire_cut::End;
+use wire_cut::{End, Lack};
 
 /// Which message is to blame.
 #[derive(Clone, Copy, Debug, PartialEq, Eq)]
@@ -17,8 +16,8 @@ pub enum Blame {
 
 /// What an end's next message lacks when all that is left of the peer's file has been received.
 fn lack_in_the_end(vat: &mut Vat<'_>) -> Result<Option<Lack>, AllocError> {
-    vat.log.mute();
-    let all = vat.peer().messages.len();
+    vat.notes.log.mute();
+    let all = vat.files.peer().messages.len();
     vat.receive_rest(all)?;
     vat.hurried = Some(vat.sent);
     vat.blocked()
@@ -56,7 +55,7 @@ pub(crate) fn find_blame(
 
 /// Sends and receives what is left of both files at one end, also what the peer hasn't sent.
 pub(crate) fn borrow_all(vat: &mut Vat<'_>) -> Result<(), AllocError> {
-    let all = vat.peer().messages.len();
+    let all = vat.files.peer().messages.len();
     let _ = vat.advance(all)?;
     Ok(())
 }

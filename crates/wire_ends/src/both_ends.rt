@@ -1,20 +1,13 @@
 //! The order in which both ends send and receive.
 
-use crate::lack::Lack;
 use crate::vat::Vat;
 use std::alloc::AllocError;
-use wire_plan::Kind;
+use wire_cut::Lack;
 
 impl Vat<'_> {
     /// Whether the peer's next message may be received now: it is sent, and nothing may be sent behind it that couldn't before.
     fn may_receive(&self, peers_sent: usize) -> bool {
-        if self.received >= peers_sent {
-            return false;
-        }
-        match self.peer_message(self.received) {
-            Some(message) => message.kind != Kind::Abort && message.kind != Kind::Unread,
-            None => false,
-        }
+        self.received < peers_sent && self.files.is_receivable(self.received)
     }
 
     /// Sends and receives as far as it goes: it receives as late as it can. Whether anything moved, and what the next message
@@ -25,7 +18,7 @@ impl Vat<'_> {
     ) -> Result<(bool, Option<Lack>), AllocError> {
         let mut moved = false;
         for _ in 0..u64::MAX {
-            if self.is_done() {
+            if self.files.is_done(self.sent) {
                 return Ok((moved, None));
             }
             match self.blocked()? {

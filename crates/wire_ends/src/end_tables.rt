@@ -42,6 +42,34 @@ impl Question {
         }
     }
 
+    /// The question with its Return, the frame of this place.
+    pub(crate) fn returned(self, place: usize, is_light: bool) -> Question {
+        Question {
+            answer: Some(place),
+            is_late: self.is_released,
+            is_light,
+            ..self
+        }
+    }
+
+    /// The frame of the Return whose capabilities its Finish gives back.
+    pub(crate) fn given_back(self, release: bool) -> Option<usize> {
+        if release && !self.is_late {
+            self.answer
+        } else {
+            None
+        }
+    }
+
+    /// The question with its Finish.
+    pub(crate) fn finished(self, release: bool) -> Question {
+        Question {
+            is_finished: true,
+            is_released: release,
+            ..self
+        }
+    }
+
     /// Whether its number may be opened again.
     pub(crate) fn is_free(&self) -> bool {
         self.answer.is_some() && (self.is_finished || self.is_light)
@@ -138,4 +166,9 @@ pub(crate) struct AwaitedEcho {
     pub view: Option<EndView>,
     /// How many calls there were before it.
     pub calls: usize,
+}
+
+/// The number of a call in the log.
+pub(crate) fn call_number(call: usize) -> u64 {
+    (call as u64).saturating_add(1)
 }

@@ -9,11 +9,9 @@
 mod blame;
 mod both_ends;
 mod end_tables;
-mod lack;
 mod made_logs;
 mod queue;
 mod vat;
 
 pub use blame::Blame;
-pub use lack::{Lack, Waiting};
 pub use made_logs::{MadeLogs, Making, make_logs};

@@ -5,13 +5,12 @@ ghost use Rattle.wire_ends.specs.Made.{HasMade};
 
 use crate::blame::{Blame, borrow_all, find_blame};
 use crate::both_ends::{Stuck, run_both};
-use crate::lack::{Lack, Waiting};
 use crate::vat::Vat;
 use bytes::Bytes;
 use std::alloc::{AllocError, Global};
 use std::sync::Arc;
 use vat_log::VatLog;
-use wire_cut::End;
+use wire_cut::{End, Lack, Waiting};
 use wire_plan::{WirePlan, plan_wire};
 use wire_steps::{EndStep, LogFault, TooLongAt, log_of};
 
@@ -60,10 +59,17 @@ fn send_blamed(a: &mut Vat<'_>, b: &mut Vat<'_>, blame: Blame) -> Result<(), All
 /// The message of an end that waits.
 fn waiting(vat: &Vat<'_>, lack: Option<Lack>) -> Option<Waiting> {
     Some(Waiting {
-        end: vat.end,
+        end: vat.files.end,
         message: vat.sent as u64,
         lack: lack?,
     })
+}
+
+/// How far both ends came.
+#[derive(Clone, Copy)]
+struct Standstill {
+    blame: Option<Blame>,
+    waiting: [Option<Waiting>; 2],
 }
 
 /// What is made up of both ends.
@@ -71,33 +77,16 @@ fn waiting(vat: &Vat<'_>, lack: Option<Lack>) -> Option<Waiting> {
 struct MadeUp {
     steps_of_a: Vec<EndStep>,
     steps_of_b: Vec<EndStep>,
-    blame: Option<Blame>,
-    waiting: [Option<Waiting>; 2],
+    stop: Standstill,
 }
 
-/// Both ends at their beginning.
-fn begin(alloc: Global, plan: &WirePlan) -> (Vat<'_>, Vat<'_>) {
-    (Vat::new(alloc, End::A, plan), Vat::new(alloc, End::B, plan))
-}
-
-/// What is made up of both ends, as they are.
-fn made_up(
-    ends: (Vat<'_>, Vat<'_>),
-    blame: Option<Blame>,
-    waiting: [Option<Waiting>; 2],
-) -> MadeUp {
-    let (a, b) = ends;
-    MadeUp {
-        steps_of_a: a.into_steps(),
-        steps_of_b: b.into_steps(),
-        blame,
-        waiting,
-    }
-}
-
-/// Which message is to blame, where nothing moves. None where a file has a message that isn't read, and all before is sent.
+/// Which message is to blame, where nothing moves. None where all is sent, or a file has a message that isn't read and all
+/// before is sent.
 fn blame_of(a: &mut Vat<'_>, b: &mut Vat<'_>, stuck: Stuck) -> Result<Option<Blame>, AllocError> {
-    if a.is_cut() || b.is_cut() {
+    if stuck.of_a.is_none() && stuck.of_b.is_none() {
+        return Ok(None);
+    }
+    if a.files.is_cut(a.sent) || b.files.is_cut(b.sent) {
         return Ok(None);
     }
     Ok(Some(find_blame(a, b, stuck)?))
@@ -113,27 +102,55 @@ fn run(a: &mut Vat<'_>, b: &mut Vat<'_>) -> Result<Stuck, AllocError> {
     Ok(stuck)
 }
 
-/// Lets both ends run once more, up to where nothing moves, and sends what is blamed.
-fn make_up_blamed(alloc: Global, plan: &WirePlan, blamed: Blame) -> Result<MadeUp, AllocError> {
-    let (mut a, mut b) = begin(alloc, plan);
-    let stuck = run(&mut a, &mut b)?;
-    let waiting = [waiting(&a, stuck.of_a), waiting(&b, stuck.of_b)];
-    send_blamed(&mut a, &mut b, blamed)?;
-    Ok(made_up((a, b), Some(blamed), waiting))
+/// Lets both ends run up to where nothing moves. Then what is blamed is sent, or, where nothing is yet, it is found out what is
+/// to blame; after that the ends are of no use.
+fn run_on(
+    a: &mut Vat<'_>,
+    b: &mut Vat<'_>,
+    blamed: Option<Blame>,
+) -> Result<Standstill, AllocError> {
+    let stuck = run(a, b)?;
+    let waiting = [waiting(a, stuck.of_a), waiting(b, stuck.of_b)];
+    let blame = match blamed {
+        Some(known) => {
+            send_blamed(a, b, known)?;
+            blamed
+        }
+        None => blame_of(a, b, stuck)?,
+    };
+    Ok(Standstill { blame, waiting })
 }
 
-/// Makes up both ends.
-fn make_up(alloc: Global, plan: &WirePlan) -> Result<MadeUp, AllocError> {
-    let (mut a, mut b) = begin(alloc, plan);
-    let stuck = run(&mut a, &mut b)?;
-    let waiting = [waiting(&a, stuck.of_a), waiting(&b, stuck.of_b)];
-    if stuck.of_a.is_none() && stuck.of_b.is_none() {
-        return Ok(made_up((a, b), None, waiting));
+/// What both ends, at their beginning, make up. They are lent, so that they are dropped in one place, whatever fails.
+fn made_up(a: &mut Vat<'_>, b: &mut Vat<'_>, blamed: Option<Blame>) -> Result<MadeUp, AllocError> {
+    let stop = run_on(a, b, blamed)?;
+    Ok(MadeUp {
+        steps_of_a: a.notes.take_steps(),
+        steps_of_b: b.notes.take_steps(),
+        stop,
+    })
+}
+
+/// Makes up both ends, where this message is to blame.
+fn make_up(alloc: Global, plan: &WirePlan, blamed: Option<Blame>) -> Result<MadeUp, AllocError> {
+    let mut a = Vat::new(alloc, End::A, plan);
+    let mut b = Vat::new(alloc, End::B, plan);
+    made_up(&mut a, &mut b, blamed)
+}
+
+/// Makes up both ends by a plan, and once more where a message is to blame.
+fn make_up_all(alloc: Global, plan: &WirePlan) -> Result<MadeUp, AllocError> {
+    let made = make_up(alloc, plan, None)?;
+    match made.stop.blame {
+        None => Ok(made),
+        blamed => make_up(alloc, plan, blamed),
     }
-    match blame_of(&mut a, &mut b, stuck)? {
-        None => Ok(made_up((a, b), None, waiting)),
-        Some(blamed) => make_up_blamed(alloc, plan, blamed),
-    }
+}
+
+/// Makes up both ends around the frames of both files.
+fn make_up_frames(alloc: Global, a: &[Bytes], b: &[Bytes]) -> Result<MadeUp, AllocError> {
+    let plan = plan_wire(alloc, a, b)?;
+    make_up_all(alloc, &plan)
 }
 
 /// The message at which an end's log would be too long.
@@ -156,13 +173,11 @@ fn no_log(end: End, fault: LogFault) -> Result<Making, AllocError>
 pub fn make_logs(alloc: Global, a: &[Bytes], b: &[Bytes]) -> Result<Making, AllocError>
     ensures { IfOk result (HasMade a.now b.now) }
 {
-    let plan = plan_wire(alloc, a, b)?;
     let MadeUp {
         steps_of_a,
         steps_of_b,
-        blame,
-        waiting,
-    } = make_up(alloc, &plan)?;
+        stop,
+    } = make_up_frames(alloc, a, b)?;
     let of_a = match log_of(alloc, VAT_OF_A, steps_of_a, a, b) {
         Ok(log) => log,
         Err(fault) => return no_log(End::A, fault),
@@ -175,7 +190,7 @@ pub fn make_logs(alloc: Global, a: &[Bytes], b: &[Bytes]) -> Result<Making, Allo
         log_of_a: of_a.log,
         log_of_b: of_b.log,
         is_whole: of_a.is_whole && of_b.is_whole,
-        blame,
-        waiting,
+        blame: stop.blame,
+        waiting: stop.waiting,
     }))
 }

@@ -3,7 +3,7 @@
 use std::alloc::{AllocError, Global};
 
 /// What a frame that opens a question, or a Return, belongs to.
-#[derive(Clone, Copy, Debug, PartialEq, Eq)]
+#[derive(Clone, Copy, PartialEq, Eq)]
 pub struct FrameTie {
     /// Of an opening its Return, of a Return its opening: a frame of the other end.
     pub pair: Option<usize>,

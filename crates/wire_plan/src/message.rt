@@ -1,7 +1,7 @@
 //! Messages in a short form.
 
 /// What a message is meant for. A path is a number of [`Paths`](crate::Paths).
-#[derive(Clone, Copy, Debug, PartialEq, Eq, PartialOrd, Ord)]
+#[derive(Clone, Copy, PartialEq, Eq, PartialOrd, Ord)]
 pub enum Aim {
     /// A number of the receiver's exports.
     Import(u32),
@@ -10,7 +10,7 @@ pub enum Aim {
 }
 
 /// An entry of a capability table.
-#[derive(Clone, Copy, Debug, PartialEq, Eq)]
+#[derive(Clone, Copy, PartialEq, Eq)]
 pub enum Entry {
     /// No capability.
     NoCap,
@@ -25,7 +25,7 @@ pub enum Entry {
 }
 
 /// What a Return says of its call.
-#[derive(Clone, Copy, Debug, PartialEq, Eq)]
+#[derive(Clone, Copy, PartialEq, Eq)]
 pub enum ReturnKind {
     /// Here they are.
     There,
@@ -40,7 +40,7 @@ pub enum ReturnKind {
 }
 
 /// What a frame says, without its capability table and the places of capabilities in the content.
-#[derive(Clone, Copy, Debug, PartialEq, Eq)]
+#[derive(Clone, Copy, PartialEq, Eq)]
 pub enum Kind {
     /// Bootstrap, with its question.
     Bootstrap(u32),
@@ -88,7 +88,7 @@ pub enum Kind {
 }
 
 /// A place in the content that has a capability: its path, and its index into the table.
-#[derive(Clone, Copy, Debug, PartialEq, Eq)]
+#[derive(Clone, Copy, PartialEq, Eq)]
 pub struct Named {
     /// The path.
     pub path: u32,
@@ -97,7 +97,7 @@ pub struct Named {
 }
 
 /// A frame's message in the short form.
-#[derive(Debug, Drop)]
+#[derive(Drop)]
 pub struct Planned {
     /// What it says.
     pub kind: Kind,

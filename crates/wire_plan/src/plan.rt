@@ -41,7 +41,6 @@ impl Drop for FilePlan {
 }
 
 /// What both files tell.
-#[derive(Drop)]
 pub struct WirePlan {
     of_a: FilePlan,
     of_b: FilePlan,
@@ -51,6 +50,18 @@ pub struct WirePlan {
     passing_of_b: Passing,
     /// The paths that are named in them.
     pub paths: Paths,
+}
+
+impl Drop for WirePlan {
+    fn drop(self) {
+        let Self {
+            of_a: _,
+            of_b: _,
+            passing_of_a: _,
+            passing_of_b: _,
+            paths: _,
+        } = self;
+    }
 }
 
 impl FilePlan {
@@ -164,12 +175,8 @@ impl FileLook {
     }
 }
 
-/// The plan of one file, without what its frames have to do with the other one's.
-fn plan_file(
-    alloc: Global,
-    messages: Vec<Planned>,
-    groups: Groups,
-) -> Result<FilePlan, AllocError> {
+/// Which frames of one file belong together, and which paths it names.
+fn look_through(alloc: Global, messages: &[Planned]) -> Result<(Ties, NamedPaths), AllocError> {
     let mut looking = FileLook {
         current: RisingTable::new(alloc),
         ties: Ties::new(alloc, messages.len())?,
@@ -183,6 +190,13 @@ fn plan_file(
         ties,
         named,
     } = looking;
+    Ok((ties, named))
+}
+
+/// The plan of one file, without what its frames have to do with the other one's.
+fn plan_file(alloc: Global, frames: &[Bytes], paths: &mut Paths) -> Result<FilePlan, AllocError> {
+    let (messages, groups) = read_file(alloc, frames, paths)?;
+    let (ties, named) = look_through(alloc, &messages)?;
     let leading = Leading::of(alloc, &messages, &groups)?;
     Ok(FilePlan {
         messages,
@@ -252,31 +266,48 @@ fn pass_one(
     Ok(())
 }
 
-/// The other end's Calls that the own file leads back.
-fn calls_led_back(alloc: Global, own: &FilePlan, peer: &FilePlan) -> Result<Passing, AllocError> {
-    let mut passing = Passing::new(alloc);
+/// Takes in the other end's Calls that the own file leads back.
+fn lead_back(
+    alloc: Global,
+    own: &FilePlan,
+    peer: &FilePlan,
+    passing: &mut Passing,
+) -> Result<(), AllocError> {
     for (place, message) in peer.messages.iter().enumerate() {
-        pass_one(alloc, own, peer, place, message.kind, &mut passing)?;
+        pass_one(alloc, own, peer, place, message.kind, passing)?;
     }
-    Ok(passing)
+    Ok(())
+}
+
+impl WirePlan {
+    /// Finds out what the frames of either file have to do with the other one's.
+    fn join(&mut self, alloc: Global) -> Result<(), AllocError> {
+        pair(alloc, &mut self.of_a, &mut self.of_b)?;
+        pair(alloc, &mut self.of_b, &mut self.of_a)?;
+        lead_back(alloc, &self.of_a, &self.of_b, &mut self.passing_of_a)?;
+        lead_back(alloc, &self.of_b, &self.of_a, &mut self.passing_of_b)
+    }
+}
+
+/// The plans of both files by themselves.
+fn plan_files(alloc: Global, a: &[Bytes], b: &[Bytes]) -> Result<WirePlan, AllocError> {
+    let mut paths = Paths::new(alloc)?;
+    let of_a = plan_file(alloc, a, &mut paths)?;
+    let of_b = plan_file(alloc, b, &mut paths)?;
+    Ok(WirePlan {
+        of_a,
+        of_b,
+        passing_of_a: Passing::new(alloc),
+        passing_of_b: Passing::new(alloc),
+        paths,
+    })
 }
 
 /// The plans of the frames that the two ends sent. The only error is that memory ran out.
 pub fn plan_wire(alloc: Global, a: &[Bytes], b: &[Bytes]) -> Result<WirePlan, AllocError> {
-    let mut paths = Paths::new(alloc)?;
-    let (messages, groups) = read_file(alloc, a, &mut paths)?;
-    let mut of_a = plan_file(alloc, messages, groups)?;
-    let (messages, groups) = read_file(alloc, b, &mut paths)?;
-    let mut of_b = plan_file(alloc, messages, groups)?;
-    pair(alloc, &mut of_a, &mut of_b)?;
-    pair(alloc, &mut of_b, &mut of_a)?;
-    let passing_of_a = calls_led_back(alloc, &of_a, &of_b)?;
-    let passing_of_b = calls_led_back(alloc, &of_b, &of_a)?;
-    Ok(WirePlan {
-        of_a,
-        of_b,
-        passing_of_a,
-        passing_of_b,
-        paths,
-    })
+    let mut plan = plan_files(alloc, a, b)?;
+    match plan.join(alloc) {
+        Ok(()) => Ok(plan),
+        Err(failed) => Err(failed),
+    }
 }

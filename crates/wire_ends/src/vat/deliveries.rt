@@ -1,11 +1,10 @@
 //! Calls that wait: which of them are delivered.
 
-use crate::end_tables::CallPlace;
+use crate::end_tables::{CallPlace, call_number};
 use crate::vat::Vat;
 use crate::vat::views::{EndView, NextView};
 use crate::vat::walking::{MAX_TURNS, ViewWalk};
 use std::alloc::AllocError;
-use std::mem;
 
 impl Vat<'_> {
     /// The end of a view's walk where all that may be told early is told; None where it can lead nowhere.
@@ -13,7 +12,7 @@ impl Vat<'_> {
         let mut view = from;
         let mut circle = ViewWalk::new(from);
         for _ in 0..MAX_TURNS {
-            match self.turn_of(view) {
+            match self.turns.turn_of(view) {
                 NextView::Stops => return Ok(None),
                 NextView::To(next) => {
                     if circle.closes(next) {
@@ -33,31 +32,26 @@ impl Vat<'_> {
 
     /// DELIVER.
     fn deliver(&mut self, call: usize, object: u64) -> Result<(), AllocError> {
-        let number = self.number_of(call);
-        self.log.deliver(number, object)?;
-        self.move_call(call, CallPlace::Served);
-        self.wake(EndView::Field(call, 0))
+        self.notes.log.deliver(call_number(call), object)?;
+        self.turns.move_call(call, CallPlace::Served);
+        self.turns.wake(EndView::Field(call, 0))
     }
 
     /// Delivers a call that waits, if it leads to an object; else it hangs on what stops it.
     pub(crate) fn settle(&mut self, call: usize) -> Result<(), AllocError> {
-        if !self.is_here(call) {
-            return Ok(());
-        }
-        let Some(Some(goal)) = self.call(call).map(|state| state.goal) else {
+        let Some(goal) = self.turns.goal_of_waiting(call) else {
             return Ok(());
         };
         match self.end_of(goal)? {
             Some(EndView::Object(object)) => self.deliver(call, object),
-            Some(view) => Vat::list(&mut self.hanging, self.alloc, view.turning_key(), call),
+            Some(view) => self.turns.hang(view, call),
             None => Ok(()),
         }
     }
 
-    /// Looks again at the calls that were woken once.
-    fn settle_round(&mut self) -> Result<(), AllocError> {
-        let calls = mem::replace(&mut self.woken, Vec::new(self.alloc));
-        for call in &calls {
+    /// Looks again at these calls.
+    fn settle_all(&mut self, calls: &[usize]) -> Result<(), AllocError> {
+        for call in calls {
             self.settle(*call)?;
         }
         Ok(())
@@ -66,10 +60,10 @@ impl Vat<'_> {
     /// Looks again at the calls that were woken, and at those that wake of that.
     pub(crate) fn settle_woken(&mut self) -> Result<(), AllocError> {
         for _ in 0..u64::MAX {
-            if self.woken.is_empty() {
+            let Some(calls) = self.turns.take_woken() else {
                 break;
-            }
-            self.settle_round()?;
+            };
+            self.settle_all(&calls)?;
         }
         Ok(())
     }

@@ -1,83 +1,99 @@
 //! What is put into the log where a message is received: a function for each kind.
 
-use crate::end_tables::{AwaitedEcho, CallPlace, Held, Known, MadeCall, Question};
+use crate::end_tables::{AwaitedEcho, CallPlace, Known, MadeCall, Question, call_number};
 use crate::queue::Queue;
 use crate::vat::Vat;
-use crate::vat::counting::{give_back, give_back_all};
-use crate::vat::views::{EndView, NextView};
+use crate::vat::counting::give_back;
+use crate::vat::end_notes::NO_CALL;
+use crate::vat::views::EndView;
 use std::alloc::AllocError;
-use wire_plan::{Aim, Kind, Planned, ReturnKind};
+use wire_plan::{Aim, Kind, Planned};
 
-/// The call that is noted where none is.
-const NO_CALL: u64 = 0;
+/// A call that the peer's frame at this place brings.
+fn received_call(goal: Option<EndView>, place: CallPlace, opening: usize) -> MadeCall {
+    MadeCall {
+        goal,
+        place,
+        is_asked: false,
+        opening: Some(opening),
+        known: Known::NotYet,
+    }
+}
 
 impl Vat<'_> {
     /// Receives the next message of the peer's file.
     pub(crate) fn receive(&mut self) -> Result<(), AllocError> {
         let place = self.received;
-        let Some(message) = self.peer_message(place) else {
+        let Some(message) = self.files.peer_message(place) else {
             return Ok(());
         };
-        match message.kind {
-            Kind::Bootstrap(question) => self.receive_bootstrap(place, question)?,
-            Kind::Call { .. } => self.receive_call(place, message)?,
-            Kind::Return { .. } => self.receive_return(place, message)?,
-            Kind::Finish(question, release) => self.receive_finish(question, release)?,
-            Kind::Resolve(number, _) => self.receive_resolve(number, message)?,
-            Kind::Release(number, count) => {
-                self.receive_bare()?;
-                give_back(&mut self.exports, number, u64::from(count));
-            }
-            Kind::Loopback(number, aim) => self.receive_loopback(number, aim)?,
-            Kind::Echo(number, _) => {
-                self.receive_bare()?;
-                let _ = self.outstanding.replace(u64::from(number), false);
-            }
-            Kind::Abort | Kind::Unread => self.receive_bare()?,
-        }
+        self.receive_message(place, message)?;
         self.received = place.saturating_add(1);
         self.settle_woken()
     }
 
-    /// RECV without a call and without references.
-    fn receive_bare(&mut self) -> Result<(), AllocError> {
-        let references = Vec::new(self.alloc);
-        self.log.receive(NO_CALL, references)
+    /// Receives a message, the peer's at this place.
+    fn receive_message(&mut self, place: usize, message: &Planned) -> Result<(), AllocError> {
+        match message.kind {
+            Kind::Bootstrap(question) => self.receive_bootstrap(place, question),
+            Kind::Call { .. } => self.receive_call(place, message),
+            Kind::Return { .. } => self.receive_return(place, message),
+            Kind::Resolve(number, _) => self.receive_resolve(number, message),
+            Kind::Loopback(number, aim) => self.receive_loopback(number, aim),
+            _ => self.receive_plain(message.kind),
+        }
+    }
+
+    /// A message without a call, without references and without a target.
+    fn receive_plain(&mut self, kind: Kind) -> Result<(), AllocError> {
+        self.notes.receive_bare()?;
+        match kind {
+            Kind::Finish(question, release) => {
+                self.numbers.finished(self.files, question, release);
+            }
+            Kind::Release(number, count) => {
+                give_back(&mut self.numbers.exports, number, u64::from(count));
+            }
+            Kind::Echo(number, _) => {
+                let _ = self.outstanding.replace(u64::from(number), false);
+            }
+            _ => {}
+        }
+        Ok(())
+    }
+
+    /// A call that came with the peer's frame at this place answers the question of this number.
+    fn open_answer(&mut self, number: u32, question: Question) -> Result<(), AllocError> {
+        self.received_calls
+            .put(question.opening as u64, question.call)?;
+        self.numbers.answers.put(u64::from(number), question)
     }
 
     /// Bootstrap: the call is bound, and is served here.
     fn receive_bootstrap(&mut self, place: usize, question: u32) -> Result<(), AllocError> {
-        let call = self.new_call(MadeCall {
-            goal: None,
-            place: CallPlace::Served,
-            is_asked: false,
-            opening: Some(place),
-            known: Known::NotYet,
-        })?;
-        let number = self.number_of(call);
+        let call = self
+            .turns
+            .new_call(received_call(None, CallPlace::Served, place))?;
         let references = Vec::new(self.alloc);
-        self.log.receive(number, references)?;
-        self.received_calls.put(place as u64, call)?;
-        self.answers
-            .put(u64::from(question), Question::opened(call, place, false))?;
-        Ok(())
+        self.notes.log.receive(call_number(call), references)?;
+        self.open_answer(question, Question::opened(call, place, false))
     }
 
     /// A call waits: it is found by its goal and by its digest.
     fn wait(&mut self, call: usize, goal: Option<EndView>, digest: u64) -> Result<(), AllocError> {
-        if !self.is_here(call) {
+        if !self.turns.is_here(call) {
             return Ok(());
         }
         if let Some(goal) = goal {
             self.waiting
                 .entry(goal.key())?
                 .or_insert(Queue::new(self.alloc))
-                .wait(&self.calls, call)?;
+                .wait(&self.turns.calls, call)?;
         }
         self.digests
             .entry(digest)?
             .or_insert(Queue::new(self.alloc))
-            .wait(&self.calls, call)
+            .wait(&self.turns.calls, call)
     }
 
     /// Call: DELIVER at once if it leads to an object, else it waits.
@@ -92,152 +108,75 @@ impl Vat<'_> {
         else {
             return Ok(());
         };
-        let goal = self.view_of_peers(aim);
-        let call = self.new_call(MadeCall {
-            goal,
-            place: CallPlace::Here,
-            is_asked: false,
-            opening: Some(place),
-            known: Known::NotYet,
-        })?;
+        let goal = self.numbers.view_of_peers(aim);
+        let call = self
+            .turns
+            .new_call(received_call(goal, CallPlace::Here, place))?;
         let references = self.take_in_all(&message.table)?;
-        let number = self.number_of(call);
-        self.log.receive(number, references)?;
-        self.received_calls.put(place as u64, call)?;
-        self.answers.put(u64::from(question), Question::opened(call, place, yourself))?;
+        self.notes.log.receive(call_number(call), references)?;
+        self.open_answer(question, Question::opened(call, place, yourself))?;
         self.settle(call)?;
         self.wait(call, goal, digest)
-    }
-
-    /// What a Return that isn't late tells of an own question's call.
-    fn learn(
-        &mut self,
-        call: usize,
-        results: ReturnKind,
-        message: &Planned,
-    ) -> Result<(), AllocError> {
-        match results {
-            ReturnKind::There => {
-                for field in &message.fields {
-                    let view = message
-                        .entry(field.index)
-                        .and_then(|entry| self.view_of_received(entry));
-                    if let Some(view) = view {
-                        self.results.insert((call as u64, field.path), view)?;
-                    }
-                }
-                self.know(call, Known::Listed)
-            }
-            ReturnKind::TakenFrom(number) => match self.answer(number) {
-                Some(other) => self.know(call, Known::By(other.call)),
-                None => self.know(call, Known::Nothing),
-            },
-            ReturnKind::Exception | ReturnKind::Canceled => self.know(call, Known::Nothing),
-            ReturnKind::Elsewhere => Ok(()),
-        }
     }
 
     /// Return.
     fn receive_return(&mut self, place: usize, message: &Planned) -> Result<(), AllocError> {
         let Kind::Return {
             answer: number,
-            release,
             results,
-            light,
+            ..
         } = message.kind
         else {
             return Ok(());
         };
-        let question = self.question(number);
+        let question = self.numbers.question(number);
         let is_late = question.is_some_and(|question| question.is_released);
         let references = if is_late {
             Vec::new(self.alloc)
         } else {
             self.take_in_all(&message.table)?
         };
-        self.log.receive(NO_CALL, references)?;
+        self.notes.log.receive(NO_CALL, references)?;
         let Some(question) = question else {
             return Ok(());
         };
-        if release {
-            if let Some(opening) = self.message(question.opening) {
-                give_back_all(&mut self.exports, &opening.table);
-            }
-        }
-        let answered = Question {
-            answer: Some(place),
-            is_late,
-            is_light: light,
-            ..question
-        };
-        let _ = self.questions.replace(u64::from(number), answered);
+        self.numbers
+            .answered(self.files, place, message.kind, question);
         if is_late {
-            return self.know(question.call, Known::Nothing);
+            return self.turns.know(question.call, Known::Nothing);
         }
-        self.learn(question.call, results, message)
-    }
-
-    /// Finish.
-    fn receive_finish(&mut self, number: u32, release: bool) -> Result<(), AllocError> {
-        self.receive_bare()?;
-        let Some(question) = self.answer(number) else {
-            return Ok(());
-        };
-        if let (true, false, Some(answer)) = (release, question.is_late, question.answer) {
-            if let Some(answer) = self.message(answer) {
-                give_back_all(&mut self.exports, &answer.table);
-            }
-        }
-        let finished = Question {
-            is_finished: true,
-            is_released: release,
-            ..question
-        };
-        let _ = self.answers.replace(u64::from(number), finished);
-        Ok(())
+        self.turns
+            .learn(&self.numbers, question.call, results, message)
     }
 
     /// Resolve: the import turns, if it is held and waits for one.
     fn receive_resolve(&mut self, number: u32, message: &Planned) -> Result<(), AllocError> {
-        let held = self.import(number);
+        let held = self.numbers.import(number);
         let references = self.take_in_all(&message.table)?;
-        self.log.receive(NO_CALL, references)?;
+        self.notes.log.receive(NO_CALL, references)?;
         let Some(held) = held else {
             return Ok(());
         };
-        if held.count == 0 || !held.is_promise || held.is_resolved {
+        let Some(promise) = self.numbers.resolve_import(number, held) else {
             return Ok(());
-        }
-        let view = message
-            .entry(0)
-            .and_then(|entry| self.view_of_received(entry));
-        let turn = match view {
-            Some(view) => NextView::To(view),
-            None => NextView::Stops,
         };
-        if let EndView::Import(life) = held.view {
-            if let Some(life) = self.lives.get_mut(life) {
-                life.turn = turn;
-            }
-        }
-        let resolved = Held {
-            is_resolved: true,
-            ..held
+        let view = match message.entry(0) {
+            Some(entry) => self.numbers.view_of_received(entry),
+            None => None,
         };
-        let _ = self.imports.replace(u64::from(number), resolved);
-        self.wake(held.view)
+        self.turns.resolve(promise, view)
     }
 
     /// A senderLoopback: what its target leads to is told, as far as that may be.
     fn receive_loopback(&mut self, number: u32, aim: Aim) -> Result<(), AllocError> {
-        let view = self.view_of_peers(aim);
+        let view = self.numbers.view_of_peers(aim);
         if let Some(view) = view {
             let _ = self.end_of(view)?;
         }
-        self.receive_bare()?;
+        self.notes.receive_bare()?;
         let embargo = AwaitedEcho {
             view,
-            calls: self.calls.len(),
+            calls: self.turns.calls.len(),
         };
         self.pending.put(u64::from(number), Some(embargo))?;
         Ok(())

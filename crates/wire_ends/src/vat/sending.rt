@@ -1,98 +1,93 @@
 //! What is put into the log where a message is sent: a function for each kind.
 
-use crate::end_tables::{AwaitedEcho, CallPlace, Held, Known, MadeCall, Question};
+use crate::end_tables::{AwaitedEcho, CallPlace, Known, MadeCall, Question, call_number};
 use crate::vat::Vat;
-use crate::vat::counting::{give_back, give_back_all};
+use crate::vat::counting::{begin, give_back, hold};
+use crate::vat::end_notes::NO_CALL;
 use crate::vat::views::EndView;
 use std::alloc::AllocError;
 use wire_plan::{Aim, Entry, Kind, Planned, ReturnKind};
 
-/// The call that is noted where none is.
-const NO_CALL: u64 = 0;
+/// A call that this end asks for, and that is nowhere here.
+fn asked_call() -> MadeCall {
+    MadeCall {
+        goal: None,
+        place: CallPlace::Gone,
+        is_asked: true,
+        opening: None,
+        known: Known::NotYet,
+    }
+}
 
 impl Vat<'_> {
     /// Sends the next message of the own file.
     pub(crate) fn send(&mut self) -> Result<(), AllocError> {
         let place = self.sent;
-        let Some(message) = self.message(place) else {
+        let Some(message) = self.files.message(place) else {
             return Ok(());
         };
-        match message.kind {
-            Kind::Bootstrap(question) => self.send_bootstrap(place, question)?,
-            Kind::Call { .. } => self.send_call(place, message)?,
-            Kind::Return { .. } => self.send_return(place, message)?,
-            Kind::Finish(question, release) => self.send_finish(question, release)?,
-            Kind::Resolve(promise, group) => self.send_resolve(promise, group, message)?,
-            Kind::Release(number, count) => {
-                self.send_bare()?;
-                give_back(&mut self.imports, number, u64::from(count));
-            }
-            Kind::Loopback(number, _) => {
-                self.send_bare()?;
-                self.outstanding.put(u64::from(number), true)?;
-            }
-            Kind::Echo(number, _) => self.send_echo(number)?,
-            Kind::Abort => {
-                self.send_bare()?;
-                self.is_aborted = true;
-            }
-            Kind::Unread => self.send_bare()?,
-        }
+        self.send_message(place, message)?;
         self.sent = place.saturating_add(1);
         self.settle_woken()
     }
 
-    /// SEND without a call and without references.
-    fn send_bare(&mut self) -> Result<(), AllocError> {
-        let references = Vec::new(self.alloc);
-        self.log.send(NO_CALL, references)
+    /// Sends a message, the own one at this place.
+    fn send_message(&mut self, place: usize, message: &Planned) -> Result<(), AllocError> {
+        match message.kind {
+            Kind::Bootstrap(question) => self.send_bootstrap(place, question),
+            Kind::Call { .. } => self.send_call(place, message),
+            Kind::Return { .. } => self.send_return(place, message),
+            Kind::Resolve(promise, group) => self.send_resolve(promise, group, message),
+            Kind::Echo(number, _) => self.send_echo(number),
+            _ => self.send_plain(message.kind),
+        }
+    }
+
+    /// A message without a call and without references, before which nothing is told.
+    fn send_plain(&mut self, kind: Kind) -> Result<(), AllocError> {
+        self.notes.send_bare()?;
+        match kind {
+            Kind::Finish(question, release) => self.numbers.finish(self.files, question, release),
+            Kind::Release(number, count) => {
+                give_back(&mut self.numbers.imports, number, u64::from(count));
+            }
+            Kind::Loopback(number, _) => self.outstanding.put(u64::from(number), true)?,
+            Kind::Abort => self.is_aborted = true,
+            _ => {}
+        }
+        Ok(())
     }
 
     /// Bootstrap: the call is bound.
     fn send_bootstrap(&mut self, place: usize, question: u32) -> Result<(), AllocError> {
-        let call = self.new_call(MadeCall {
-            goal: None,
-            place: CallPlace::Gone,
-            is_asked: true,
-            opening: None,
-            known: Known::NotYet,
-        })?;
-        let number = self.number_of(call);
+        let call = self.turns.new_call(asked_call())?;
         let references = Vec::new(self.alloc);
-        self.log.send(number, references)?;
-        self.questions
-            .put(u64::from(question), Question::opened(call, place, false))?;
-        Ok(())
+        self.notes.log.send(call_number(call), references)?;
+        self.numbers
+            .questions
+            .put(u64::from(question), Question::opened(call, place, false))
     }
 
     /// MAKE, through the reference of the target.
-    fn make(&mut self, kind: Kind, interface: u64, method: u16) -> Result<usize, AllocError> {
-        let reference = self.aimed(kind)?;
-        let call = self.new_call(MadeCall {
-            goal: None,
-            place: CallPlace::Gone,
-            is_asked: true,
-            opening: None,
-            known: Known::NotYet,
-        })?;
-        let number = self.number_of(call);
-        self.log.make(number, reference, interface, method)?;
+    fn make(&mut self, aim: Aim, interface: u64, method: u16) -> Result<usize, AllocError> {
+        let reference = self.aimed(aim)?;
+        let call = self.turns.new_call(asked_call())?;
+        self.notes
+            .log
+            .make(call_number(call), reference, interface, method)?;
         Ok(call)
     }
 
     /// A received call goes out again: what leads it to the target is told now.
     fn pass_on(&mut self, call: usize, aim: Aim, digest: u64) -> Result<(), AllocError> {
-        let target = self.view_of_own(aim);
-        let goal = self.call(call).and_then(|state| state.goal);
+        let target = self.numbers.view_of_own(aim);
+        let goal = self.turns.call(call).and_then(|state| state.goal);
         if let (Some(goal), Some(target)) = (goal, target) {
             self.tell_along(goal, target)?;
         }
-        if let Some(state) = self.calls.get_mut(call) {
-            state.place = CallPlace::Gone;
-            state.is_asked = true;
-        }
+        self.turns.pass_call_on(call);
         if let Some(queue) = self.digests.get_mut(&digest) {
-            queue.leave(&self.calls);
+            queue.leave(&self.turns.calls);
         }
         Ok(())
     }
@@ -115,14 +110,17 @@ impl Vat<'_> {
                 self.pass_on(call, aim, digest)?;
                 call
             }
-            None => self.make(message.kind, interface, method)?,
+            None => self.make(aim, interface, method)?,
         };
-        let references = self.references_of(&message.table)?;
-        let number = self.number_of(call);
-        self.log.send(number, references)?;
-        self.introduce(&message.table)?;
-        self.questions.put(u64::from(question), Question::opened(call, place, yourself))?;
-        Ok(())
+        self.send_table(call_number(call), &message.table)?;
+        self.numbers.questions.put(u64::from(question), Question::opened(call, place, yourself))
+    }
+
+    /// SEND with the call of this number and the references of a table, which introduces exports.
+    fn send_table(&mut self, number: u64, table: &[Entry]) -> Result<(), AllocError> {
+        let references = self.references_of(table)?;
+        self.notes.log.send(number, references)?;
+        self.introduce(table)
     }
 
     /// What has to be told before a Return that isn't late.
@@ -146,88 +144,35 @@ impl Vat<'_> {
         else {
             return Ok(());
         };
-        let question = self.answer(number);
-        let is_late = question.is_some_and(|question| question.is_released);
-        if let (Some(question), false) = (question, is_late) {
-            self.tell_return(question.call, results)?;
-        }
-        let references = if is_late {
-            Vec::new(self.alloc)
-        } else {
-            self.references_of(&message.table)?
-        };
-        self.log.send(NO_CALL, references)?;
-        if !is_late {
-            self.introduce(&message.table)?;
+        let question = self.numbers.answer(number);
+        match question {
+            Some(question) if question.is_released => self.notes.send_bare()?,
+            Some(question) => {
+                self.tell_return(question.call, results)?;
+                self.send_table(NO_CALL, &message.table)?;
+            }
+            None => self.send_table(NO_CALL, &message.table)?,
         }
         if let ReturnKind::TakenFrom(taken) = results {
-            self.take(taken);
+            self.numbers.take_results(taken);
         }
-        match question {
-            Some(question) => self.returned(place, message.kind, question),
-            None => Ok(()),
+        if let Some(question) = question {
+            self.turns.give_up(question.call, results);
+            self.numbers
+                .returned(self.files, place, message.kind, question);
         }
-    }
-
-    /// The results of an own question are taken.
-    fn take(&mut self, number: u32) {
-        if let Some(question) = self.question(number) {
-            let taken = Question {
-                is_taken: true,
-                ..question
-            };
-            let _ = self.questions.replace(u64::from(number), taken);
-        }
-    }
-
-    /// A question of the peer has its Return, the own message of this kind and place.
-    fn returned(&mut self, place: usize, kind: Kind, question: Question) -> Result<(), AllocError> {
-        let Kind::Return {
-            answer: number,
-            release,
-            results,
-            light,
-        } = kind
-        else {
-            return Ok(());
-        };
-        if release {
-            if let Some(opening) = self.peer_message(question.opening) {
-                give_back_all(&mut self.imports, &opening.table);
-            }
-        }
-        if let ReturnKind::Exception | ReturnKind::Canceled = results {
-            if self.is_here(question.call) {
-                self.move_call(question.call, CallPlace::Gone);
-            }
-        }
-        let answered = Question {
-            answer: Some(place),
-            is_late: question.is_released,
-            is_light: light,
-            ..question
-        };
-        let _ = self.answers.replace(u64::from(number), answered);
         Ok(())
     }
 
-    /// Finish.
-    fn send_finish(&mut self, number: u32, release: bool) -> Result<(), AllocError> {
-        self.send_bare()?;
-        let Some(question) = self.question(number) else {
-            return Ok(());
-        };
-        if let (true, false, Some(answer)) = (release, question.is_late, question.answer) {
-            if let Some(answer) = self.peer_message(answer) {
-                give_back_all(&mut self.imports, &answer.table);
+    /// What the promise of a group becomes is told, at the latest before its Resolve.
+    fn tell_group(&mut self, group: usize, is_broken: bool) -> Result<(), AllocError> {
+        if let (_, EndView::Vow(place)) = self.promised(group)? {
+            if is_broken {
+                self.turns.break_promise(&mut self.notes.log, place)?;
+            } else {
+                let _ = self.tell_promise(place, true)?;
             }
         }
-        let finished = Question {
-            is_finished: true,
-            is_released: release,
-            ..question
-        };
-        let _ = self.questions.replace(u64::from(number), finished);
         Ok(())
     }
 
@@ -239,25 +184,36 @@ impl Vat<'_> {
         message: &Planned,
     ) -> Result<(), AllocError> {
         if let Some(group) = group {
-            if let (_, EndView::Vow(place)) = self.promised(group)? {
-                match message.entry(0) {
-                    None | Some(Entry::NoCap) => self.break_promise(place)?,
-                    Some(_) => {
-                        let _ = self.tell_promise(place, true)?;
-                    }
-                }
-            }
+            let is_broken = match message.entry(0) {
+                None | Some(Entry::NoCap) => true,
+                Some(_) => false,
+            };
+            self.tell_group(group, is_broken)?;
         }
         let references = self.references_of(&message.table)?;
-        self.log.send(NO_CALL, references)?;
-        if let Some(held) = self.held_export(number) {
-            let resolved = Held {
-                is_resolved: true,
-                ..held
-            };
-            let _ = self.exports.replace(u64::from(number), resolved);
-        }
+        self.notes.log.send(NO_CALL, references)?;
+        self.numbers.resolve_export(number);
         self.introduce(&message.table)
+    }
+
+    /// An own table goes out: it introduces exports.
+    fn introduce(&mut self, entries: &[Entry]) -> Result<(), AllocError> {
+        for entry in entries {
+            match entry {
+                Entry::Hosted(number) | Entry::Promised(number, _)
+                    if hold(&mut self.numbers.exports, *number) => {}
+                Entry::Hosted(number) => {
+                    let view = EndView::Object(u64::from(*number));
+                    begin(&mut self.numbers.exports, *number, false, view)?;
+                }
+                Entry::Promised(number, group) => {
+                    let (_, view) = self.promised(*group)?;
+                    begin(&mut self.numbers.exports, *number, true, view)?;
+                }
+                _ => {}
+            }
+        }
+        Ok(())
     }
 
     /// The calls that wait with this goal and came before a senderLoopback.
@@ -268,7 +224,7 @@ impl Vat<'_> {
         };
         if let Some(waiting) = self.waiting.get(&view.key()) {
             for call in waiting.iter() {
-                if *call < embargo.calls && self.is_here(*call) {
+                if *call < embargo.calls && self.turns.is_here(*call) {
                     calls.push(*call)?;
                 }
             }
@@ -276,19 +232,24 @@ impl Vat<'_> {
         Ok(calls)
     }
 
+    /// FAULT of each of these calls.
+    fn fail_all(&mut self, calls: &[usize]) -> Result<(), AllocError> {
+        for call in calls {
+            self.notes.log.fail(call_number(*call))?;
+            self.turns.move_call(*call, CallPlace::Gone);
+            self.turns.know(*call, Known::Nothing)?;
+        }
+        Ok(())
+    }
+
     /// Echo: before it FAULT of each call that waits for the same target.
     fn send_echo(&mut self, number: u32) -> Result<(), AllocError> {
         let key = u64::from(number);
         if let Some(Some(embargo)) = self.pending.get(key).copied() {
             let calls = self.held_up(&embargo)?;
-            for call in &calls {
-                let number = self.number_of(*call);
-                self.log.fail(number)?;
-                self.move_call(*call, CallPlace::Gone);
-                self.know(*call, Known::Nothing)?;
-            }
+            self.fail_all(&calls)?;
         }
-        self.send_bare()?;
+        self.notes.send_bare()?;
         let _ = self.pending.replace(key, None);
         Ok(())
     }

@@ -1,9 +1,12 @@
 //! Where views lead.
 
-use crate::end_tables::{Becomes, CallPlace, Known};
-use crate::vat::Vat;
+use crate::end_tables::{Becomes, CallPlace, Known, Question};
+use crate::vat::end_files::EndFiles;
+use crate::vat::end_numbers::EndNumbers;
+use crate::vat::end_turns::EndTurns;
 use crate::vat::views::{EndView, NextView};
-use wire_plan::{Entry, Kind, Planned, ReturnKind};
+use wire_cut::Lack;
+use wire_plan::{Aim, ReturnKind};
 
 /// A walk along turns, which finds out where it goes in a circle.
 #[derive(Drop)]
@@ -41,51 +44,18 @@ impl ViewWalk {
     }
 }
 
-impl<'a> Vat<'a> {
-    /// The own Return that answers a received call.
-    pub(crate) fn return_of(&self, call: usize) -> Option<&'a Planned> {
-        let opening = self.call(call)?.opening?;
-        self.message(self.peer().ties.pair_of(opening)?)
-    }
+/// What an end knows of where views lead, and what its own file says of that.
+#[derive(Clone, Copy)]
+pub(crate) struct LookAhead<'a> {
+    pub files: EndFiles<'a>,
+    pub numbers: &'a EndNumbers,
+    pub turns: &'a EndTurns,
+}
 
+impl LookAhead<'_> {
     /// What the own Return says that answers a received call.
     pub(crate) fn results_of(&self, call: usize) -> Option<ReturnKind> {
-        match self.return_of(call)?.kind {
-            Kind::Return { results, .. } => Some(results),
-            _ => None,
-        }
-    }
-
-    /// Where a field of a call's results turned.
-    fn field_turn(&self, call: usize, path: u32) -> NextView {
-        let Some(state) = self.call(call) else {
-            return NextView::Stops;
-        };
-        match state.known {
-            Known::NotYet => NextView::Stays,
-            Known::Nothing => NextView::Stops,
-            Known::By(other) => NextView::To(EndView::Field(other, path)),
-            Known::Listed => match self.results.get(&(call as u64, path)) {
-                Some(view) => NextView::To(*view),
-                None => NextView::Stops,
-            },
-        }
-    }
-
-    /// Where a view turned.
-    pub(crate) fn turn_of(&self, view: EndView) -> NextView {
-        match view {
-            EndView::Object(_) => NextView::Stays,
-            EndView::Vow(place) => match self.promises.get(place) {
-                Some(promise) => promise.turn,
-                None => NextView::Stops,
-            },
-            EndView::Field(call, path) => self.field_turn(call, path),
-            EndView::Import(life) => match self.lives.get(life) {
-                Some(life) => life.turn,
-                None => NextView::Stops,
-            },
-        }
+        self.files.results_to(self.turns.call(call)?.opening?)
     }
 
     /// The other call whose results the own Return says a received call's are, where its question is open.
@@ -93,7 +63,7 @@ impl<'a> Vat<'a> {
         let Some(ReturnKind::TakenFrom(number)) = self.results_of(call) else {
             return None;
         };
-        let question = self.unfinished_question(number)?;
+        let question = self.numbers.unfinished_question(number)?;
         if question.call == call {
             None
         } else {
@@ -101,22 +71,24 @@ impl<'a> Vat<'a> {
         }
     }
 
+    /// What a promise of this end would stand for now.
+    fn vow_ahead(&self, place: usize) -> Option<EndView> {
+        match self.turns.promises.get(place)?.becomes {
+            Becomes::Entry(entry) => self.numbers.view_of_entry(entry),
+            Becomes::Broken | Becomes::Untold => None,
+        }
+    }
+
     /// Where a view would turn if what the own file says were told now.
-    pub(crate) fn turn_ahead(&self, view: EndView) -> NextView {
-        let turn = self.turn_of(view);
+    fn turn_ahead(&self, view: EndView) -> NextView {
+        let turn = self.turns.turn_of(view);
         if turn != NextView::Stays {
             return turn;
         }
         let ahead = match view {
             EndView::Object(_) | EndView::Import(_) => None,
-            EndView::Vow(place) => match self.promises.get(place) {
-                Some(promise) => match promise.becomes {
-                    Becomes::Entry(entry) => self.view_of_entry(entry),
-                    Becomes::Broken | Becomes::Untold => None,
-                },
-                None => None,
-            },
-            EndView::Field(call, path) => match self.call(call) {
+            EndView::Vow(place) => self.vow_ahead(place),
+            EndView::Field(call, path) => match self.turns.call(call) {
                 Some(state) if state.place == CallPlace::Served => match self.taken_by(call) {
                     Some(other) => Some(EndView::Field(other, path)),
                     None => None,
@@ -149,42 +121,80 @@ impl<'a> Vat<'a> {
         false
     }
 
-    /// Whether a view is reached over the connection.
-    fn is_over(&self, view: EndView) -> bool {
-        match view {
-            EndView::Object(_) | EndView::Vow(_) => false,
-            EndView::Import(_) => true,
-            EndView::Field(call, _) => match self.call(call) {
-                Some(state) => state.is_asked,
-                None => false,
-            },
+    /// Whether a call waits here and leads to where the own Call with this digest goes.
+    pub(crate) fn may_pass(&self, call: usize, digest: u64, target: EndView) -> bool {
+        let Some(state) = self.turns.call(call) else {
+            return false;
+        };
+        let (Some(goal), Some(opening)) = (state.goal, state.opening) else {
+            return false;
+        };
+        state.place == CallPlace::Here
+            && self.files.digest_of(opening) == Some(digest)
+            && self.leads_ahead(goal, target)
+    }
+
+    /// Whether no Return takes another question's results for this call.
+    pub(crate) fn is_returned_itself(&self, call: usize) -> bool {
+        match self.results_of(call) {
+            Some(ReturnKind::TakenFrom(_)) => false,
+            _ => true,
         }
     }
 
-    /// Whether a view leads to something that isn't reached over the connection.
-    pub(crate) fn leads_elsewhere(&self, from: EndView) -> bool {
-        let mut view = from;
-        let mut circle = ViewWalk::new(from);
-        for _ in 0..MAX_TURNS {
-            if !self.is_over(view) {
-                return true;
-            }
-            let NextView::To(next) = self.turn_of(view) else {
-                return false;
-            };
-            if circle.closes(next) {
-                return false;
-            }
-            view = next;
+    /// Whether a call will have results: its Return has them, or they are elsewhere.
+    pub(crate) fn has_results(&self, call: usize) -> bool {
+        match self.results_of(call) {
+            Some(ReturnKind::There | ReturnKind::Elsewhere | ReturnKind::TakenFrom(_)) => true,
+            Some(ReturnKind::Exception | ReturnKind::Canceled) | None => false,
         }
-        false
     }
 
-    /// Whether an entry of an own table goes out as something of the peer's.
-    pub(crate) fn is_peers(entry: Entry) -> bool {
-        match entry {
-            Entry::ReceiverHosted(_) | Entry::ReceiverAnswer(_, _) => true,
-            Entry::NoCap | Entry::Hosted(_) | Entry::Promised(_, _) => false,
+    /// Where the target of an echo leads, if what was said of the senderLoopback's own target may lead there.
+    pub(crate) fn echoed(&self, view: Option<EndView>, aim: Aim) -> Option<(EndView, EndView)> {
+        let (view, target) = (view?, self.numbers.view_of_own(aim)?);
+        if self.leads_ahead(view, target) {
+            Some((view, target))
+        } else {
+            None
+        }
+    }
+
+    /// A senderLoopback: its target leads to what isn't over this connection.
+    pub(crate) fn lack_of_loop(&self, number: u32, aim: Aim) -> Option<Lack> {
+        if let Some(lack) = self.numbers.lack_of_aim(aim) {
+            return Some(lack);
+        }
+        match self.numbers.view_of_own(aim) {
+            Some(view) if self.turns.leads_elsewhere(view) => None,
+            _ => Some(Lack::LeadsElsewhere(number)),
+        }
+    }
+
+    /// A Return that takes results: the question that it names may be taken from, and answers its call.
+    pub(crate) fn lack_of_taking(
+        &self,
+        number: u32,
+        question: Question,
+        taken: u32,
+    ) -> Option<Lack> {
+        let other = match self.numbers.unfinished_question(taken) {
+            Some(other) if other.is_tail && !other.is_taken => other,
+            _ => return Some(Lack::QuestionTakeable(taken)),
+        };
+        if question.is_released {
+            return None;
+        }
+        let state = self.turns.call(question.call)?;
+        let is_answered = match state.known {
+            Known::By(by) => by == other.call,
+            Known::NotYet => state.place == CallPlace::Served || other.call == question.call,
+            Known::Listed | Known::Nothing => other.call == question.call,
+        };
+        if is_answered {
+            None
+        } else {
+            Some(Lack::CallAnswered(number))
         }
     }
 }

@@ -5,8 +5,9 @@ _vataudit_options() {
     case $1 in
         check) echo "--workers=" ;;
         order) echo "--out=" ;;
-        graph) echo "--dot" ;;
-        draw) echo "--out= --from= --count= --html" ;;
+        graph) echo "--dot --workers=" ;;
+        run) echo "--workers=" ;;
+        draw) echo "--out= --from= --count= --html --workers=" ;;
         records) echo "--from= --count=" ;;
         frame) echo "--later" ;;
         migrate) echo "--out= --later" ;;

@@ -6,12 +6,10 @@ use Rattle.command_line.specs.Spelled.{IsReader}
 
 -- the commands that read one thing
 pub data Reader : Type 0 where
-  of_run : Reader
   of_vat : Reader
   of_frames : Reader
 
 abbrev pub word_of : Reader → Text
-word_of of_run = codes "run"
 word_of of_vat = codes "vat"
 word_of of_frames = codes "frames"
 
@@ -19,6 +17,7 @@ word_of of_frames = codes "frames"
 pub data Named : Type 0 where
   reading : Reader → Named
   checking : Named
+  running : Named
   ordering : Named
   drawing : Named
   migrating : Named
@@ -32,6 +31,7 @@ pub data Named : Type 0 where
 abbrev pub name_of : Named → Text
 name_of (reading r) = word_of r
 name_of checking = codes "check"
+name_of running = codes "run"
 name_of ordering = codes "order"
 name_of drawing = codes "draw"
 name_of listing = codes "records"
@@ -58,7 +58,7 @@ pub which : (w : Text) → IsOneOf all_names w → ((c : Named) × (w ≡ name_o
 which w (inl is) = inl (checking, is)
 which w (inr (inl is)) = inl (ordering, is)
 which w (inr (inr (inl is))) = inl (graphing, is)
-which w (inr (inr (inr (inl is)))) = inl (reading of_run, is)
+which w (inr (inr (inr (inl is)))) = inl (running, is)
 which w (inr (inr (inr (inr (inl is))))) = inl (drawing, is)
 which w (inr (inr (inr (inr (inr (inl is)))))) = inl (reading of_vat, is)
 which w (inr (inr (inr (inr (inr (inr (inl is))))))) = inl (listing, is)
@@ -75,13 +75,13 @@ which w (inr (inr (inr (inr (inr (inr (inr (inr (inr (inr (inr (inr (inr (inr no
 abbrev by_name : Text → Named
 by_name w =
     if bytes_eq w (codes "check") then checking else (if bytes_eq w (codes "order") then ordering else (if bytes_eq w (codes "graph") then graphing
-    else (if bytes_eq w (codes "run") then reading of_run else (if bytes_eq w (codes "draw") then drawing else (if bytes_eq w (codes "vat") then reading of_vat
+    else (if bytes_eq w (codes "run") then running else (if bytes_eq w (codes "draw") then drawing else (if bytes_eq w (codes "vat") then reading of_vat
     else (if bytes_eq w (codes "records") then listing else (if bytes_eq w (codes "frame") then framing
     else (if bytes_eq w (codes "migrate") then migrating else (if bytes_eq w (codes "salvage") then salvaging else (if bytes_eq w (codes "wire") then wiring
     else (if bytes_eq w (codes "join") then joining else reading of_frames)))))))))))
 
 by_its_name : (c : Named) → by_name (name_of c) ≡ c
-by_its_name (reading of_run) = refl
+by_its_name running = refl
 by_its_name (reading of_vat) = refl
 by_its_name (reading of_frames) = refl
 by_its_name checking = refl
@@ -99,12 +99,12 @@ by_its_name joining = refl
 pub same_command : (a b : Named) → name_of a ≡ name_of b → a ≡ b
 same_command a b same = sym (by_its_name a) ∙ ap by_name same ∙ by_its_name b
 
--- a command that may be given one thing alone reads nothing else, or is `graph` or `frame`
-pub reader_of : (name : Text) → IsReader name → ((r : Reader) × (name ≡ word_of r)) ⊎ ((name ≡ name_of graphing) ⊎ (name ≡ name_of framing))
+-- a command that may be given one thing alone reads nothing else, or is `graph`, `frame` or `run`
+pub reader_of : (name : Text) → IsReader name → ((r : Reader) × (name ≡ word_of r)) ⊎ ((name ≡ name_of graphing) ⊎ ((name ≡ name_of framing) ⊎ (name ≡ name_of running)))
 reader_of name (inl is) = inr (inl is)
-reader_of name (inr (inl is)) = inl (of_run, is)
+reader_of name (inr (inl is)) = inr (inr (inr is))
 reader_of name (inr (inr (inl is))) = inl (of_vat, is)
-reader_of name (inr (inr (inr (inl is)))) = inr (inr is)
+reader_of name (inr (inr (inr (inl is)))) = inr (inr (inl is))
 reader_of name (inr (inr (inr (inr is)))) = inl (of_frames, is)
 
 -- a command that has none of the other names is `frames`
@@ -114,7 +114,7 @@ last_command checking name is no_check no_order no_graph no_run no_draw no_vat n
 last_command ordering name is no_check no_order no_graph no_run no_draw no_vat no_records no_frame no_migrate no_salvage no_wire no_join = absurd (no_order is)
 last_command drawing name is no_check no_order no_graph no_run no_draw no_vat no_records no_frame no_migrate no_salvage no_wire no_join = absurd (no_draw is)
 last_command graphing name is no_check no_order no_graph no_run no_draw no_vat no_records no_frame no_migrate no_salvage no_wire no_join = absurd (no_graph is)
-last_command (reading of_run) name is no_check no_order no_graph no_run no_draw no_vat no_records no_frame no_migrate no_salvage no_wire no_join = absurd (no_run is)
+last_command running name is no_check no_order no_graph no_run no_draw no_vat no_records no_frame no_migrate no_salvage no_wire no_join = absurd (no_run is)
 last_command (reading of_vat) name is no_check no_order no_graph no_run no_draw no_vat no_records no_frame no_migrate no_salvage no_wire no_join = absurd (no_vat is)
 last_command listing name is no_check no_order no_graph no_run no_draw no_vat no_records no_frame no_migrate no_salvage no_wire no_join = absurd (no_records is)
 last_command framing name is no_check no_order no_graph no_run no_draw no_vat no_records no_frame no_migrate no_salvage no_wire no_join = absurd (no_frame is)

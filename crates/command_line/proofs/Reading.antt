@@ -20,9 +20,9 @@ use Rattle.clap.specs.declared.builder.value_parser.ValueParser.TheVariants as p
 use Rattle.clap.proofs.OnLiterals.{clap_on_literals}
 use Rattle.command_line.proofs.Faultless.{first_none, never, then_none}
 use Rattle.command_line.proofs.Filled.{AllBring, AreFull, Brings, default_row, first_passes, given_value, level_full, no_default, parser_by, replaced_full, row_value, values_full, values_pass}
-use Rattle.command_line.proofs.Named.{IsOneOf, Named, Reader, all_names, checking, drawing, framing, graphing, help_word, joining, listing, migrating, name_of, of_frames, of_run, of_vat, ordering, reading, salvaging, which, wiring, word_of}
+use Rattle.command_line.proofs.Named.{IsOneOf, Named, Reader, all_names, checking, drawing, framing, graphing, help_word, joining, listing, migrating, name_of, of_frames, of_vat, ordering, reading, running, salvaging, which, wiring, word_of}
 use Rattle.command_line.proofs.One.{HasFile, at, dashes, help, holding, main, names, sub, word_plain, words_read}
-use Rattle.command_line.specs.Parser.{check, count, dot, draw, flag_rule, folder_rule, frame, graph, html, input, input_rule, join, later, logs_rule, migrate, most, number_rule, other, other_rule, path, path_rule, program, records, start, wire, workers, workers_rule, writer}
+use Rattle.command_line.specs.Parser.{auditor, count, dot, draw, flag_rule, folder_rule, frame, graph, html, input, input_rule, join, later, logs_rule, migrate, most, number_rule, other, other_rule, path, path_rule, program, records, start, wire, workers, workers_rule, writer}
 use Rattle.command_line.specs.Spelled.{IsChecked, SpellsOne}
 
 -- ---- the first word
@@ -71,7 +71,10 @@ first_main w e = elim (by_names w all_names e) [
 -- ---- the command that is entered
 
 abbrev check_sub : Shape
-check_sub = unwrap_or (slice_get (built program).subs 0) check.top
+check_sub = unwrap_or (slice_get (built program).subs 0) (auditor (codes "check")).top
+
+abbrev run_sub : Shape
+run_sub = unwrap_or (slice_get (built program).subs 3) (auditor (codes "run")).top
 
 abbrev order_sub : Shape
 order_sub = unwrap_or (slice_get (built program).subs 1) (writer (codes "order")).top
@@ -103,6 +106,7 @@ graph_sub = unwrap_or (slice_get (built program).subs 2) graph.top
 abbrev pub shape_by : Named → Shape
 shape_by (reading r) = sub (word_of r)
 shape_by checking = check_sub
+shape_by running = run_sub
 shape_by ordering = order_sub
 shape_by drawing = draw_sub
 shape_by listing = records_sub
@@ -124,7 +128,7 @@ stops h waiting n ended name seen (word ∷ words) =
 stop_at : (c : Named) (words : List Text) → (walk main.rules names nothing_held (name_of c ∷ words)).stopped ≡ Some (name_of c, words)
 unfolding walked
 stop_at graphing words = stops (holding None) idle 1 false (name_of graphing) [] words
-stop_at (reading of_run) words = stops (holding None) idle 1 false (word_of of_run) [] words
+stop_at running words = stops (holding None) idle 1 false (name_of running) [] words
 stop_at (reading of_vat) words = stops (holding None) idle 1 false (word_of of_vat) [] words
 stop_at (reading of_frames) words = stops (holding None) idle 1 false (word_of of_frames) [] words
 stop_at checking words = stops (holding None) idle 1 false (name_of checking) [] words
@@ -140,7 +144,7 @@ stop_at joining words = stops (holding None) idle 1 false (name_of joining) [] w
 -- the command that is entered reads the words that are left
 entered_level : (c : Named) (words : List Text) → entered_fault (built program) (Some (name_of c, words)) ≡ level_fault (shape_by c) [] nothing_held words false []
 entered_level graphing words = refl
-entered_level (reading of_run) words = refl
+entered_level running words = refl
 entered_level (reading of_vat) words = refl
 entered_level (reading of_frames) words = refl
 entered_level checking words = refl
@@ -155,7 +159,7 @@ entered_level joining words = refl
 
 entered_rows : (c : Named) (words : List Text) → entered (built program) (Some (name_of c, words)) ≡ Some (name_of c, rows_after (shape_by c).rules [] words)
 entered_rows graphing words = refl
-entered_rows (reading of_run) words = refl
+entered_rows running words = refl
 entered_rows (reading of_vat) words = refl
 entered_rows (reading of_frames) words = refl
 entered_rows checking words = refl
@@ -250,11 +254,12 @@ brings_number name is (v ∷ vs) rows e full =
 brings : (c : Named) → AllBring (shape_by c).args_override_self (shape_by c).rules
 brings (reading r) = (brings_case, tt, (brings_help, tt, tt))
 brings checking = (brings_case, tt, (brings_workers, (refl, tt), (brings_help, tt, tt)))
+brings running = (brings_case, tt, (brings_workers, (refl, tt), (brings_help, tt, tt)))
 brings ordering = (brings_case, tt, (brings_path, tt, (brings_help, tt, tt)))
 brings drawing =
-    (brings_case, tt, (brings_path, tt, (brings_number start refl, tt, (brings_number count refl, tt, (brings_flag html refl, (refl, tt), (brings_help, tt, tt))))))
+    (brings_case, tt, (brings_path, tt, (brings_number start refl, tt, (brings_number count refl, tt, (brings_flag html refl, (refl, tt), (brings_workers, (refl, tt), (brings_help, tt, tt)))))))
 brings migrating = (brings_case, tt, (brings_flag later refl, (refl, tt), (brings_path, tt, (brings_help, tt, tt))))
-brings graphing = (brings_case, tt, (brings_flag dot refl, (refl, tt), (brings_help, tt, tt)))
+brings graphing = (brings_case, tt, (brings_flag dot refl, (refl, tt), (brings_workers, (refl, tt), (brings_help, tt, tt))))
 brings salvaging = (brings_case, tt, (brings_path, tt, (brings_help, tt, tt)))
 brings wiring = (brings_case, tt, (brings_other, tt, (brings_folder, tt, (brings_help, tt, tt))))
 brings joining = (brings_logs, tt, (brings_path, tt, (brings_help, tt, tt)))
@@ -271,11 +276,22 @@ one_given : (a : Bool) → check_kinds false false (not a || false) ≡ [] → a
 one_given true e = refl
 one_given false e = absurd (never e)
 
--- and `--workers` stands for itself
-workers_there : (rows : List Row) → has_row workers (fold with_default rows check_sub.rules) ≡ true
-workers_there rows =
-    let before = with_default rows (with_index 1 (filled input_rule)) in
+-- and `--workers` stands for itself, which comes last but for --help
+workers_there : (before : List Row) → has_row workers (with_default (with_default before (filled workers_rule)) help) ≡ true
+workers_there before =
     subst (λ (rs : List Row). has_row workers rs ≡ true) (sym (no_default help (with_default before (filled workers_rule)) refl)) (default_row (filled workers_rule) _ _ before refl)
+
+-- what stands for the one thing and an option without a value
+abbrev after_case : List Row → List Row
+after_case rows = with_default rows (with_index 1 (filled input_rule))
+
+abbrev after_dot : List Row → List Row
+after_dot rows = with_default (after_case rows) (filled (flag_rule dot))
+
+abbrev after_page : List Row → List Row
+after_page rows =
+    with_default (with_default (with_default (with_default (after_case rows) (filled path_rule)) (filled (number_rule start 0 most))) (filled (number_rule count 0 most)))
+    (filled (flag_rule html))
 
 -- a number that was given
 checked : (least last : ℕ) (id : Text) (rows : List Row) → parser_by id ≡ parser.Unsigned least last → AreFull rows → IsChecked least last (first_of id rows)
@@ -285,17 +301,28 @@ checked least last id rows is full = go (first_of id rows) (first_passes id rows
     go None passes = tt
     go (Some t) passes = accepts-Accepts false (parser.Unsigned least last) t (rw is at passes)
 
+-- the number of workers
+abbrev pub AreWorkers : List Row → Type 0
+AreWorkers rows = (t : Text) × ((first_of workers rows ≡ Some t) × IsUnsignedIn 1 64 t)
+
+workers_in : (rows : List Row) → has_row workers rows ≡ true → AreFull rows → AreWorkers rows
+workers_in rows has full =
+    let many = row_value workers rows has full in
+    (many.0, (many.1, accepts-Accepts false (parser.Unsigned 1 64) many.0 many.2))
+
 -- what a command finds besides the one thing
 abbrev pub Besides : Named → List Text → List Row → Text → Type 0
 Besides (reading r) words rows file = SpellsOne (word_of r) words file
-Besides checking words rows file = (t : Text) × ((first_of workers rows ≡ Some t) × IsUnsignedIn 1 64 t)
+Besides checking words rows file = AreWorkers rows
+Besides running words rows file = AreWorkers rows
 Besides ordering words rows file = (out : Text) × (first_of path rows ≡ Some out)
-Besides drawing words rows file = (out : Text) × ((first_of path rows ≡ Some out) × IsChecked 0 most (first_of start rows) × IsChecked 0 most (first_of count rows))
+Besides drawing words rows file =
+    (out : Text) × ((first_of path rows ≡ Some out) × IsChecked 0 most (first_of start rows) × IsChecked 0 most (first_of count rows) × AreWorkers rows)
 Besides migrating words rows file = (out : Text) × (first_of path rows ≡ Some out)
 Besides salvaging words rows file = (out : Text) × (first_of path rows ≡ Some out)
 Besides wiring words rows file = (another : Text) × (first_of other rows ≡ Some another)
 Besides joining words rows file = (out : Text) × (first_of path rows ≡ Some out)
-Besides graphing words rows file = ⊤
+Besides graphing words rows file = AreWorkers rows
 Besides framing words rows file = ⊤
 Besides listing words rows file = IsChecked 0 most (first_of start rows) × IsChecked 0 most (first_of count rows)
 
@@ -316,8 +343,11 @@ finds_by (reading r) first rest e full none =
 finds_by checking first rest e full none =
     let rows = rows_after check_sub.rules [] rest in
     let file = given_value input rows (one_given (is_given input rows) none) full in
-    let many = row_value workers rows (workers_there (settled check_sub.rules (walk check_sub.rules [] nothing_held rest).held).rows) full in
-    (file.0, (file.1, (many.0, (many.1, accepts-Accepts false (parser.Unsigned 1 64) many.0 many.2))))
+    (file.0, (file.1, workers_in rows (workers_there (after_case (settled check_sub.rules (walk check_sub.rules [] nothing_held rest).held).rows)) full))
+finds_by running first rest e full none =
+    let rows = rows_after run_sub.rules [] rest in
+    let file = given_value input rows (one_given (is_given input rows) none) full in
+    (file.0, (file.1, workers_in rows (workers_there (after_case (settled run_sub.rules (walk run_sub.rules [] nothing_held rest).held).rows)) full))
 finds_by ordering first rest e full none =
     let rows = rows_after order_sub.rules [] rest in
     let given = both_given (is_given input rows) (is_given path rows) none in
@@ -329,7 +359,8 @@ finds_by drawing first rest e full none =
     let given = both_given (is_given input rows) (is_given path rows) none in
     let file = given_value input rows given.0 full in
     let out = given_value path rows given.1 full in
-    (file.0, (file.1, (out.0, (out.1, checked 0 most start rows refl full, checked 0 most count rows refl full))))
+    let many = workers_in rows (workers_there (after_page (settled draw_sub.rules (walk draw_sub.rules [] nothing_held rest).held).rows)) full in
+    (file.0, (file.1, (out.0, (out.1, checked 0 most start rows refl full, checked 0 most count rows refl full, many))))
 finds_by migrating first rest e full none =
     let rows = rows_after migrate_sub.rules [] rest in
     let given = both_given (is_given input rows) (is_given path rows) none in
@@ -357,7 +388,7 @@ finds_by joining first rest e full none =
 finds_by graphing first rest e full none =
     let rows = rows_after graph_sub.rules [] rest in
     let case = given_value input rows (one_given (is_given input rows) none) full in
-    (case.0, (case.1, tt))
+    (case.0, (case.1, workers_in rows (workers_there (after_dot (settled graph_sub.rules (walk graph_sub.rules [] nothing_held rest).held).rows)) full))
 finds_by framing first rest e full none =
     let rows = rows_after frame_sub.rules [] rest in
     let hex = given_value input rows (one_given (is_given input rows) none) full in

@@ -17,12 +17,12 @@ use Rattle.clap.specs.declared.error.ErrorKind.TheVariants.{ValueValidation}
 use Rattle.clap.specs.declared.builder.value_parser.ValueParser.{ValueParser}
 use Rattle.clap.specs.declared.builder.value_parser.ValueParser.TheVariants as parser
 use Rattle.clap.proofs.OnLiterals.{clap_on_literals}
-use Rattle.command_line.proofs.Named.{Reader, checking, drawing, framing, graphing, joining, listing, migrating, name_of, of_frames, of_run, of_vat, ordering, reader_of, salvaging, wiring, word_of}
+use Rattle.command_line.proofs.Named.{Reader, checking, drawing, framing, graphing, joining, listing, migrating, name_of, of_frames, of_vat, ordering, reader_of, running, salvaging, wiring, word_of}
 use Rattle.command_line.proofs.One.{at, dashes, given, holding, sub}
 use Rattle.command_line.proofs.Reading.{shape_by}
-use Rattle.command_line.specs.Parser.{most, path, program, start}
+use Rattle.command_line.specs.Parser.{most, path, program, start, workers}
 use Rattle.command_line.specs.Parser.{count as many}
-use Rattle.command_line.specs.Spelled.{IsReader, is_flag}
+use Rattle.command_line.specs.Spelled.{IsAuditor, IsReader, is_flag}
 
 -- ---- a word that is no flag
 
@@ -69,13 +69,11 @@ file_taken name file e =
 
 taken_by : (r : Reader) (first file : Text) → is_flag file ≡ false → fault_of program (first ∷ word_of r ∷ file ∷ []) ≡ []
 unfolding clap_on_literals
-taken_by of_run first file e = ap (λ (k : Kinds). or_else k []) (file_taken (word_of of_run) file e)
 taken_by of_vat first file e = ap (λ (k : Kinds). or_else k []) (file_taken (word_of of_vat) file e)
 taken_by of_frames first file e = ap (λ (k : Kinds). or_else k []) (file_taken (word_of of_frames) file e)
 
 taken_after_by : (r : Reader) (first file : Text) → fault_of program (first ∷ word_of r ∷ dashes ∷ file ∷ []) ≡ []
 unfolding clap_on_literals
-taken_after_by of_run first file = refl
 taken_after_by of_vat first file = refl
 taken_after_by of_frames first file = refl
 
@@ -105,6 +103,22 @@ graph_dot_words case e =
 pub takes_graph_dot : (first case : Text) → is_flag case ≡ false → fault_of program (first ∷ name_of graphing ∷ case ∷ codes "--dot" ∷ []) ≡ []
 unfolding clap_on_literals
 takes_graph_dot first case e = ap (λ (k : Kinds). or_else k []) (graph_dot_words case e)
+
+-- ---- run
+
+run_words : (case : Text) → is_flag case ≡ false → level_fault (shape_by running) [] nothing_held (case ∷ []) false [] ≡ []
+unfolding clap_on_literals
+run_words case e =
+    let is = plain_word_is case e in
+    rw (is.0, is.1, is.2) (refl {a = []})
+
+takes_run : (first case : Text) → is_flag case ≡ false → fault_of program (first ∷ name_of running ∷ case ∷ []) ≡ []
+unfolding clap_on_literals
+takes_run first case e = ap (λ (k : Kinds). or_else k []) (run_words case e)
+
+takes_run_after : (first case : Text) → fault_of program (first ∷ name_of running ∷ dashes ∷ case ∷ []) ≡ []
+unfolding clap_on_literals
+takes_run_after first case = refl
 
 -- ---- frame
 
@@ -138,7 +152,8 @@ pub takes_one : (first name file : Text) → IsReader name → is_flag file ≡ 
 takes_one first name file reads e = elim (reader_of name reads) [
   | inl r ↦ ap (λ (n : Text). fault_of program (first ∷ n ∷ file ∷ [])) r.1 ∙ taken_by r.0 first file e
   | inr (inl is) ↦ ap (λ (n : Text). fault_of program (first ∷ n ∷ file ∷ [])) is ∙ takes_graph first file e
-  | inr (inr is) ↦ ap (λ (n : Text). fault_of program (first ∷ n ∷ file ∷ [])) is ∙ takes_frame first file e
+  | inr (inr (inl is)) ↦ ap (λ (n : Text). fault_of program (first ∷ n ∷ file ∷ [])) is ∙ takes_frame first file e
+  | inr (inr (inr is)) ↦ ap (λ (n : Text). fault_of program (first ∷ n ∷ file ∷ [])) is ∙ takes_run first file e
 ]
 
 -- with `--` between them they have none, whatever the word is
@@ -146,7 +161,8 @@ pub takes_after_dashes : (first name file : Text) → IsReader name → fault_of
 takes_after_dashes first name file reads = elim (reader_of name reads) [
   | inl r ↦ ap (λ (n : Text). fault_of program (first ∷ n ∷ dashes ∷ file ∷ [])) r.1 ∙ taken_after_by r.0 first file
   | inr (inl is) ↦ ap (λ (n : Text). fault_of program (first ∷ n ∷ dashes ∷ file ∷ [])) is ∙ takes_graph_after first file
-  | inr (inr is) ↦ ap (λ (n : Text). fault_of program (first ∷ n ∷ dashes ∷ file ∷ [])) is ∙ takes_frame_after first file
+  | inr (inr (inl is)) ↦ ap (λ (n : Text). fault_of program (first ∷ n ∷ dashes ∷ file ∷ [])) is ∙ takes_frame_after first file
+  | inr (inr (inr is)) ↦ ap (λ (n : Text). fault_of program (first ∷ n ∷ dashes ∷ file ∷ [])) is ∙ takes_run_after first file
 ]
 
 -- ---- check
@@ -159,29 +175,41 @@ takes_check first case e =
     let level : level_fault (shape_by checking) [] nothing_held (case ∷ []) false [] ≡ [] = rw (is.0, is.1, is.2) (refl {a = []}) in
     ap (λ (k : Kinds). or_else k []) level
 
-workers_level : (case number : Text) (b : Bool) → is_flag case ≡ false → is_flag number ≡ false → accepts false (parser.Unsigned 1 64) number ≡ b
+check_level : (case number : Text) (b : Bool) → is_flag case ≡ false → is_flag number ≡ false → accepts false (parser.Unsigned 1 64) number ≡ b
     → level_fault (shape_by checking) [] nothing_held (case ∷ codes "--workers" ∷ number ∷ []) false [] ≡ (if b then [] else ValueValidation ∷ [])
 unfolding clap_on_literals
-workers_level case number true e h accepted =
+check_level case number true e h accepted =
     let is = plain_word_is case e in
     let are = plain_word_is number h in
     rw (is.0, is.1, is.2, are.0, are.1, are.2, accepted) (refl {a = []})
-workers_level case number false e h refused =
+check_level case number false e h refused =
     let is = plain_word_is case e in
     let are = plain_word_is number h in
     rw (is.0, is.1, is.2, are.0, are.1, are.2, refused) (refl {a = ValueValidation ∷ []})
 
-workers_by : (first case number : Text) (b : Bool) → is_flag case ≡ false → is_flag number ≡ false → accepts false (parser.Unsigned 1 64) number ≡ b
+check_by : (first case number : Text) (b : Bool) → is_flag case ≡ false → is_flag number ≡ false → accepts false (parser.Unsigned 1 64) number ≡ b
     → fault_of program (first ∷ name_of checking ∷ case ∷ codes "--workers" ∷ number ∷ []) ≡ (if b then [] else ValueValidation ∷ [])
 unfolding clap_on_literals
-workers_by first case number true e h accepted = ap (λ (k : Kinds). or_else k []) (workers_level case number true e h accepted)
-workers_by first case number false e h refused = ap (λ (k : Kinds). or_else k []) (workers_level case number false e h refused)
+check_by first case number true e h accepted = ap (λ (k : Kinds). or_else k []) (check_level case number true e h accepted)
+check_by first case number false e h refused = ap (λ (k : Kinds). or_else k []) (check_level case number false e h refused)
 
--- `check CASE --workers N` has none, where N is a number from 1 to 64
-pub takes_workers : (first case number : Text) → is_flag case ≡ false → IsUnsignedIn 1 64 number
-    → fault_of program (first ∷ name_of checking ∷ case ∷ codes "--workers" ∷ number ∷ []) ≡ []
-takes_workers first case number e h =
-    workers_by first case number true e (number_is_plain 1 64 number h) (Accepts-accepts false (parser.Unsigned 1 64) number h)
+run_level : (case number : Text) (b : Bool) → is_flag case ≡ false → is_flag number ≡ false → accepts false (parser.Unsigned 1 64) number ≡ b
+    → level_fault (shape_by running) [] nothing_held (case ∷ codes "--workers" ∷ number ∷ []) false [] ≡ (if b then [] else ValueValidation ∷ [])
+unfolding clap_on_literals
+run_level case number true e h accepted =
+    let is = plain_word_is case e in
+    let are = plain_word_is number h in
+    rw (is.0, is.1, is.2, are.0, are.1, are.2, accepted) (refl {a = []})
+run_level case number false e h refused =
+    let is = plain_word_is case e in
+    let are = plain_word_is number h in
+    rw (is.0, is.1, is.2, are.0, are.1, are.2, refused) (refl {a = ValueValidation ∷ []})
+
+run_by : (first case number : Text) (b : Bool) → is_flag case ≡ false → is_flag number ≡ false → accepts false (parser.Unsigned 1 64) number ≡ b
+    → fault_of program (first ∷ name_of running ∷ case ∷ codes "--workers" ∷ number ∷ []) ≡ (if b then [] else ValueValidation ∷ [])
+unfolding clap_on_literals
+run_by first case number true e h accepted = ap (λ (k : Kinds). or_else k []) (run_level case number true e h accepted)
+run_by first case number false e h refused = ap (λ (k : Kinds). or_else k []) (run_level case number false e h refused)
 
 -- a test that isn't passed
 fails : (least last : ℕ) (word : Text) → (IsUnsignedIn least last word → ⊥) → accepts false (parser.Unsigned least last) word ≡ false
@@ -190,11 +218,6 @@ fails least last word never = go (accepts false (parser.Unsigned least last) wor
     go : (b : Bool) → accepts false (parser.Unsigned least last) word ≡ b → b ≡ false
     go true is = absurd (never (accepts-Accepts false (parser.Unsigned least last) word is))
     go false is = refl
-
--- and another N is a fault
-pub refuses_workers : (first case number : Text) → is_flag case ≡ false → is_flag number ≡ false → (IsUnsignedIn 1 64 number → ⊥)
-    → fault_of program (first ∷ name_of checking ∷ case ∷ codes "--workers" ∷ number ∷ []) ≡ ValueValidation ∷ []
-refuses_workers first case number e h never = workers_by first case number false e h (fails 1 64 number never)
 
 -- ---- order
 
@@ -542,3 +565,107 @@ takes_draw_part first case out from count e h f g =
     (up_to_out case out from count (plain_word_is case e) (plain_word_is out h)
     ∙ from_out case out from count (plain_word_is from (number_is_plain 0 most from f)) (plain_word_is count (number_is_plain 0 most count g))
     (Accepts-accepts false value_parser from f) (Accepts-accepts false value_parser count g))
+
+-- ---- graph and draw, by workers
+
+-- what is held after CASE, after `--workers` and after N
+module _ (case number : Text) where
+  abbrev graph_shape : Shape
+  graph_shape = shape_by graphing
+
+  abbrev graph_rows : List Row
+  graph_rows = (settled graph_shape.rules (holding (given case))).rows
+
+  abbrev at_workers : Walk
+  at_workers = state (record { rows = graph_rows; pending = Some (workers, []); skip = 0 }) (option workers) 2
+
+  abbrev after_workers : Held
+  after_workers = record { rows = graph_rows; pending = Some (workers, number ∷ []); skip = 0 }
+
+  up_to_workers : IsPlain case → IsPlain number
+      → fault_from graph_shape (at None 1 false) (case ∷ codes "--workers" ∷ number ∷ []) ≡ fault_from graph_shape (state after_workers idle 2) []
+  unfolding clap_on_literals
+  up_to_workers is are =
+      let s = graph_shape in
+      passed s (at None 1 false) (at (given case) 2 false) case (codes "--workers" ∷ number ∷ []) (plain_turn s (holding None) idle 1 case is) (plain_walk s (holding None) idle 1 case is)
+      ∙ passed s (at (given case) 2 false) at_workers (codes "--workers") (number ∷ []) refl refl
+      ∙ passed s at_workers (state after_workers idle 2) number [] (plain_turn s at_workers.held (option workers) 2 number are) (plain_walk s at_workers.held (option workers) 2 number are)
+
+  workers_end : (b : Bool) → accepts false (parser.Unsigned 1 64) number ≡ b → fault_from graph_shape (state after_workers idle 2) [] ≡ (if b then [] else ValueValidation ∷ [])
+  unfolding clap_on_literals
+  workers_end true is = rw is refl
+  workers_end false is = rw is refl
+
+graph_by : (first case number : Text) (b : Bool) → is_flag case ≡ false → is_flag number ≡ false → accepts false (parser.Unsigned 1 64) number ≡ b
+    → fault_of program (first ∷ name_of graphing ∷ case ∷ codes "--workers" ∷ number ∷ []) ≡ (if b then [] else ValueValidation ∷ [])
+unfolding clap_on_literals
+graph_by first case number true e h accepted =
+    ap (λ (k : Kinds). or_else k []) (up_to_workers case number (plain_word_is case e) (plain_word_is number h) ∙ workers_end case number true accepted)
+graph_by first case number false e h refused =
+    ap (λ (k : Kinds). or_else k []) (up_to_workers case number (plain_word_is case e) (plain_word_is number h) ∙ workers_end case number false refused)
+
+workers_by : (first name case number : Text) (b : Bool) → IsAuditor name → is_flag case ≡ false → is_flag number ≡ false → accepts false (parser.Unsigned 1 64) number ≡ b
+    → fault_of program (first ∷ name ∷ case ∷ codes "--workers" ∷ number ∷ []) ≡ (if b then [] else ValueValidation ∷ [])
+workers_by first name case number b (inl is) e h accepted =
+    ap (λ (n : Text). fault_of program (first ∷ n ∷ case ∷ codes "--workers" ∷ number ∷ [])) is ∙ check_by first case number b e h accepted
+workers_by first name case number b (inr (inl is)) e h accepted =
+    ap (λ (n : Text). fault_of program (first ∷ n ∷ case ∷ codes "--workers" ∷ number ∷ [])) is ∙ run_by first case number b e h accepted
+workers_by first name case number b (inr (inr is)) e h accepted =
+    ap (λ (n : Text). fault_of program (first ∷ n ∷ case ∷ codes "--workers" ∷ number ∷ [])) is ∙ graph_by first case number b e h accepted
+
+-- `check CASE --workers N`, or `run` or `graph` so, has none, where N is a number from 1 to 64
+pub takes_workers : (first name case number : Text) → IsAuditor name → is_flag case ≡ false → IsUnsignedIn 1 64 number
+    → fault_of program (first ∷ name ∷ case ∷ codes "--workers" ∷ number ∷ []) ≡ []
+takes_workers first name case number audits e h =
+    workers_by first name case number true audits e (number_is_plain 1 64 number h) (Accepts-accepts false (parser.Unsigned 1 64) number h)
+
+-- and another N is a fault
+pub refuses_workers : (first name case number : Text) → IsAuditor name → is_flag case ≡ false → is_flag number ≡ false → (IsUnsignedIn 1 64 number → ⊥)
+    → fault_of program (first ∷ name ∷ case ∷ codes "--workers" ∷ number ∷ []) ≡ ValueValidation ∷ []
+refuses_workers first name case number audits e h never = workers_by first name case number false audits e h (fails 1 64 number never)
+
+-- what is held after CASE, after `--workers`, after N, after `--out` and after FILE
+module _ (case number out : Text) where
+  abbrev worked_rows : List Row
+  worked_rows = (settled (shape_by drawing).rules (holding (given case))).rows
+
+  abbrev at_number : Walk
+  at_number = state (record { rows = worked_rows; pending = Some (workers, []); skip = 0 }) (option workers) 2
+
+  abbrev after_number : Held
+  after_number = record { rows = worked_rows; pending = Some (workers, number ∷ []); skip = 0 }
+
+  abbrev numbered_rows : List Row
+  numbered_rows = (settled (shape_by drawing).rules after_number).rows
+
+  abbrev at_file : Walk
+  at_file = state (record { rows = numbered_rows; pending = Some (path, []); skip = 0 }) (option path) 2
+
+  abbrev after_file : Held
+  after_file = record { rows = numbered_rows; pending = Some (path, out ∷ []); skip = 0 }
+
+  number_turn : accepts false (parser.Unsigned 1 64) number ≡ true → turn_fault (shape_by drawing) [] (state after_number idle 2) (codes "--out") ≡ []
+  unfolding clap_on_literals
+  number_turn is = rw is refl
+
+  worked_draw : IsPlain case → IsPlain number → IsPlain out → accepts false (parser.Unsigned 1 64) number ≡ true
+      → fault_from (shape_by drawing) (at None 1 false) (case ∷ codes "--workers" ∷ number ∷ codes "--out" ∷ out ∷ []) ≡ []
+  unfolding clap_on_literals
+  worked_draw is are has good =
+      let s = shape_by drawing in
+      passed s (at None 1 false) (at (given case) 2 false) case (codes "--workers" ∷ number ∷ codes "--out" ∷ out ∷ [])
+      (plain_turn s (holding None) idle 1 case is) (plain_walk s (holding None) idle 1 case is)
+      ∙ passed s (at (given case) 2 false) at_number (codes "--workers") (number ∷ codes "--out" ∷ out ∷ []) refl refl
+      ∙ passed s at_number (state after_number idle 2) number (codes "--out" ∷ out ∷ [])
+      (plain_turn s at_number.held (option workers) 2 number are) (plain_walk s at_number.held (option workers) 2 number are)
+      ∙ passed s (state after_number idle 2) at_file (codes "--out") (out ∷ []) (number_turn good) refl
+      ∙ passed s at_file (state after_file idle 2) out [] (plain_turn s at_file.held (option path) 2 out has) (plain_walk s at_file.held (option path) 2 out has)
+
+-- `draw CASE --workers N --out FILE` has no fault, where CASE and FILE are no flags, and N is a number from 1 to 64
+pub takes_draw_workers : (first case number out : Text) → is_flag case ≡ false → is_flag out ≡ false → IsUnsignedIn 1 64 number
+    → fault_of program (first ∷ name_of drawing ∷ case ∷ codes "--workers" ∷ number ∷ codes "--out" ∷ out ∷ []) ≡ []
+unfolding clap_on_literals
+takes_draw_workers first case number out e h good =
+    ap (λ (k : Kinds). or_else k [])
+    (worked_draw case number out (plain_word_is case e) (plain_word_is number (number_is_plain 1 64 number good)) (plain_word_is out h)
+    (Accepts-accepts false (parser.Unsigned 1 64) number good))

@@ -19,7 +19,7 @@ input = codes "input"
 abbrev pub input_rule : Rule
 input_rule = record (new_rule input) { value_names = 1; required = true }
 
--- a command that reads one thing: `run CASE`, `vat FILE`, `frames FILE`
+-- a command that reads one thing: `vat FILE`, `frames FILE`
 abbrev pub reader : List ℕ → App
 reader name = with_rule (new_app name) input_rule
 
@@ -27,16 +27,16 @@ reader name = with_rule (new_app name) input_rule
 abbrev pub number_rule : List ℕ → ℕ → ℕ → Rule
 number_rule name least most = record (new_rule name) { long = Some name; value_names = 1; parser = Some (parser.Unsigned least most) }
 
--- by what clap knows the workers of `check`, which are given as `--workers N`, and are 1 where they aren't given
+-- by what clap knows the workers that audit a case, which are given as `--workers N`, and are 1 where they aren't given
 abbrev pub workers : List ℕ
 workers = codes "workers"
 
 abbrev pub workers_rule : Rule
 workers_rule = record (number_rule workers 1 64) { defaults = codes "1" ∷ [] }
 
--- `check CASE`, with `--workers N` if wanted
-abbrev pub check : App
-check = with_rule (with_rule (new_app (codes "check")) input_rule) workers_rule
+-- a command that has a case audited: `check CASE`, `run CASE`, with `--workers N` if wanted
+abbrev pub auditor : List ℕ → App
+auditor name = with_rule (with_rule (new_app name) input_rule) workers_rule
 
 -- by what clap knows the file that is written, which is given as `--out FILE` and has to be given
 abbrev pub path : List ℕ
@@ -71,11 +71,11 @@ flag_rule name = record (new_rule name) { long = Some name; action = Some SetTru
 abbrev pub html : List ℕ
 html = codes "html"
 
--- `draw CASE --out FILE`, with `--from I`, `--count N` and `--html` if wanted
+-- `draw CASE --out FILE`, with `--from I`, `--count N`, `--html` and `--workers N` if wanted
 abbrev pub draw : App
 draw =
-    with_rule (with_rule (with_rule (with_rule (with_rule (new_app (codes "draw")) input_rule) path_rule) (number_rule start 0 most)) (number_rule count 0 most))
-    (flag_rule html)
+    with_rule (with_rule (with_rule (with_rule (with_rule (with_rule (new_app (codes "draw")) input_rule) path_rule) (number_rule start 0 most)) (number_rule count 0 most))
+    (flag_rule html)) workers_rule
 
 -- a command that reads one thing and has one such option
 abbrev pub flagged : List ℕ → List ℕ → App
@@ -93,9 +93,9 @@ frame = flagged (codes "frame") later
 abbrev pub dot : List ℕ
 dot = codes "dot"
 
--- `graph CASE`, with `--dot` if wanted
+-- `graph CASE`, with `--dot` and `--workers N` if wanted
 abbrev pub graph : App
-graph = flagged (codes "graph") dot
+graph = with_rule (flagged (codes "graph") dot) workers_rule
 
 -- `migrate FILE --out FILE`, with `--later` if wanted
 abbrev pub migrate : App
@@ -131,8 +131,8 @@ top = on_top (λ s. record s { subcommand_required = true; arg_required_else_hel
 -- the program with its commands that read a case
 abbrev pub judging : App
 judging =
-    with_subcommand (with_subcommand (with_subcommand (with_subcommand (with_subcommand top check.top) (writer (codes "order")).top) graph.top)
-    (reader (codes "run")).top) draw.top
+    with_subcommand (with_subcommand (with_subcommand (with_subcommand (with_subcommand top (auditor (codes "check")).top) (writer (codes "order")).top) graph.top)
+    (auditor (codes "run")).top) draw.top
 
 -- and with those that read a file or a frame
 abbrev pub reading : App

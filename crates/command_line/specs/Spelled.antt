@@ -48,10 +48,10 @@ IsNumber None (Some number) = ⊥
 IsNumber (Some text) None = ⊥
 IsNumber (Some text) (Some number) = IsSpelled text number
 
--- the words are read as `check CASE`, and clap finds CASE and the number of workers in them, which is 1 where it isn't given
-abbrev pub SpellsCheck : List (List ℕ) → List ℕ → ℕ → Type 0
-SpellsCheck words name many = (rows : List Row) ×
-    (IsRead words (codes "check") rows × (first_of input rows ≡ Some name) × IsNumber (first_of workers rows) (Some many))
+-- the words are read as `COMMAND CASE`, and clap finds CASE and the number of workers in them, which is 1 where it isn't given
+abbrev pub SpellsAuditor : List ℕ → List (List ℕ) → List ℕ → ℕ → Type 0
+SpellsAuditor command words name many = (rows : List Row) ×
+    (IsRead words command rows × (first_of input rows ≡ Some name) × IsNumber (first_of workers rows) (Some many))
 
 -- an option without a value was given: clap has the word `true` for it then, and else `false`
 abbrev pub is_set : Option (List ℕ) → Bool
@@ -62,6 +62,12 @@ is_set (Some text) = bytes_eq text (codes "true")
 abbrev pub SpellsFlagged : List ℕ → List ℕ → List (List ℕ) → List ℕ → Bool → Type 0
 SpellsFlagged command flag words thing is_there = (rows : List Row) ×
     (IsRead words command rows × (first_of input rows ≡ Some thing) × (is_set (first_of flag rows) ≡ is_there))
+
+-- the words are read as `graph CASE`, and clap finds CASE in them, whether `--dot` is there, and the number of workers
+abbrev pub SpellsGraph : List (List ℕ) → List ℕ → Bool → ℕ → Type 0
+SpellsGraph words name is_dot many = (rows : List Row) ×
+    (IsRead words (codes "graph") rows × (first_of input rows ≡ Some name)
+    × (is_set (first_of dot rows) ≡ is_dot) × IsNumber (first_of workers rows) (Some many))
 
 -- the words are read as `COMMAND THING --out FILE`, and clap finds THING and FILE in them
 abbrev pub SpellsWriter : List ℕ → List (List ℕ) → List ℕ → List ℕ → Type 0
@@ -81,11 +87,12 @@ SpellsRecords words name first many = (rows : List Row) ×
     × IsNumber (first_of start rows) first × IsNumber (first_of count rows) many)
 
 -- the words are read as `draw CASE --out FILE`, and clap finds CASE and FILE in them and, where they were given, the number of
--- the first step and how many are wanted, and whether `--html` is there
-abbrev pub SpellsDraw : List (List ℕ) → List ℕ → List ℕ → Option ℕ → Option ℕ → Bool → Type 0
-SpellsDraw words name out first many is_page = (rows : List Row) ×
+-- the first step and how many are wanted, whether `--html` is there, and the number of workers
+abbrev pub SpellsDraw : List (List ℕ) → List ℕ → List ℕ → Option ℕ → Option ℕ → Bool → ℕ → Type 0
+SpellsDraw words name out first steps is_page many = (rows : List Row) ×
     (IsRead words (codes "draw") rows × (first_of input rows ≡ Some name) × (first_of path rows ≡ Some out)
-    × IsNumber (first_of start rows) first × IsNumber (first_of count rows) many × (is_set (first_of html rows) ≡ is_page))
+    × IsNumber (first_of start rows) first × IsNumber (first_of count rows) steps × (is_set (first_of html rows) ≡ is_page)
+    × IsNumber (first_of workers rows) (Some many))
 
 -- the words are read as `wire A B`, and clap finds both files in them and, where it was given, the folder
 abbrev pub SpellsWire : List (List ℕ) → List ℕ → List ℕ → Option (List ℕ) → Type 0
@@ -98,11 +105,11 @@ SpellsJoin words names out = (rows : List Row) × (IsRead words (codes "join") r
 
 -- the words spell the command
 abbrev pub Spells : List (List ℕ) → Command → Type 0
-Spells words (Check name many) = SpellsCheck words name.now many
+Spells words (Check name many) = SpellsAuditor (codes "check") words name.now many
 Spells words (Order name out) = SpellsWriter (codes "order") words name.now out.now
-Spells words (Graph name is_dot) = SpellsFlagged (codes "graph") dot words name.now is_dot
-Spells words (Run name) = SpellsOne (codes "run") words name.now
-Spells words (Draw name out first many is_page) = SpellsDraw words name.now out.now first many is_page
+Spells words (Graph name is_dot many) = SpellsGraph words name.now is_dot many
+Spells words (Run name many) = SpellsAuditor (codes "run") words name.now many
+Spells words (Draw name out first steps is_page many) = SpellsDraw words name.now out.now first steps is_page many
 Spells words (Vat file) = SpellsOne (codes "vat") words file.now
 Spells words (Records file first many) = SpellsRecords words file.now first many
 Spells words (Frame hex is_later) = SpellsFlagged (codes "frame") later words hex.now is_later
@@ -117,13 +124,17 @@ abbrev pub IsReader : List ℕ → Type 0
 IsReader name =
     (name ≡ codes "graph") ⊎ ((name ≡ codes "run") ⊎ ((name ≡ codes "vat") ⊎ ((name ≡ codes "frame") ⊎ (name ≡ codes "frames"))))
 
+-- the name of a command that has a case audited and may be given one thing and workers alone
+abbrev pub IsAuditor : List ℕ → Type 0
+IsAuditor name = (name ≡ codes "check") ⊎ ((name ≡ codes "run") ⊎ (name ≡ codes "graph"))
+
 -- a command that asks for workers asks for 1 to 64
 abbrev pub HasWorkers : Command → Type 0
 HasWorkers (Check name many) = (1 ≤ many) × (many ≤ 64)
 HasWorkers (Order name out) = ⊤
-HasWorkers (Graph name is_dot) = ⊤
-HasWorkers (Run name) = ⊤
-HasWorkers (Draw name out first many is_page) = ⊤
+HasWorkers (Graph name is_dot many) = (1 ≤ many) × (many ≤ 64)
+HasWorkers (Run name many) = (1 ≤ many) × (many ≤ 64)
+HasWorkers (Draw name out first steps is_page many) = (1 ≤ many) × (many ≤ 64)
 HasWorkers (Vat name) = ⊤
 HasWorkers (Records name first many) = ⊤
 HasWorkers (Frame hex is_later) = ⊤
@@ -137,9 +148,9 @@ HasWorkers (Join logs out) = ⊤
 abbrev pub out_of : Command → Option (List ℕ)
 out_of (Check name many) = None
 out_of (Order name out) = Some out.now
-out_of (Graph name is_dot) = None
-out_of (Run name) = None
-out_of (Draw name out first many is_page) = Some out.now
+out_of (Graph name is_dot many) = None
+out_of (Run name many) = None
+out_of (Draw name out first steps is_page many) = Some out.now
 out_of (Vat name) = None
 out_of (Records name first many) = None
 out_of (Frame hex is_later) = None

@@ -5,7 +5,7 @@ ghost use Rattle.clap.specs.Kinds.{FailsBy};
 ghost use Rattle.clap.specs.Values.{IsUnsignedIn};
 ghost use Rattle.clap.specs.Words.{fault_of, first_value, found_of, kind_of, matched_of, raw_values};
 ghost use Rattle.command_line.specs.Parser.{most, program, workers};
-ghost use Rattle.command_line.specs.Spelled.{AreMatchesOf, HasWorkers, IsChecked, IsNumber, IsReader, Spells, is_flag, is_set, out_of};
+ghost use Rattle.command_line.specs.Spelled.{AreMatchesOf, HasWorkers, IsAuditor, IsChecked, IsNumber, IsReader, Spells, is_flag, is_set, out_of};
 
 use crate::parser::{self, COUNT, DOT, FROM, HTML, INPUT, LATER, OTHER, OUT, WORKERS};
 use clap::error::ErrorKind;
@@ -27,25 +27,28 @@ pub enum Command<'a> {
         case: &'a str,
         out: &'a str,
     },
-    /// Print which vat came to have what of another's, in the case that the source has under this name: as lines, or as a
-    /// graph in the DOT language.
+    /// Print which vat came to have what of another's, in the case that the source has under this name, audited by so many
+    /// workers, 1 to 64: as lines, or as a graph in the DOT language.
     Graph {
         case: &'a str,
         dot: bool,
+        workers: u32,
     },
-    /// Print the steps of the run of the case that the source has under this name.
+    /// Print the steps of the run of the case that the source has under this name, audited by so many workers, 1 to 64.
     Run {
         case: &'a str,
+        workers: u32,
     },
     /// Draw the case that the source has under this name, and write the picture to a file, or a page with the picture and
     /// its records: from this step on, counted from 0, or around what the verdict names; and as many steps, or as many as
-    /// are drawn at most.
+    /// are drawn at most. So many workers audit it, 1 to 64.
     Draw {
         case: &'a str,
         out: &'a str,
         from: Option<u64>,
         count: Option<u64>,
         html: bool,
+        workers: u32,
     },
     /// Audit one vat's log, which the source has under this name.
     Vat {
@@ -210,14 +213,19 @@ fn command_in<'a>(alloc: Global, matches: &ArgMatches<'a>) -> Result<Command<'a>
         "graph" => Ok(Command::Graph {
             case: input,
             dot: is_set(given, DOT),
+            workers: workers_of(given),
         }),
-        "run" => Ok(Command::Run { case: input }),
+        "run" => Ok(Command::Run {
+            case: input,
+            workers: workers_of(given),
+        }),
         "draw" => Ok(Command::Draw {
             case: input,
             out: value_of(given, OUT),
             from: number_of(given, FROM),
             count: number_of(given, COUNT),
             html: is_set(given, HTML),
+            workers: workers_of(given),
         }),
         "vat" => Ok(Command::Vat { file: input }),
         "records" => Ok(Command::Records {
@@ -277,11 +285,11 @@ fn read_command<'a, S: AsStr>(alloc: Global, words: &'a [S]) -> Result<Command<'
     Ok(command_in(alloc, &matches)?)
 }
 
-/// The command that the words spell, of which the first is the program's name: `run CASE`, `vat FILE` or `frames FILE`, where
+/// The command that the words spell, of which the first is the program's name: `vat FILE` or `frames FILE`, where
 /// before or after the last of these may stand `--`, and it may begin with a hyphen only after that or where it is `-`; or, as
-/// `clap` reads them, `check CASE` with `--workers N` if wanted, a number from 1 to 64, or `order CASE --out FILE`, or `wire A B`
-/// with `--out FOLDER` if wanted, or `join LOG .. --out FOLDER`, or `graph CASE` with `--dot` if wanted, or `draw CASE --out FILE` with `--from I`, `--count N` and `--html` if wanted, or `frame HEX` with
-/// `--later` if wanted, or `migrate FILE --out FILE` with `--later` if wanted, or `salvage FILE --out FILE`, or `records FILE`
+/// `clap` reads them, `check CASE` or `run CASE` with `--workers N` if wanted, a number from 1 to 64, or `graph CASE` with that and
+/// `--dot` if wanted, or `draw CASE --out FILE` with that and `--from I`, `--count N` and `--html` if wanted, or `order CASE --out
+/// FILE`, or `wire A B` with `--out FOLDER` if wanted, or `join LOG .. --out FOLDER`, or `frame HEX` with `--later` if wanted, or `migrate FILE --out FILE` with `--later` if wanted, or `salvage FILE --out FILE`, or `records FILE`
 /// with `--from I` and `--count N` if wanted, numbers of 64 bits.
 ///
 /// # Errors
@@ -299,13 +307,13 @@ pub fn command_of<'a, S: AsStr>(alloc: Global, words: &'a [S]) -> Result<Command
     ensures taken_check { (first case : List ℕ)
         → map S.text words.entry.now ≡ first ∷ codes "check" ∷ case ∷ [] → is_flag case ≡ false
         → IfErr result (λ e. kind_of e ≡ ErrorKind.OutOfMemory) }
-    ensures taken_workers { (first case number : List ℕ)
+    ensures taken_workers { (first name case number : List ℕ) → IsAuditor name
         → map S.text words.entry.now
-        ≡ first ∷ codes "check" ∷ case ∷ codes "--workers" ∷ number ∷ [] → is_flag case ≡ false
+        ≡ first ∷ name ∷ case ∷ codes "--workers" ∷ number ∷ [] → is_flag case ≡ false
         → IsUnsignedIn 1 64 number → IfErr result (λ e. kind_of e ≡ ErrorKind.OutOfMemory) }
-    ensures refused_workers { (first case number : List ℕ)
+    ensures refused_workers { (first name case number : List ℕ) → IsAuditor name
         → map S.text words.entry.now
-        ≡ first ∷ codes "check" ∷ case ∷ codes "--workers" ∷ number ∷ [] → is_flag case ≡ false
+        ≡ first ∷ name ∷ case ∷ codes "--workers" ∷ number ∷ [] → is_flag case ≡ false
         → is_flag number ≡ false → (IsUnsignedIn 1 64 number → ⊥)
         → IsErrAnd result
         (λ e. (kind_of e ≡ ErrorKind.OutOfMemory) ⊎ (kind_of e ≡ ErrorKind.ValueValidation)) }
@@ -322,6 +330,11 @@ pub fn command_of<'a, S: AsStr>(alloc: Global, words: &'a [S]) -> Result<Command
         ≡ first ∷ codes "draw" ∷ case ∷ codes "--out" ∷ out ∷ codes "--from" ∷ from ∷ codes "--count" ∷ count ∷ []
         → is_flag case ≡ false → is_flag out ≡ false
         → IsUnsignedIn 0 most from → IsUnsignedIn 0 most count
+        → IfErr result (λ e. kind_of e ≡ ErrorKind.OutOfMemory) }
+    ensures taken_draw_workers { (first case out number : List ℕ)
+        → map S.text words.entry.now
+        ≡ first ∷ codes "draw" ∷ case ∷ codes "--workers" ∷ number ∷ codes "--out" ∷ out ∷ []
+        → is_flag case ≡ false → is_flag out ≡ false → IsUnsignedIn 1 64 number
         → IfErr result (λ e. kind_of e ≡ ErrorKind.OutOfMemory) }
     ensures taken_draw_page { (first case out : List ℕ)
         → map S.text words.entry.now

@@ -84,7 +84,7 @@ Exit status:
      the line can't be written, or the command line is wrong
   3  memory ran out";
 
-/// N of `check`.
+/// N of the commands that have a case audited.
 pub const WORKERS: &str =
     "How many workers, 1 to 64, audit at the same time; the answer is the same";
 

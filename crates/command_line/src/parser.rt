@@ -2,7 +2,7 @@
 
 ghost use Rattle.std.specs.Prelude.{◌≡◌, IfOk, Some, codes, false, true};
 ghost use Rattle.clap.specs.Words.{App, new_app, new_rule, rule_of, with_rule, with_subcommand};
-ghost use Rattle.command_line.specs.Parser.{IsTold, check, draw, flag_rule, flagged, folder_rule, frame, graph, join, judging, logs_rule, migrate, most, number_rule, path_rule, program, reader, reading, records, top, wire, workers_rule, writer};
+ghost use Rattle.command_line.specs.Parser.{IsTold, auditor, draw, flag_rule, flagged, folder_rule, frame, graph, join, judging, logs_rule, migrate, most, number_rule, path_rule, program, reader, reading, records, top, wire, workers_rule, writer};
 
 use crate::help;
 use clap::builder::ValueParser;
@@ -236,13 +236,24 @@ fn flagged_command<'a>(
     with_argument(reader_command(alloc, said), flag(alloc, name, flag_help))
 }
 
+/// A command that has a case audited, and the option `--workers N`.
+///
+/// # Errors
+///
+/// Out of memory.
+fn auditor_command<'a>(alloc: Global, said: Reader<'a>) -> Result<Command<'a>, AllocError>
+    ensures { IfOk result (IsTold (auditor said.entry.name.now)) }
+{
+    with_argument(reader_command(alloc, said), workers_option(alloc))
+}
+
 /// The command `check CASE`, which has the option `--workers N`.
 ///
 /// # Errors
 ///
 /// Out of memory.
 fn check_command<'a>(alloc: Global) -> Result<Command<'a>, AllocError>
-    ensures { IfOk result (IsTold check) }
+    ensures { IfOk result (IsTold (auditor (codes "check"))) }
 {
     let said = Reader {
         name: "check",
@@ -252,7 +263,7 @@ fn check_command<'a>(alloc: Global) -> Result<Command<'a>, AllocError>
         thing: "CASE",
         help: help::CASE,
     };
-    with_argument(reader_command(alloc, said), workers_option(alloc))
+    auditor_command(alloc, said)
 }
 
 /// The command `order CASE --out FILE`.
@@ -274,7 +285,7 @@ fn order_command<'a>(alloc: Global) -> Result<Command<'a>, AllocError>
     writer_command(alloc, said)
 }
 
-/// The command `graph CASE`, which has the option `--dot`.
+/// The command `graph CASE`, which has the options `--dot` and `--workers N`.
 ///
 /// # Errors
 ///
@@ -290,16 +301,17 @@ fn graph_command<'a>(alloc: Global) -> Result<Command<'a>, AllocError>
         thing: "CASE",
         help: help::CASE,
     };
-    flagged_command(alloc, said, DOT, help::DOT_GRAPH)
+    let flagged = flagged_command(alloc, said, DOT, help::DOT_GRAPH);
+    with_argument(flagged, workers_option(alloc))
 }
 
-/// The command `run CASE`.
+/// The command `run CASE`, which has the option `--workers N`.
 ///
 /// # Errors
 ///
 /// Out of memory.
 fn run_command<'a>(alloc: Global) -> Result<Command<'a>, AllocError>
-    ensures { IfOk result (IsTold (reader (codes "run"))) }
+    ensures { IfOk result (IsTold (auditor (codes "run"))) }
 {
     let said = Reader {
         name: "run",
@@ -309,10 +321,10 @@ fn run_command<'a>(alloc: Global) -> Result<Command<'a>, AllocError>
         thing: "CASE",
         help: help::CASE,
     };
-    reader_command(alloc, said)
+    auditor_command(alloc, said)
 }
 
-/// The command `draw CASE --out FILE`, which has the options `--from STEP`, `--count N` and `--html`.
+/// The command `draw CASE --out FILE`, which has the options `--from STEP`, `--count N`, `--html` and `--workers N`.
 ///
 /// # Errors
 ///
@@ -332,7 +344,8 @@ fn draw_command<'a>(alloc: Global) -> Result<Command<'a>, AllocError>
     let count = word_option(alloc, COUNT, "N", help::COUNT_STEPS);
     let begun = with_argument(writer_command(alloc, said), from);
     let ended = with_argument(begun, count);
-    with_argument(ended, flag(alloc, HTML, help::HTML))
+    let paged = with_argument(ended, flag(alloc, HTML, help::HTML));
+    with_argument(paged, workers_option(alloc))
 }
 
 /// The command `vat FILE`.

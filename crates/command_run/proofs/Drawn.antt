@@ -4,9 +4,9 @@ use Rattle.run_model.specs.declared.step.Step.{Step}
 use Rattle.case_book.specs.Case.{Contents}
 use Rattle.audit_core.specs.Explained.{HasNoRun}
 use Rattle.audit_core.specs.Report.{IsReport}
-use Rattle.audit_core.specs.declared.report.Breach.TheVariants.{Order}
-use Rattle.audit_core.specs.declared.report.Report.{Report as ReportOf}
-use Rattle.audit_core.specs.declared.report.Report.TheVariants.{Vat}
+use Rattle.case_report.specs.declared.report.Breach.TheVariants.{Order}
+use Rattle.case_report.specs.declared.report.Report.{Report as ReportOf}
+use Rattle.case_report.specs.declared.report.Report.TheVariants.{Vat}
 use Rattle.case_files.specs.CaseReading.{ComesOfCase, Reads}
 use Rattle.case_files.specs.declared.case_fault.CaseFault.{CaseFault}
 use Rattle.case_files.specs.declared.case_fault.CaseFault.TheVariants as fault

@@ -7,8 +7,8 @@ use Rattle.audit_core.specs.Refusals.{IsRefusal, refusal_of}
 use Rattle.audit_core.specs.declared.error.AuditError.{AuditError}
 use Rattle.audit_core.specs.declared.error.AuditError.TheVariants.{NoWorkers, TooManyWorkers, MissingLog, SameEnds, OutOfMemory}
 use Rattle.audit_core.specs.Report.{line_in}
-use Rattle.audit_core.specs.declared.report.Report.{Report as ReportOf}
-use Rattle.audit_core.specs.declared.report.Report.TheVariants.{Vat, OutsideVat, Link, OrderStep, NoOrder, Yes}
+use Rattle.case_report.specs.declared.report.Report.{Report as ReportOf}
+use Rattle.case_report.specs.declared.report.Report.TheVariants.{Vat, OutsideVat, Link, OrderStep, NoOrder, Yes}
 use Rattle.audit_core.proofs.Refusing.{by_ties}
 use Rattle.run_model.specs.declared.step.Step.{Step as StepOf}
 use Rattle.case_files.specs.CaseReading.{ComesOfCase, Reads}
@@ -20,7 +20,7 @@ use Rattle.report_lines.specs.declared.fault.Fault.{Fault as FaultOf}
 use Rattle.report_lines.specs.Faults.{of_case}
 use Rattle.report_lines.specs.Lines.{SaysAnswer, answer_status, answer_text, line, report_status, report_text}
 use Rattle.command_run.specs.CommandAnswers.{AnswersReportOf, IsOutOfMemory}
-use Rattle.command_run.specs.Glue.{ComesChecked, ComesJudged, Prints}
+use Rattle.command_run.specs.Glue.{ComesAsLine, ComesJudged, Prints}
 use Rattle.command_run.specs.ReportAnswers.{AnswersGraph, AnswersReport, AnswersRun, Reporting}
 use Rattle.command_run.specs.Runs.{Writing}
 use Rattle.command_run.proofs.Told.{prints_by}
@@ -79,7 +79,7 @@ same_status (OrderStep step) = refl
 same_status NoOrder = refl
 same_status (Yes vats records delivered under_way run) = refl
 
-pub line_is : {S : Type 0} (gives : Reads S) (old new : S) (name : List ℕ) (found : ReportOf) → ComesChecked gives old name (Ok found) new
+pub line_is : {S : Type 0} (gives : Reads S) (old new : S) (name : List ℕ) (found : ReportOf) → ComesAsLine gives old name (Ok found) new
     → AnswersReportOf AnswersReport gives old name new (line (answer_text (Report found))) (answer_status (Report found))
 line_is gives old new name found came =
     let of = came.1.1 in
@@ -142,6 +142,6 @@ said answers shows gives old new name report wrote out now r came each printed =
 -- ---- a case whose logs were read piece by piece
 
 pub fault_comes : {S : Type 0} (gives : Reads S) (old new : S) (name : List ℕ) (found : CaseFault) → (found ≡ fault.OutOfMemory) ⊎ ComesOfCase gives old name (Err found) new
-    → ComesChecked gives old name (Err (of_case found)) new
+    → ComesAsLine gives old name (Err (of_case found)) new
 fault_comes gives old new name found (inl is) = inl (ap of_case is)
 fault_comes gives old new name found (inr comes) = inr (found, (comes, refl))

@@ -2,8 +2,7 @@ mod Falling
 mod Joins
 mod Listing
 mod Judged
-mod Mapped
-mod TellsMapped
+pub mod Mapped
 mod Running
 mod Told
 mod Drawn

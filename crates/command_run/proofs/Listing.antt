@@ -28,7 +28,7 @@ use Rattle.report_lines.specs.declared.fault.Fault.TheVariants.{OutOfMemory}
 use Rattle.report_lines.specs.Faults.{of_log, of_source}
 use Rattle.report_lines.specs.Lines.{answer_status, answer_text, line}
 use Rattle.command_run.specs.CommandAnswers.{AnswersLogRecords}
-use Rattle.command_run.specs.Glue.{AnswersBehind, EndsSo, IsListedTo, Lists, Prints, is_chosen, status_behind, stopped, text_behind}
+use Rattle.command_run.specs.Glue.{AnswersBehind, ListingEndsSo, IsListedTo, Lists, Prints, is_chosen, status_behind, stopped, text_behind}
 use Rattle.command_run.specs.RecordAnswers.{AnswersRecords, EndsListing, chosen_records, first_number, listing, record_line, record_lines}
 use Rattle.command_run.specs.Runs.{Adds, Wrote}
 
@@ -307,7 +307,7 @@ out_of_memory first many lines all (inr none) = inr (ap (λ (t : List ℕ). t ++
 
 -- what is said behind the lines answers what the source gave
 pub closed_answers : {X : Type 0} (first many : Option ℕ) (lines : List ℕ) (listed : Result X ReadFault) (came : List ℕ) (is_over : Bool) (read : Read) (ended : Result X FaultOf)
-    → IsListedTo first many lines listed came is_over → EndsSo read listed came is_over ended
+    → IsListedTo first many lines listed came is_over → ListingEndsSo read listed came is_over ended
     → AnswersLogRecords first many read (lines ++ text_behind ended) (status_behind ended)
 closed_answers {X = X} first many lines listed came is_over (Err fault) ended to is =
     subst (λ (r : Result X FaultOf). AnswersLogRecords first many (Err fault) (lines ++ text_behind r) (status_behind r)) (sym is)
@@ -341,7 +341,7 @@ by_reader first many lines listed bytes came is_over over same ends to =
 -- a log was listed and closed, and what is said behind the lines was, or wasn't
 pub listing_ended : {W E X : Type 0} (contents : W → Option (List ℕ)) (is_finished : W → Type 0) (old now new : W) (first many : Option ℕ) (lines : List ℕ) (listed : Result X ReadFault)
     (bytes came : List ℕ) (is_over over : Bool) (read : Read) (ended : Result X FaultOf) (r : Result ℕ E)
-    → Appends (contents old) (contents now) lines → IsListedTo first many lines listed bytes is_over → came ≡ bytes → over ≡ is_over → EndsSo read listed came over ended
+    → Appends (contents old) (contents now) lines → IsListedTo first many lines listed bytes is_over → came ≡ bytes → over ≡ is_over → ListingEndsSo read listed came over ended
     → IfOk r (λ s. s ≡ status_behind ended) → OnOk r (Wrote contents is_finished now (text_behind ended) new) → Prints (AnswersLogRecords first many read) (Wrote contents is_finished) old new r
 listing_ended contents is_finished old now new first many lines listed bytes came is_over over read ended r added to same ends is status wrote =
     end_said contents is_finished old now new (AnswersLogRecords first many read) lines ended r

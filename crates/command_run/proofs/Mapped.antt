@@ -28,14 +28,14 @@ module _ {W F E X : Type 0} (in_out : W → Option (List ℕ)) (out_done : W →
       → CarriesOut gives command old new (λ answers. Writes answers (Wrote in_out out_done) (Wrote in_file file_done) out out_new file file_new r)
       → CarriesOut gives command old new (λ answers. WritesOrFails answers (Adds in_out) (Adds in_file) out out_new file file_new ended)
   carried gives (Check name workers) old new c = mapped _ c
-  carried gives (Graph name dot) old new c = mapped _ c
-  carried gives (Run name) old new c = mapped _ c
+  carried gives (Graph name dot many) old new c = mapped _ c
+  carried gives (Run name many) old new c = mapped _ c
   carried gives (Vat name) old new c = (c.0, c.1, mapped _ c.2)
   carried gives (Frame hex later) old new c = (c.0, mapped _ c.1)
   carried gives (Frames name) old new c = (c.0, c.1, mapped _ c.2)
   carried gives (Records name first many) old new c = (c.0, c.1, mapped _ c.2)
   carried gives (Order name path) old new c = mapped _ c
-  carried gives (Draw name path first many is_page) old new c = mapped _ c
+  carried gives (Draw name path first steps is_page many) old new c = mapped _ c
   carried gives (Migrate name later path) old new c = (c.0, c.1, mapped _ c.2)
   carried gives (Salvage name path) old new c = (c.0, c.1, mapped _ c.2)
   carried gives (Wire one another out) old new c = mapped _ c

@@ -6,7 +6,7 @@ use Rattle.std.proofs.lemmas.List.{length-reverse, length-take-le, take_more}
 use mathlib.Core.List.{reverse_aux}
 use Rattle.run_model.specs.Steps.{PastSteps}
 use Rattle.run_model.specs.declared.step.Step.{Step}
-use Rattle.authority.specs.Records.{record_of, records_from, record_numbers_of}
+use Rattle.authority.specs.Records.{record_of_step, records_from, record_numbers_of}
 use Rattle.report_lines.specs.Lines.{line}
 use Rattle.report_lines.specs.StepText.{step_text}
 use Rattle.command_run.specs.ReportAnswers.{step_line, step_lines, step_lines_from}
@@ -20,7 +20,7 @@ pub within : (run : List Step) (numbers : List ℕ) (i : ℕ) → numbers ≡ re
 within run numbers i is lt = let long : length numbers ≡ length run = ap length is ∙ records_long [] run in omega (arith, long, lt)
 
 record_at : (before : PastSteps) (steps : List Step) (i : ℕ) (d : Step) → i < length steps
-    → get_or (records_from before steps) i 0 ≡ record_of (reverse_aux (take i steps) before) (get_or steps i d)
+    → get_or (records_from before steps) i 0 ≡ record_of_step (reverse_aux (take i steps) before) (get_or steps i d)
 record_at before [] i d lt = absurd (omega (arith, lt))
 record_at before (s ∷ steps) zero d lt = refl
 record_at before (s ∷ steps) (suc i) d lt = record_at (s ∷ before) steps i d (omega (arith, lt))
@@ -37,7 +37,7 @@ pub one_stepped : (run : List Step) (numbers : List ℕ) (i number : ℕ) (s : S
     → Appends old new (step_lines (take (i + 1) run))
 one_stepped run numbers i number s old now new all lt at read so_far wrote =
     let past = reverse (take i run) in
-    let here : number ≡ record_of past s = read ∙ ap (λ l. get_or l i 0) all ∙ record_at [] run i s lt ∙ ap (record_of past) (sym at) in
+    let here : number ≡ record_of_step past s = read ∙ ap (λ l. get_or l i 0) all ∙ record_at [] run i s lt ∙ ap (record_of_step past) (sym at) in
     let long : i ≡ length past = sym (length-reverse (take i run) ∙ length-take-le i run (omega (arith, lt))) in
     let this : line (step_text i number s) ≡ step_line past s = ap₂ (λ k n. line (step_text k n s)) long here in
     let lines : step_lines (take i run) ++ line (step_text i number s) ≡ step_lines (take (i + 1) run) =

@@ -1,12 +1,12 @@
 -- Answers that were said, or whose write failed.
 use Rattle.std.proofs.Common.{◌≡◌, ℕ, List, Option, None, Result, Ok, Err, IfOk, OnOk, refl, subst, sym}
-use Rattle.std.specs.Prelude.{IsErrAnd}
+use Rattle.std.specs.Prelude.{IsErrAnd, IsSome, OnErr}
 use Rattle.report_lines.specs.declared.answer.Answer.{Answer}
 use Rattle.report_lines.specs.Lines.{answer_status, answer_text, line}
 use Rattle.command_run.specs.declared.output.Failed.{Failed}
 use Rattle.command_run.specs.declared.output.Failed.TheVariants.{Out, File}
-use Rattle.command_run.specs.Glue.{Prints, of_lines}
-use Rattle.command_run.specs.Runs.{Answering, NoFile, Writes, Writing}
+use Rattle.command_run.specs.Glue.{Prints, SaysBehind, of_lines}
+use Rattle.command_run.specs.Runs.{Answering, NoFile, Saves, Writes, Writing}
 
 -- one answer
 pub told : {W E : Type 0} (answers : List ℕ → ℕ → Type 0) (wrote : Writing W) (old new : W) (answer : Answer) (r : Result ℕ E)
@@ -48,3 +48,24 @@ pub answers_by : (answers : Answering) (t : List ℕ) (n : ℕ) (b : Option (Lis
     → answers text status bytes
 answers_by answers t n b is text status bytes same =
     subst (λ (x : List ℕ). answers x status bytes) (sym same.0) (subst (λ (k : ℕ). answers t k bytes) (sym same.1) (subst (λ (o : Option (List ℕ)). answers t n o) (sym same.2) is))
+
+-- it was said there, or a write of it failed
+pub said_behind : {A W E X : Type 0} (saved : Result A X) (done : A) (answer : Answer) (wrote : Writing W) (old new : W) (said : Result ℕ E) (r : Result ℕ (Failed E X))
+    → saved ≡ Ok done → r ≡ of_lines said → IfOk said (λ s. s ≡ answer_status answer) → OnOk said (wrote old (line (answer_text answer)) new) → SaysBehind saved answer wrote old new r
+said_behind {E = E} {X = X} saved done answer wrote old new (Ok status) r well is same says = rw (well, is) (same, says)
+said_behind {E = E} {X = X} saved done answer wrote old new (Err fault) r well is same says = rw (well, is) tt
+
+-- an answer was said behind what was saved
+pub written_behind : {A W F E X : Type 0} (answers : Answering) (to_out : Writing W) (to_file : Writing F) (out out_new : W) (file file_new : F) (answer : Answer) (bytes : Option (List ℕ))
+    (saved : Result A X) (said : Result ℕ (Failed E X)) → answers (line (answer_text answer)) (answer_status answer) bytes
+    → OnOk saved (Saves to_file bytes file file_new) → OnErr saved (IsSome bytes) → SaysBehind saved answer to_out out out_new said
+    → Writes answers to_out to_file out out_new file file_new said
+written_behind answers to_out to_file out out_new file file_new answer bytes (Ok done) (Ok status) is saves fails behind =
+    (line (answer_text answer), (bytes, subst (λ n. answers (line (answer_text answer)) n bytes) (sym behind.0) is, saves, behind.1))
+written_behind answers to_out to_file out out_new file file_new answer bytes (Ok done) (Err (Out fault)) is saves fails behind =
+    (line (answer_text answer), (answer_status answer, (bytes, is, saves)))
+written_behind answers to_out to_file out out_new file file_new answer bytes (Ok done) (Err (File fault)) is saves fails behind = absurd behind
+written_behind answers to_out to_file out out_new file file_new answer bytes (Err torn) (Ok status) is saves fails behind = absurd behind
+written_behind answers to_out to_file out out_new file file_new answer bytes (Err torn) (Err (Out fault)) is saves fails behind = absurd behind
+written_behind answers to_out to_file out out_new file file_new answer bytes (Err torn) (Err (File fault)) is saves fails behind =
+    (line (answer_text answer), (answer_status answer, (bytes, is, fails, behind)))

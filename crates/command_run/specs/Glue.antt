@@ -10,7 +10,7 @@ use Rattle.report_lines.specs.Faults.{of_case, of_log, of_source}
 use Rattle.report_lines.specs.Lines.{answer_status, answer_text, line}
 use Rattle.audit_core.specs.Lines.{IsLineOf}
 use Rattle.audit_core.specs.Report.{IsReport}
-use Rattle.audit_core.specs.declared.report.Report.{Report}
+use Rattle.case_report.specs.declared.report.Report.{Report}
 use Rattle.case_files.specs.CaseReading.{ComesOfCase, Read, Reads}
 use Rattle.case_files.specs.declared.case_fault.CaseFault.{CaseFault}
 use Rattle.case_files.specs.declared.case_reading.ReadCase.{ReadCase}
@@ -85,12 +85,12 @@ Lists {X = X} first many adds log old new (Err fault) =
     (lines : List ℕ) × IsListedTo first many lines (stopped X) log.bytes log.is_over
 
 -- what is to be said where a log was listed so and was closed then: why the source can't read it, or else how its listing ended
-abbrev pub EndsSo : {X : Type 0} → Read → Result X ReadFault → List ℕ → Bool → Result X Fault → Type 0
-EndsSo (Err fault) listed came is_over ended = ended ≡ Err (of_source fault)
-EndsSo (Ok all) (Ok done) came is_over ended = MayBeAll came is_over all × (ended ≡ Ok done)
-EndsSo (Ok all) (Err (read.Bad fault)) came is_over ended = MayBeAll came is_over all × (ended ≡ Err (of_log fault))
-EndsSo (Ok all) (Err read.CannotRead) came is_over ended = ⊥
-EndsSo (Ok all) (Err read.OutOfMemory) came is_over ended = MayBeAll came is_over all × (ended ≡ Err OutOfMemory)
+abbrev pub ListingEndsSo : {X : Type 0} → Read → Result X ReadFault → List ℕ → Bool → Result X Fault → Type 0
+ListingEndsSo (Err fault) listed came is_over ended = ended ≡ Err (of_source fault)
+ListingEndsSo (Ok all) (Ok done) came is_over ended = MayBeAll came is_over all × (ended ≡ Ok done)
+ListingEndsSo (Ok all) (Err (read.Bad fault)) came is_over ended = MayBeAll came is_over all × (ended ≡ Err (of_log fault))
+ListingEndsSo (Ok all) (Err read.CannotRead) came is_over ended = ⊥
+ListingEndsSo (Ok all) (Err read.OutOfMemory) came is_over ended = MayBeAll came is_over all × (ended ≡ Err OutOfMemory)
 
 -- what is said behind the lines of a log, and the status
 abbrev pub text_behind : {X : Type 0} → Result X Fault → List ℕ
@@ -107,9 +107,9 @@ ComesJudged gives old name (Ok report) new = (came : ReadCase) × (ComesOfCase g
 ComesJudged gives old name (Err fault) new = (fault ≡ OutOfMemory) ⊎ ((found : CaseFault) × (ComesOfCase gives old name (Err found) new × (fault ≡ of_case found)))
 
 -- what came of a case of which the line alone was asked for: it, or the case's fault, or memory ran out
-abbrev pub ComesChecked : {S : Type 0} → Reads S → S → List ℕ → Result Report Fault → S → Type 0
-ComesChecked gives old name (Ok line) new = (came : ReadCase) × (ComesOfCase gives old name (Ok came) new × IsLineOf came.case came.order line)
-ComesChecked gives old name (Err fault) new = ComesJudged gives old name (Err fault) new
+abbrev pub ComesAsLine : {S : Type 0} → Reads S → S → List ℕ → Result Report Fault → S → Type 0
+ComesAsLine gives old name (Ok line) new = (came : ReadCase) × (ComesOfCase gives old name (Ok came) new × IsLineOf came.case came.order line)
+ComesAsLine gives old name (Err fault) new = ComesJudged gives old name (Err fault) new
 
 -- what came of a case that was drawn: its report and its picture, or its fault, or memory ran out
 abbrev pub ComesDrawn : {S : Type 0} → Asked → Reads S → S → List ℕ → Result FileAnswer Fault → S → Type 0
@@ -122,12 +122,14 @@ abbrev pub of_lines : {E X : Type 0} → Result ℕ E → Result ℕ (Failed E X
 of_lines (Ok status) = Ok status
 of_lines (Err fault) = Err (Out fault)
 
--- the exit status of lines that are told as objects: where they were told it is that of the answer, or that of a failed write;
--- where one wasn't, that of a failed write or the one of out of memory; where the file wasn't written, that of a failed write
-abbrev pub EndsAs : {E X : Type 0} → Result ℕ (Failed E X) → ℕ → Type 0
-EndsAs (Ok status) ended = (ended ≡ status) ⊎ (ended ≡ 2)
-EndsAs (Err (Out fault)) ended = (ended ≡ 2) ⊎ (ended ≡ 3)
-EndsAs (Err (File fault)) ended = ended ≡ 2
+-- What came of saying an answer behind what was saved: its line was written whole, and its status is the run's, or a write of it
+-- failed; where saving failed, nothing was written.
+abbrev pub SaysBehind : {A W E X : Type 0} → Result A X → Answer → Writing W → W → W → Result ℕ (Failed E X) → Type 0
+SaysBehind (Ok _) said wrote old new (Ok status) = (status ≡ answer_status said) × wrote old (line (answer_text said)) new
+SaysBehind (Ok _) said wrote old new (Err (Out fault)) = Unit {0}
+SaysBehind (Ok _) said wrote old new (Err (File fault)) = ⊥
+SaysBehind (Err _) said wrote old new (Err (File fault)) = new ≡ old
+SaysBehind (Err _) said wrote old new _ = ⊥
 
 -- what came of a log that was to be migrated answers it
 abbrev pub Migrates : Bool → Read → Result FileAnswer Fault → Type 0

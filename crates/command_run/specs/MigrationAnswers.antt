@@ -9,12 +9,12 @@ use Rattle.report_lines.specs.Faults.{of_log}
 use Rattle.report_lines.specs.Lines.{SaysAnswer}
 
 -- the log that is made of one: that of the later edition where it is asked for, or else one that is judged alike
-abbrev pub made_of : Bool → Log → Log
-made_of false log = migrated log
-made_of true log = raised log
+abbrev pub migrated_log : Bool → Log → Log
+migrated_log false log = migrated log
+migrated_log true log = raised log
 
 -- A line, a status and the bytes for the file answer what a log reads as: the log that is made of it, and its spelling; or
 -- its fault, and then there are no bytes.
 abbrev pub AnswersMigrated : Bool → Result Log LogError → List ℕ → ℕ → Option (List ℕ) → Type 0
-AnswersMigrated later (Ok log) text status bytes = SaysAnswer (Migrated (made_of later log)) text status × (bytes ≡ Some (log_bytes (made_of later log)))
+AnswersMigrated later (Ok log) text status bytes = SaysAnswer (Migrated (migrated_log later log)) text status × (bytes ≡ Some (log_bytes (migrated_log later log)))
 AnswersMigrated later (Err fault) text status bytes = SaysAnswer (Fault (of_log fault)) text status × (bytes ≡ None)

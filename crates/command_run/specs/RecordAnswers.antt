@@ -20,14 +20,14 @@ use Rattle.report_lines.specs.RecordText.{record_text}
 use Rattle.command_run.specs.Answers.{view_answer}
 
 -- what is answered to the frame that a record sends or receives, if it does, where it is read by an edition
-abbrev pub message_of : Edition → Body → Option Answer
-message_of edition (Send connection call references frame) = Some (view_answer (message_of_bytes edition frame default_limits))
-message_of edition (Receive connection call references frame) = Some (view_answer (message_of_bytes edition frame default_limits))
-message_of edition event = None
+abbrev pub message_answer : Edition → Body → Option Answer
+message_answer edition (Send connection call references frame) = Some (view_answer (message_of_bytes edition frame default_limits))
+message_answer edition (Receive connection call references frame) = Some (view_answer (message_of_bytes edition frame default_limits))
+message_answer edition event = None
 
 -- the line of a record, with its number
 abbrev pub record_line : Edition → ℕ → Body → List ℕ
-record_line edition at event = line (record_text at event (message_of edition event))
+record_line edition at event = line (record_text at event (message_answer edition event))
 
 -- the lines of records that follow one another, of which the first has this number
 abbrev pub record_lines : Edition → ℕ → List Body → List ℕ

@@ -5,10 +5,10 @@ use Rattle.std.specs.List.{flat_map}
 use Rattle.run_model.specs.Edges.{AreEdges, Edge}
 use Rattle.run_model.specs.Steps.{PastSteps}
 use Rattle.run_model.specs.declared.step.Step.{Step}
-use Rattle.authority.specs.Records.{record_of}
+use Rattle.authority.specs.Records.{record_of_step}
 use Rattle.audit_core.specs.Report.{IsReport}
-use Rattle.audit_core.specs.declared.report.Report.{Report as ReportOf}
-use Rattle.audit_core.specs.declared.report.Report.TheVariants.{Yes}
+use Rattle.case_report.specs.declared.report.Report.{Report as ReportOf}
+use Rattle.case_report.specs.declared.report.Report.TheVariants.{Yes}
 use Rattle.case_files.specs.declared.case_fault.CaseFault.{CaseFault}
 use Rattle.case_files.specs.declared.case_fault.CaseFault.TheVariants as fault
 use Rattle.case_files.specs.declared.case_reading.ReadCase.{ReadCase}
@@ -41,7 +41,7 @@ graph_lines true edges = dot_lines edges
 
 -- the line of a step, by the steps before it
 abbrev pub step_line : PastSteps → Step → List ℕ
-step_line before step = line (step_text (length before) (record_of before step) step)
+step_line before step = line (step_text (length before) (record_of_step before step) step)
 
 -- a line for each step of those that follow one another
 abbrev pub step_lines_from : PastSteps → List Step → List ℕ

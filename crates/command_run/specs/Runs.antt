@@ -30,10 +30,10 @@ CarriesOut gives (Frame hex later) old new writes = (new ≡ old) × writes (NoF
 CarriesOut gives (Frames file) old new writes = (read : Read) × gives old file.now read new × writes (NoFile (AnswersFile read))
 CarriesOut gives (Records file first many) old new writes = (read : Read) × gives old file.now read new × writes (NoFile (AnswersLogRecords first many read))
 CarriesOut gives (Check name workers) old new writes = writes (NoFile (AnswersReportOf AnswersReport gives old name.now new))
-CarriesOut gives (Graph name is_dot) old new writes = writes (NoFile (AnswersReportOf (AnswersGraph is_dot) gives old name.now new))
-CarriesOut gives (Run name) old new writes = writes (NoFile (AnswersReportOf AnswersRun gives old name.now new))
-CarriesOut gives (Draw name out first many is_page) old new writes =
-    writes (λ text status bytes. AnswersDraw (record { from = first; count = many; page = is_page }) gives old name.now text status bytes new)
+CarriesOut gives (Graph name is_dot many) old new writes = writes (NoFile (AnswersReportOf (AnswersGraph is_dot) gives old name.now new))
+CarriesOut gives (Run name many) old new writes = writes (NoFile (AnswersReportOf AnswersRun gives old name.now new))
+CarriesOut gives (Draw name out first steps is_page many) old new writes =
+    writes (λ text status bytes. AnswersDraw (record { from = first; count = steps; page = is_page }) gives old name.now text status bytes new)
 CarriesOut gives (Migrate file later out) old new writes = (read : Read) × gives old file.now read new × writes (AnswersMigration later read)
 CarriesOut gives (Salvage file out) old new writes = (read : Read) × gives old file.now read new × writes (AnswersSalvage read)
 CarriesOut gives (Wire one another out) old new writes =

@@ -10,8 +10,8 @@ use Rattle.report_lines.specs.Faults.{of_log}
 use Rattle.report_lines.specs.Lines.{SaysAnswer}
 
 -- they are the log of the longest run of whole records with which the bytes begin, and its spelling
-abbrev pub AnswersRun : List ℕ → List ℕ → ℕ → Option (List ℕ) → Type 0
-AnswersRun came text status bytes = (found : Salvaged) × (IsLongestRun came found.log × SaysAnswer (answer.Salvaged found) text status × (bytes ≡ Some (log_bytes found.log)))
+abbrev pub AnswersLongestRun : List ℕ → List ℕ → ℕ → Option (List ℕ) → Type 0
+AnswersLongestRun came text status bytes = (found : Salvaged) × (IsLongestRun came found.log × SaysAnswer (answer.Salvaged found) text status × (bytes ≡ Some (log_bytes found.log)))
 
 -- no log begins so: they are the fault of the header, and there are no bytes
 abbrev pub AnswersHeader : List ℕ → List ℕ → ℕ → Option (List ℕ) → Type 0
@@ -19,4 +19,4 @@ AnswersHeader came text status bytes = (fault : LogError) × ((header_of came �
 
 -- a line, a status and the bytes for the file answer these bytes
 abbrev pub AnswersSalvaged : List ℕ → List ℕ → ℕ → Option (List ℕ) → Type 0
-AnswersSalvaged came text status bytes = AnswersRun came text status bytes ⊎ AnswersHeader came text status bytes
+AnswersSalvaged came text status bytes = AnswersLongestRun came text status bytes ⊎ AnswersHeader came text status bytes

@@ -6,8 +6,8 @@ use Rattle.case_files.specs.CaseFile.{IsCaseFile, Listed, link_case}
 use Rattle.case_files.specs.CaseReading.{Reads}
 use Rattle.case_files.specs.declared.source.SourceError.{SourceError}
 use Rattle.wire_logs.specs.Found.{IsAnswer}
-use Rattle.wire_logs.specs.declared.wire_answer.WireAnswer.{WireAnswer}
-use Rattle.wire_logs.specs.declared.wire_answer.WireLogs.{WireLogs}
+use Rattle.case_report.specs.declared.wire_answer.WireAnswer.{WireAnswer}
+use Rattle.case_report.specs.declared.wire_answer.WireLogs.{WireLogs}
 use Rattle.report_lines.specs.declared.answer.Answer.TheVariants.{Fault, Wire}
 use Rattle.report_lines.specs.Faults.{of_source}
 use Rattle.report_lines.specs.Lines.{SaysAnswer}

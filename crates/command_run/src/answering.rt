@@ -2,13 +2,13 @@
 
 ghost use Rattle.std.specs.Prelude.{◌≡◌, None, OnOk, OnErr, IfOk, IsSome, option_map};
 ghost use Rattle.report_lines.specs.Lines.{answer_status, answer_text, line};
-ghost use Rattle.command_run.specs.Glue.{IsMade};
+ghost use Rattle.command_run.specs.Glue.{IsMade, SaysBehind, of_lines};
 ghost use Rattle.command_run.specs.Runs.{Adds, Saves, Writes, Wrote};
 
+use crate::hearing::Hears;
 use crate::output::{Failed, Output};
 use bytes::Bytes;
-use cause_notes::Heard;
-use report_lines::{Answer, Fault};
+use report_lines::{Answer, Fault, ShownLine};
 use std::mem;
 
 /// What answers where a file is asked for.
@@ -33,20 +33,24 @@ impl FileAnswer {
 }
 
 /// Writes the line of an answer that is kept, and gives its exit status. More may follow.
-fn put_line<O: Output>(answer: &Answer, heard: &mut Heard, out: &mut O) -> Result<u8, O::Error>
+fn put_line<O: Output, H: Hears>(
+    answer: &Answer,
+    heard: &mut H,
+    out: &mut O,
+) -> Result<u8, O::Error>
     requires { O.can_write out.old }
     ensures status { IfOk result (λ status. status ≡ answer_status answer.now) }
     ensures line { OnOk result (Adds O.contents out.old (line (answer_text answer.now)) out.new) }
     ensures more { OnOk result (O.can_write out.new) }
 {
     heard.hear(answer);
-    out.write_line(answer)?;
+    out.write_line(ShownLine::Answer(answer))?;
     Ok(answer.status())
 }
 
 /// Writes the line of an answer, and gives its exit status. More may follow. What an answer holds is left to the system,
 /// which takes all memory at once where the program ends: to give it back here, record by record, takes longer.
-pub fn put<O: Output>(answer: Answer, heard: &mut Heard, out: &mut O) -> Result<u8, O::Error>
+pub fn put<O: Output, H: Hears>(answer: Answer, heard: &mut H, out: &mut O) -> Result<u8, O::Error>
     requires { O.can_write out.old }
     ensures status { IfOk result (λ status. status ≡ answer_status answer) }
     ensures line { OnOk result (Adds O.contents out.old (line (answer_text answer)) out.new) }
@@ -57,16 +61,32 @@ pub fn put<O: Output>(answer: Answer, heard: &mut Heard, out: &mut O) -> Result<
     status
 }
 
-/// Writes the line of an answer, to which nothing is added, and gives its exit status.
-pub fn say<O: Output>(answer: Answer, heard: &mut Heard, out: &mut O) -> Result<u8, O::Error>
+/// Writes the line of an answer that is kept, to which nothing is added, and gives its exit status.
+fn say_lent<O: Output, H: Hears>(
+    answer: &Answer,
+    heard: &mut H,
+    out: &mut O,
+) -> Result<u8, O::Error>
+    requires { O.can_write out.old }
+    ensures status { IfOk result (λ status. status ≡ answer_status answer.now) }
+    ensures line { OnOk result
+        (Wrote O.contents O.is_finished out.old (line (answer_text answer.now)) out.new) }
+{
+    let status = put_line(answer, heard, out)?;
+    out.finish()?;
+    Ok(status)
+}
+
+/// Writes the line of an answer, to which nothing is added, and gives its exit status. What it holds is left to the system.
+pub fn say<O: Output, H: Hears>(answer: Answer, heard: &mut H, out: &mut O) -> Result<u8, O::Error>
     requires { O.can_write out.old }
     ensures status { IfOk result (λ status. status ≡ answer_status answer) }
     ensures line { OnOk result
         (Wrote O.contents O.is_finished out.old (line (answer_text answer)) out.new) }
 {
-    let status = put(answer, heard, out)?;
-    out.finish()?;
-    Ok(status)
+    let said = say_lent(&answer, heard, out);
+    mem::forget(answer);
+    said
 }
 
 /// Writes bytes, and ends the file in which they stand. More files may follow.
@@ -94,14 +114,45 @@ fn save<F: Output>(bytes: &Option<Bytes>, file: &mut F) -> Result<(), F::Error>
     Ok(())
 }
 
+/// What came of writing lines alone: a write that failed is one of them.
+pub fn of_lines<O, F>(said: Result<u8, O>) -> Result<u8, Failed<O, F>>
+    ensures { result ≡ of_lines said }
+{
+    match said {
+        Ok(status) => Ok(status),
+        Err(fault) => Err(Failed::Out(fault)),
+    }
+}
+
+/// Says an answer, where what belongs to it was saved; else it fails as that did.
+///
+/// # Errors
+///
+/// That of the write that failed; nothing is written after it.
+pub fn say_behind<O: Output, X, H: Hears>(
+    saved: Result<(), X>,
+    answer: &Answer,
+    heard: &mut H,
+    out: &mut O,
+) -> Result<u8, Failed<O::Error, X>>
+    requires { O.can_write out.old }
+    ensures { SaysBehind saved answer.now
+        (Wrote O.contents O.is_finished) out.old out.new result }
+{
+    match saved {
+        Ok(()) => of_lines(say_lent(answer, heard, out)),
+        Err(fault) => Err(Failed::File(fault)),
+    }
+}
+
 /// Writes the bytes of an answer to `file`, if it has any, and then says it.
 ///
 /// # Errors
 ///
 /// That of a write; nothing is written after it.
-pub fn say_made<O: Output, F: Output>(
+pub fn say_made<O: Output, F: Output, H: Hears>(
     made: FileAnswer,
-    heard: &mut Heard,
+    heard: &mut H,
     out: &mut O,
     file: &mut F,
 ) -> Result<u8, Failed<O::Error, F::Error>>
@@ -111,11 +162,8 @@ pub fn say_made<O: Output, F: Output>(
         (Wrote F.contents F.is_finished) out.old out.new file.old file.new result }
 {
     let FileAnswer { answer, bytes } = made;
-    if let Err(fault) = save(&bytes, file) {
-        return Err(Failed::File(fault));
-    }
-    match say(answer, heard, out) {
-        Ok(status) => Ok(status),
-        Err(fault) => Err(Failed::Out(fault)),
-    }
+    let saved = save(&bytes, file);
+    let said = say_behind(saved, &answer, heard, out);
+    mem::forget(answer);
+    said
 }

@@ -9,25 +9,21 @@
 //! a log that is migrated (`specs/MigrationAnswers.antt`) or salvaged (`specs/SalvageAnswers.antt`), of a case whose order is asked for (`specs/OrderAnswers.antt`), of one that is
 //! judged (`specs/ReportAnswers.antt`), of one that is drawn (`specs/DrawAnswers.antt`), and of logs that are joined (`specs/JoinAnswers.antt`); what a
 //! run asks for and writes in `specs/Runs.antt`. [`answer_command`] does just that, or answers the error of a write;
-//! [`run_on`] does it over std's writers and ends with 2 where a write failed, and [`run_with_notes`] tells people more of
-//! it besides (`cause_notes`), on a writer of its own: what it tells is in no contract. [`run_as_json`] tells each line as an
-//! object (`json_lines`), and [`run_as_json_with_notes`] the notes in the last one.
+//! [`run_on`] does it over std's writers and ends with 2 where a write failed. What [`Hears`] the answers of
+//! [`answer_heard`] may tell people more of them, and an [`Output`] may write lines as something else than text: no answer
+//! depends on either.
 #![tactic(auto)]
 
 mod answering;
 mod commands;
+mod hearing;
 mod host;
-mod json_output;
-mod json_run;
 mod output;
 mod run;
-mod told_lines;
 mod watch;
 
-pub use cause_notes::SearchingSource;
-pub use json_output::JsonOutput;
-pub use json_run::{run_as_json, run_as_json_with_notes};
+pub use hearing::{Hears, Unheard};
+pub use host::Host;
 pub use output::{Failed, Output};
-pub use run::{FAILED, NotedSource, answer_command, run_on, run_with_notes};
-pub use told_lines::{LineFault, Telling, ToldLines, run_telling};
+pub use run::{FAILED, answer_command, answer_heard, run_on};
 pub use watch::{Unwatched, Watch};

@@ -1,11 +1,11 @@
 //! What is written to.
 
-ghost use Rattle.std.specs.Prelude.{ℕ, List, Option, None, OnOk, IfSome, ⊤};
+ghost use Rattle.std.specs.Prelude.{ℕ, List, Option, None, OnOk, ⊤};
 ghost use Rattle.std.specs.Io.KnownBytes.{Appends, Keeps};
-ghost use Rattle.std.specs.Fmt.{with_newline};
+ghost use Rattle.report_lines.specs.Lines.{line};
+ghost use Rattle.report_lines.specs.ShownLines.{shown_text};
 
-use json_lines::Line;
-use std::fmt::Display;
+use report_lines::ShownLine;
 use std::io;
 use std::io::Write;
 
@@ -25,11 +25,10 @@ pub trait Output {
     ghost can_write: { Self → Type 0 } = { λ _. ⊤ };
 
     /// Writes a line: its text, and behind it the end of the line, or what stands for it.
-    fn write_line<L: Line + Display>(&mut self, line: &L) -> Result<(), Self::Error>
+    fn write_line(&mut self, shown: ShownLine<'_>) -> Result<(), Self::Error>
         requires { can_write self.old }
         ensures line { OnOk result
-            (IfSome (with_newline (L.output line.now))
-            (Appends (contents self.old) (contents self.new))) }
+            (Appends (contents self.old) (contents self.new) (line (shown_text shown.entry))) }
         ensures more { OnOk result (can_write self.new) };
 
     /// Writes bytes.
@@ -52,8 +51,8 @@ impl<W: Write> Output for W {
 
     ghost contents = { W.contents };
 
-    fn write_line<L: Line + Display>(&mut self, line: &L) -> io::Result<()> {
-        self.writeln(line)
+    fn write_line(&mut self, shown: ShownLine<'_>) -> io::Result<()> {
+        self.writeln(shown)
     }
 
     fn write_bytes(&mut self, bytes: &[u8]) -> io::Result<()> {
@@ -66,7 +65,7 @@ impl<W: Write> Output for W {
 }
 
 /// Which write failed.
-#[derive(Debug, Drop)]
+#[derive(Drop)]
 pub enum Failed<O, F> {
     /// A write of the lines.
     Out(O),

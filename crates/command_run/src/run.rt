@@ -1,10 +1,9 @@
 //! Commands, run over a source and writers.
 
-ghost use Rattle.std.specs.Prelude.{◌≡◌};
 ghost use Rattle.command_line.specs.Spelled.{HasWorkers};
-ghost use Rattle.command_run.specs.Glue.{of_lines};
 ghost use Rattle.command_run.specs.Runs.{Adds, CarriesOut, Writes, WritesOrFails, Wrote};
 
+use crate::answering::of_lines;
 use crate::commands::check::say_report;
 use crate::commands::draw_case::say_drawn;
 use crate::commands::frame_list::say_frames;
@@ -18,15 +17,14 @@ use crate::commands::migrate_log::say_migrated;
 use crate::commands::run_steps::say_run;
 use crate::commands::vat_audit::say_vat;
 use crate::commands::wire_files::{AskedWire, say_wire};
+use crate::hearing::{Hears, Unheard};
 use crate::host::Host;
 use crate::output::{Failed, Output};
 use crate::watch::{Unwatched, Watch};
 use case_files::Source;
-use cause_notes::{Form, Heard, Notes, SearchingSource, notes_of, write_note};
 use command_line::Command;
 use picture::Asked;
-use std::alloc::{AllocError, Global};
-use std::io;
+use std::alloc::Global;
 use std::io::Write;
 use std::sync::Wait;
 use std::thread::Threads;
@@ -34,28 +32,19 @@ use std::thread::Threads;
 /// The exit status where a write fails, or the command line is wrong.
 pub const FAILED: u8 = 2;
 
-/// What came of writing lines alone: a write that failed is one of them.
-fn of_lines<O, F>(said: Result<u8, O>) -> Result<u8, Failed<O, F>>
-    ensures { result ≡ of_lines said }
-{
-    match said {
-        Ok(status) => Ok(status),
-        Err(fault) => Err(Failed::Out(fault)),
-    }
-}
-
 /// Runs a command, as [`answer_command`] does; its last answer is heard.
-pub(crate) fn answer_heard<
+pub fn answer_heard<
     R: Threads + Wait + Sync,
     G: Watch + Sync,
     S: Source,
     O: Output,
     F: Output,
+    H: Hears,
 >(
     host: &Host<'_, R, G>,
     command: &Command<'_>,
     source: &mut S,
-    heard: &mut Heard,
+    heard: &mut H,
     out: &mut O,
     file: &mut F,
 ) -> Result<u8, Failed<O::Error, F::Error>>
@@ -71,15 +60,18 @@ pub(crate) fn answer_heard<
             of_lines(say_report(host, case, *workers, source, heard, out))
         }
         Command::Order { case, .. } => say_order(host.alloc, case, source, heard, out, file),
-        Command::Graph { case, dot } => {
-            of_lines(say_graph(host, case, *dot, source, heard, out))
+        Command::Graph { case, dot, workers } => {
+            of_lines(say_graph(host, case, *workers, *dot, source, heard, out))
         }
-        Command::Run { case } => of_lines(say_run(host, case, source, heard, out)),
+        Command::Run { case, workers } => {
+            of_lines(say_run(host, case, *workers, source, heard, out))
+        }
         Command::Draw {
             case,
             from,
             count,
             html,
+            workers,
             ..
         } => {
             let asked = Asked {
@@ -87,7 +79,7 @@ pub(crate) fn answer_heard<
                 count: *count,
                 page: *html,
             };
-            say_drawn(host, case, asked, source, heard, out, file)
+            say_drawn(host, case, *workers, asked, source, heard, out, file)
         }
         Command::Vat { file: name } => of_lines(say_vat(host.alloc, name, source, heard, out)),
         Command::Records {
@@ -160,14 +152,7 @@ pub fn answer_command<R: Threads + Wait + Sync, S: Source, O: Output, F: Output>
         alloc,
         watch: &Unwatched,
     };
-    answer_heard(
-        &host,
-        command,
-        source,
-        &mut Heard::without_notes(),
-        out,
-        file,
-    )
+    answer_heard(&host, command, source, &mut Unheard, out, file)
 }
 
 /// Runs a command over std's writers: as `answer_command`, and the exit status is 2 where a write fails.
@@ -185,98 +170,4 @@ pub fn run_on<R: Threads + Wait + Sync, S: Source, W: Write, F: Write>(
         (Adds F.contents) out.old out.new file.old file.new result) }
 {
     answer_command(rt, alloc, command, source, out, file).unwrap_or(FAILED)
-}
-
-/// A source, what the notes of what was read from it are written to, and what watches its case being audited.
-#[derive(Drop)]
-pub struct NotedSource<'a, S, N, G> {
-    /// The source.
-    pub source: S,
-    /// The writer of the notes.
-    pub notes: N,
-    /// The watch.
-    pub watch: &'a G,
-}
-
-/// What people are told beside what was heard of a source.
-pub(crate) fn heard_notes<S: SearchingSource>(
-    alloc: Global,
-    command: &Command<'_>,
-    heard: &Heard,
-    source: &S,
-    form: Form,
-) -> Result<Notes, AllocError> {
-    let hex = match command {
-        Command::Frame { hex, .. } => Some(*hex),
-        _ => None,
-    };
-    notes_of(alloc, heard, source, hex, form)
-}
-
-/// Writes the notes beside what was heard of a source. Where a write fails, or memory is refused for them, they are left out.
-fn write_notes<S: SearchingSource, N: Write>(
-    alloc: Global,
-    command: &Command<'_>,
-    heard: &Heard,
-    source: &S,
-    notes: &mut N,
-) {
-    if let Ok(told) = heard_notes(alloc, command, heard, source, Form::Text) {
-        let _ = notes.write_all(told.text.as_bytes());
-    }
-}
-
-/// Writes the note of a write that failed, if one did.
-fn write_failure<N: Write>(
-    alloc: Global,
-    command: &Command<'_>,
-    answered: &Result<u8, Failed<io::Error, io::Error>>,
-    notes: &mut N,
-) {
-    let noted = match answered {
-        Ok(_) => return,
-        Err(Failed::Out(error)) => write_note(alloc, None, error),
-        Err(Failed::File(error)) => write_note(alloc, command.out(), error),
-    };
-    if let Ok(text) = noted {
-        let _ = notes.write_all(text.as_bytes());
-    }
-}
-
-/// Runs a command over std's writers, as [`run_on`] does, and then writes notes: lines for people, beside a no, an outside, an
-/// input that is bad or can't be read, and a write that failed (docs/FORMATS.md). No contract says what they tell. They change
-/// neither what is written elsewhere nor the exit status: where a write of them fails, or memory is refused for them, they are
-/// left out.
-pub fn run_with_notes<
-    R: Threads + Wait + Sync,
-    G: Watch + Sync,
-    S: SearchingSource,
-    W: Write,
-    F: Write,
-    N: Write,
->(
-    rt: &R,
-    alloc: Global,
-    command: &Command<'_>,
-    noted: &mut NotedSource<'_, S, N, G>,
-    out: &mut W,
-    file: &mut F,
-) -> u8
-    requires { HasWorkers command.now }
-    ensures { CarriesOut S.read_gives command.now noted.old.source noted.new.source
-        (λ answers. WritesOrFails answers (Adds W.contents)
-        (Adds F.contents) out.old out.new file.old file.new result) }
-{
-    let mut heard = Heard::new();
-    let host = Host {
-        rt,
-        alloc,
-        watch: noted.watch,
-    };
-    let answered = answer_heard(&host, command, &mut noted.source, &mut heard, out, file);
-    let _ = noted.source.look_back();
-    write_notes(alloc, command, &heard, &noted.source, &mut noted.notes);
-    heard.leave();
-    write_failure(alloc, command, &answered, &mut noted.notes);
-    answered.unwrap_or(FAILED)
 }

@@ -1,70 +1,74 @@
 //! The object of an answer.
 
-use crate::fault_object::fault_object;
-use crate::join_object::join_object;
-use crate::message_object::message_object;
-use crate::wire_object::wire_object;
-use audit_core::Report;
+use crate::fault_object::put_fault;
+use crate::join_object::put_join;
+use crate::json_text::JsonText;
+use crate::message_object::put_message;
+use crate::wire_object::put_wire;
+use case_report::Report;
 use report_lines::{Answer, breach_code, code_of, word_of};
-use serde_json::{Value, json};
-use std::alloc::{AllocError, Global};
+use vat_log::{Salvaged, SpelledLog};
 use vat_rules::{SlimFinding, SlimOutcome, Why};
 
-/// A record of a vat breaks what has this code.
-fn broken_object(alloc: Global, vat: u32, at: u64, code: &str) -> Result<Value, AllocError> {
-    json!(in alloc; {"kind": "no", "vat": vat, "record": at, "rule": code})
+/// Writes that a record of a vat breaks what has this code.
+fn put_broken(json: &mut JsonText<'_>, vat: u32, at: u64, code: &str) {
+    json.text_member("kind", "no");
+    json.number_member("record", at);
+    json.text_member("rule", code);
+    json.number_member("vat", u64::from(vat));
 }
 
-/// A record of a vat isn't judged.
-fn outside_object(alloc: Global, vat: u32, at: u64, why: Why) -> Result<Value, AllocError> {
-    let word = word_of(why);
-    json!(in alloc; {"kind": "outside", "vat": vat, "record": at, "why": word})
+/// Writes that a record of a vat isn't judged.
+fn put_outside(json: &mut JsonText<'_>, vat: u32, at: u64, why: Why) {
+    json.text_member("kind", "outside");
+    json.number_member("record", at);
+    json.number_member("vat", u64::from(vat));
+    json.text_member("why", word_of(why));
 }
 
-/// What the audit of a vat's log found.
-fn finding_object(alloc: Global, finding: &SlimFinding) -> Result<Value, AllocError> {
+/// Writes what the audit of a vat's log found.
+fn put_finding(json: &mut JsonText<'_>, finding: &SlimFinding) {
     let vat = finding.vat();
-    let records = finding.len();
     match finding.outcome() {
         SlimOutcome::Good(story) => {
-            let delivered = story.delivered();
-            json!(in alloc; {"kind": "good", "vat": vat, "records": records, "delivered": delivered})
+            json.number_member("delivered", story.delivered());
+            json.text_member("kind", "good");
+            json.number_member("records", finding.len());
+            json.number_member("vat", u64::from(vat));
         }
-        SlimOutcome::Broken { at, rule } => broken_object(alloc, vat, *at, code_of(*rule)),
-        SlimOutcome::Outside { at, why } => outside_object(alloc, vat, *at, *why),
+        SlimOutcome::Broken { at, rule } => put_broken(json, vat, *at, code_of(*rule)),
+        SlimOutcome::Outside { at, why } => put_outside(json, vat, *at, *why),
     }
 }
 
-/// A link whose ends differ.
-fn link_object(
-    alloc: Global,
-    connection: u32,
-    end: u32,
-    message: u64,
-) -> Result<Value, AllocError> {
-    json!(in alloc; {"kind": "no link", "connection": connection, "end": end, "message": message})
+/// Writes a link whose ends differ.
+fn put_link(json: &mut JsonText<'_>, connection: u32, end: u32, message: u64) {
+    json.number_member("connection", u64::from(connection));
+    json.number_member("end", u64::from(end));
+    json.text_member("kind", "no link");
+    json.number_member("message", message);
 }
 
-/// No order of the records exists.
-fn no_order_object(alloc: Global) -> Result<Value, AllocError> {
-    json!(in alloc; {"kind": "no order exists"})
+/// Writes that no order of the records exists.
+fn put_no_order(json: &mut JsonText<'_>) {
+    json.text_member("kind", "no order exists");
 }
 
-/// What is answered of a case.
-fn report_object(alloc: Global, report: &Report) -> Result<Value, AllocError> {
+/// Writes what is answered of a case.
+fn put_report(json: &mut JsonText<'_>, report: &Report) {
     match report {
-        Report::Vat { vat, at, rule } => broken_object(alloc, *vat, *at, breach_code(*rule)),
-        Report::OutsideVat { vat, at, why } => outside_object(alloc, *vat, *at, *why),
+        Report::Vat { vat, at, rule } => put_broken(json, *vat, *at, breach_code(*rule)),
+        Report::OutsideVat { vat, at, why } => put_outside(json, *vat, *at, *why),
         Report::Link {
             connection,
             end,
             message,
-        } => link_object(alloc, *connection, *end, *message),
+        } => put_link(json, *connection, *end, *message),
         Report::OrderStep(step) => {
-            let step = *step;
-            json!(in alloc; {"kind": "no order step", "step": step})
+            json.text_member("kind", "no order step");
+            json.number_member("step", *step);
         }
-        Report::NoOrder => no_order_object(alloc),
+        Report::NoOrder => put_no_order(json),
         Report::Yes {
             vats,
             records,
@@ -72,37 +76,47 @@ fn report_object(alloc: Global, report: &Report) -> Result<Value, AllocError> {
             under_way,
             ..
         } => {
-            let (vats, records) = (*vats, *records);
-            let (delivered, under_way) = (*delivered, *under_way);
-            json!(in alloc; {
-                "kind": "yes", "vats": vats, "records": records, "delivered": delivered, "under_way": under_way
-            })
+            json.number_member("delivered", *delivered);
+            json.text_member("kind", "yes");
+            json.number_member("records", *records);
+            json.number_member("under_way", *under_way);
+            json.number_member("vats", *vats);
         }
     }
 }
 
-/// The object of an answer.
-pub(crate) fn answer_object(alloc: Global, answer: &Answer) -> Result<Value, AllocError> {
+/// Writes of which vat a log is, and how many records it has.
+fn put_log(json: &mut JsonText<'_>, kind: &str, log: &SpelledLog) {
+    json.text_member("kind", kind);
+    json.number_member("records", log.len() as u64);
+    json.number_member("vat", u64::from(log.vat()));
+}
+
+/// Writes the members of an answer.
+fn put_members(json: &mut JsonText<'_>, answer: &Answer) {
     match answer {
-        Answer::Finding(finding) => finding_object(alloc, finding),
-        Answer::Report(report) => report_object(alloc, report),
-        Answer::Message(message) => message_object(alloc, message),
+        Answer::Finding(finding) => put_finding(json, finding),
+        Answer::Report(report) => put_report(json, report),
+        Answer::Message(message) => put_message(json, message),
         Answer::Order(order) => {
-            let steps = order.as_slice().len();
-            json!(in alloc; {"kind": "order", "steps": steps})
+            json.text_member("kind", "order");
+            json.number_member("steps", order.as_slice().len() as u64);
         }
-        Answer::NoOrder => no_order_object(alloc),
-        Answer::Migrated(log) => {
-            let (vat, records) = (log.vat(), log.len());
-            json!(in alloc; {"kind": "migrated", "vat": vat, "records": records})
+        Answer::NoOrder => put_no_order(json),
+        Answer::Migrated(log) => put_log(json, "migrated", log),
+        Answer::Salvaged(Salvaged { log, .. }) => {
+            json.number_member("bytes", log.bytes().len() as u64);
+            put_log(json, "salvaged", log);
         }
-        Answer::Salvaged(found) => {
-            let (vat, records) = (found.log.vat(), found.log.len());
-            let bytes = found.log.bytes().len();
-            json!(in alloc; {"kind": "salvaged", "vat": vat, "records": records, "bytes": bytes})
-        }
-        Answer::Wire(line) => wire_object(alloc, line),
-        Answer::Join(line) => join_object(alloc, line),
-        Answer::Fault(fault) => fault_object(alloc, *fault),
+        Answer::Wire(line) => put_wire(json, line),
+        Answer::Join(line) => put_join(json, line),
+        Answer::Fault(fault) => put_fault(json, *fault),
     }
+}
+
+/// Writes the object of an answer.
+pub(crate) fn put_answer(json: &mut JsonText<'_>, answer: &Answer) {
+    json.begin_object();
+    put_members(json, answer);
+    json.end_object();
 }

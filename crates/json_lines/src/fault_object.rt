@@ -1,123 +1,112 @@
 //! The object of a fault.
 
-use crate::lists::put_member;
+use crate::json_text::JsonText;
 use cap_frame::FrameError;
 use cap_reader::ReadError;
 use case_book::{CaseError, TieFault};
 use merge_order::OrderError;
 use report_lines::{Fault, Shown};
 use rpc_view::Outside;
-use serde_json::{Value, json};
-use std::alloc::{AllocError, Global};
-use std::fmt::Display;
 use vat_log::LogError;
 
-/// An object that has its kind alone.
-fn kind_alone(alloc: Global, kind: &str) -> Result<Value, AllocError> {
-    json!(in alloc; {"kind": kind})
-}
-
-/// An object with a second word, which says why.
-fn with_reason<D: Display>(
-    alloc: Global,
-    kind: &str,
-    name: &str,
-    reason: &D,
-) -> Result<Value, AllocError> {
-    let text = format!(in alloc; "{reason}")?;
-    let mut object = kind_alone(alloc, kind)?;
-    put_member(alloc, &mut object, name, Value::String(text))?;
-    Ok(object)
-}
-
-/// An object with the fault's name, and the number that belongs to it, if one does.
-fn with_fault(
-    alloc: Global,
-    kind: &str,
-    fault: &str,
-    numbered: Option<(&str, u64)>,
-) -> Result<Value, AllocError> {
-    let mut object = json!(in alloc; {"kind": kind, "fault": fault})?;
-    if let Some((name, number)) = numbered {
-        put_member(alloc, &mut object, name, Value::from(number))?;
+/// Writes the fault's name, and the offset that belongs to it, if one does.
+fn put_offset(json: &mut JsonText<'_>, kind: &str, fault: &str, offset: Option<u64>) {
+    json.text_member("fault", fault);
+    json.text_member("kind", kind);
+    if let Some(offset) = offset {
+        json.number_member("offset", offset);
     }
-    Ok(object)
 }
 
-/// Why bytes aren't a log.
-fn log_object(alloc: Global, fault: LogError) -> Result<Value, AllocError> {
+/// Writes the name of a fault of a case.
+fn put_case(json: &mut JsonText<'_>, fault: &str) {
+    json.text_member("fault", fault);
+    json.text_member("kind", "bad case");
+}
+
+/// Writes the name of a fault of a case, and the connection that has it.
+fn put_connection(json: &mut JsonText<'_>, fault: &str, connection: u32) {
+    json.number_member("connection", u64::from(connection));
+    put_case(json, fault);
+}
+
+/// Writes why bytes aren't a log.
+fn put_log(json: &mut JsonText<'_>, fault: LogError) {
     let (name, offset) = match fault {
         LogError::BadMagic => ("BadMagic", None),
-        LogError::Short(at) => ("Short", Some(("offset", at))),
-        LogError::BadKind(at) => ("BadKind", Some(("offset", at))),
-        LogError::ZeroNumber(at) => ("ZeroNumber", Some(("offset", at))),
+        LogError::Short(at) => ("Short", Some(at)),
+        LogError::BadKind(at) => ("BadKind", Some(at)),
+        LogError::ZeroNumber(at) => ("ZeroNumber", Some(at)),
         LogError::TooLong => ("TooLong", None),
         LogError::OutOfMemory => ("OutOfMemory", None),
     };
-    with_fault(alloc, "bad log", name, offset)
+    put_offset(json, "bad log", name, offset);
 }
 
-/// Why bytes aren't an order.
-fn order_object(alloc: Global, fault: OrderError) -> Result<Value, AllocError> {
+/// Writes why bytes aren't an order.
+fn put_order(json: &mut JsonText<'_>, fault: OrderError) {
     let (name, offset) = match fault {
         OrderError::BadMagic => ("BadMagic", None),
-        OrderError::Short(at) => ("Short", Some(("offset", at))),
+        OrderError::Short(at) => ("Short", Some(at)),
         OrderError::OutOfMemory => ("OutOfMemory", None),
     };
-    with_fault(alloc, "bad order", name, offset)
+    put_offset(json, "bad order", name, offset);
 }
 
-/// Why logs and links make no case.
-fn refused_object(alloc: Global, refusal: CaseError) -> Result<Value, AllocError> {
-    let (name, number) = match refusal {
-        CaseError::TooManyVats => ("TooManyVats", None),
-        CaseError::SameVat(vat) => ("SameVat", Some(("vat", vat as u64))),
-        CaseError::TooManyLinks => ("TooManyLinks", None),
-        CaseError::SameLink(connection) => ("SameLink", Some(("connection", connection as u64))),
-        CaseError::OutOfMemory => ("OutOfMemory", None),
-    };
-    with_fault(alloc, "bad case", name, number)
+/// Writes why logs and links make no case.
+fn put_refused(json: &mut JsonText<'_>, refusal: CaseError) {
+    match refusal {
+        CaseError::TooManyVats => put_case(json, "TooManyVats"),
+        CaseError::SameVat(vat) => {
+            put_case(json, "SameVat");
+            json.number_member("vat", u64::from(vat));
+        }
+        CaseError::TooManyLinks => put_case(json, "TooManyLinks"),
+        CaseError::SameLink(connection) => put_connection(json, "SameLink", connection),
+        CaseError::OutOfMemory => put_case(json, "OutOfMemory"),
+    }
 }
 
-/// Why they don't tie up.
-fn untied_object(alloc: Global, fault: TieFault) -> Result<Value, AllocError> {
-    let (name, connection) = match fault {
-        TieFault::MissingLog(connection) => ("MissingLog", connection),
-        TieFault::SameEnds(connection) => ("SameEnds", connection),
-    };
-    let connection = Some(("connection", connection as u64));
-    with_fault(alloc, "bad case", name, connection)
-}
-
-/// Why a frame isn't one.
-fn frame_object(alloc: Global, fault: FrameError) -> Result<Value, AllocError> {
-    with_reason(alloc, "bad frame", "fault", &Shown(fault))
-}
-
-/// Why a pointer of a frame can't be followed.
-fn read_object(alloc: Global, fault: ReadError) -> Result<Value, AllocError> {
-    with_reason(alloc, "bad read", "fault", &Shown(fault))
-}
-
-/// Why a frame's message is outside of what is read.
-fn outside_object(alloc: Global, why: Outside) -> Result<Value, AllocError> {
-    with_reason(alloc, "outside", "why", &Shown(why))
-}
-
-/// The object of a fault.
-pub(crate) fn fault_object(alloc: Global, fault: Fault) -> Result<Value, AllocError> {
+/// Writes why they don't tie up.
+fn put_untied(json: &mut JsonText<'_>, fault: TieFault) {
     match fault {
-        Fault::CannotRead => kind_alone(alloc, "cannot read"),
-        Fault::OutOfMemory => kind_alone(alloc, "out of memory"),
-        Fault::BadHex => kind_alone(alloc, "bad hex"),
-        Fault::Frame(fault) => frame_object(alloc, fault),
-        Fault::Read(fault) => read_object(alloc, fault),
-        Fault::Outside(why) => outside_object(alloc, why),
-        Fault::BadTag => kind_alone(alloc, "bad tag"),
-        Fault::Log(fault) => log_object(alloc, fault),
-        Fault::Order(fault) => order_object(alloc, fault),
-        Fault::Form => kind_alone(alloc, "bad case"),
-        Fault::Refused(refusal) => refused_object(alloc, refusal),
-        Fault::Untied(fault) => untied_object(alloc, fault),
+        TieFault::MissingLog(connection) => put_connection(json, "MissingLog", connection),
+        TieFault::SameEnds(connection) => put_connection(json, "SameEnds", connection),
+    }
+}
+
+/// Writes why a frame isn't one.
+fn put_frame(json: &mut JsonText<'_>, fault: FrameError) {
+    json.shown_member("fault", &Shown(fault));
+    json.text_member("kind", "bad frame");
+}
+
+/// Writes why a pointer of a frame can't be followed.
+fn put_read(json: &mut JsonText<'_>, fault: ReadError) {
+    json.shown_member("fault", &Shown(fault));
+    json.text_member("kind", "bad read");
+}
+
+/// Writes why a frame's message is outside of what is read.
+fn put_outside(json: &mut JsonText<'_>, why: Outside) {
+    json.text_member("kind", "outside");
+    json.shown_member("why", &Shown(why));
+}
+
+/// Writes the members of a fault.
+pub(crate) fn put_fault(json: &mut JsonText<'_>, fault: Fault) {
+    match fault {
+        Fault::CannotRead => json.text_member("kind", "cannot read"),
+        Fault::OutOfMemory => json.text_member("kind", "out of memory"),
+        Fault::BadHex => json.text_member("kind", "bad hex"),
+        Fault::Frame(fault) => put_frame(json, fault),
+        Fault::Read(fault) => put_read(json, fault),
+        Fault::Outside(why) => put_outside(json, why),
+        Fault::BadTag => json.text_member("kind", "bad tag"),
+        Fault::Log(fault) => put_log(json, fault),
+        Fault::Order(fault) => put_order(json, fault),
+        Fault::Form => json.text_member("kind", "bad case"),
+        Fault::Refused(refusal) => put_refused(json, refusal),
+        Fault::Untied(fault) => put_untied(json, fault),
     }
 }

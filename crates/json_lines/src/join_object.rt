@@ -1,30 +1,28 @@
 //! The object of what is answered of logs whose connections are joined.
 
+use crate::json_text::JsonText;
 use report_lines::JoinLine;
-use serde_json::{Value, json};
-use std::alloc::{AllocError, Global};
 
-/// An object of this kind that names a connection in the log of a vat.
-fn connection_object(
-    alloc: Global,
-    kind: &str,
-    connection: u32,
-    vat: u32,
-) -> Result<Value, AllocError> {
-    json!(in alloc; {"kind": kind, "connection": connection, "vat": vat})
+/// Writes what names a connection in the log of a vat.
+fn put_connection(json: &mut JsonText<'_>, kind: &str, connection: u32, vat: u32) {
+    json.number_member("connection", u64::from(connection));
+    json.text_member("kind", kind);
+    json.number_member("vat", u64::from(vat));
 }
 
-/// The object of what is answered of logs whose connections are joined.
-pub(crate) fn join_object(alloc: Global, line: &JoinLine) -> Result<Value, AllocError> {
+/// Writes what is answered of logs whose connections are joined.
+pub(crate) fn put_join(json: &mut JsonText<'_>, line: &JoinLine) {
     match *line {
         JoinLine::Joined { vats, links } => {
-            json!(in alloc; {"kind": "joined", "vats": vats, "links": links})
+            json.text_member("kind", "joined");
+            json.number_member("links", links);
+            json.number_member("vats", vats);
         }
         JoinLine::Unmatched { connection, vat } => {
-            connection_object(alloc, "unmatched", connection, vat)
+            put_connection(json, "unmatched", connection, vat);
         }
         JoinLine::Ambiguous { connection, vat } => {
-            connection_object(alloc, "ambiguous", connection, vat)
+            put_connection(json, "ambiguous", connection, vat);
         }
     }
 }

@@ -1,17 +1,17 @@
 //! Lines that are written as JSON objects.
 
-use crate::line::Line;
-use crate::lists::put_member;
-use crate::names::put_names;
+use crate::json_text::{JsonText, NOTES, OPEN, WholeText};
+use crate::line_object::put_line;
 use named_text::NamedText;
-use schema_names::Names;
-use serde_json::{Map, Value};
+use report_lines::ShownLine;
+use schema_names::SchemaNames;
 use std::alloc::{AllocError, Global};
+use std::fmt::Display;
 use std::io;
 use std::io::Write;
 
 /// Why a line isn't written.
-#[derive(Debug, Drop)]
+#[derive(Drop)]
 pub enum JsonFault {
     /// Memory was refused for its object.
     OutOfMemory,
@@ -37,18 +37,17 @@ impl From<io::Error> for JsonFault {
 pub struct JsonLines<'a, W: Write> {
     alloc: Global,
     out: &'a mut W,
-    held: Option<Value>,
-    names: Option<&'a Names>,
+    held: Option<WholeText>,
+    names: Option<&'a SchemaNames>,
 }
 
-/// The list of what notes say, which stand in a text, each a line behind the word `note`.
-pub(crate) fn note_list(alloc: Global, notes: &str) -> Result<Value, AllocError> {
-    let mut list = Vec::new(alloc);
+/// Writes the list of what notes say, which stand in a text, each a line behind the word `note`.
+pub(crate) fn put_notes(list: &mut JsonText<'_>, notes: &str) {
+    list.begin_list();
     for line in notes.lines() {
-        let said = line.strip_prefix("note: ").unwrap_or(line);
-        list.push(Value::String(String::from_str(alloc, said)?))?;
+        list.text(line.strip_prefix("note: ").unwrap_or(line));
     }
-    Ok(Value::Array(list))
+    list.end_list();
 }
 
 impl<'a, W: Write> JsonLines<'a, W> {
@@ -63,7 +62,7 @@ impl<'a, W: Write> JsonLines<'a, W> {
     }
 
     /// With names for interfaces and methods, in objects and in notes.
-    pub fn with_names(self, names: &'a Names) -> JsonLines<'a, W> {
+    pub fn with_names(self, names: &'a SchemaNames) -> JsonLines<'a, W> {
         JsonLines {
             alloc: self.alloc,
             out: self.out,
@@ -72,14 +71,11 @@ impl<'a, W: Write> JsonLines<'a, W> {
         }
     }
 
-    /// Writes the object that is held back, if there is one: at once, or piece by piece where memory is refused for its text.
+    /// Writes the object that is held back, if there is one.
     fn write_held(&mut self) -> io::Result<()> {
-        let Some(object) = self.held.take() else {
-            return Ok(());
-        };
-        match object.to_string(self.alloc) {
-            Ok(text) => self.out.writeln(text.as_str()),
-            Err(AllocError) => self.out.writeln(object),
+        match self.held.take() {
+            Some(object) => self.out.writeln(object.text.as_str()),
+            None => Ok(()),
         }
     }
 
@@ -88,11 +84,11 @@ impl<'a, W: Write> JsonLines<'a, W> {
     /// # Errors
     ///
     /// Out of memory, or that of the write.
-    pub fn add<L: Line>(&mut self, line: &L) -> Result<(), JsonFault> {
-        if let Some(mut object) = line.object(self.alloc)? {
-            if let Some(names) = self.names {
-                put_names(self.alloc, names, &mut object)?;
-            }
+    pub fn add(&mut self, line: ShownLine<'_>) -> Result<(), JsonFault> {
+        let mut object = JsonText::new(self.alloc, self.names);
+        put_line(&mut object, line);
+        let object = object.finish()?;
+        if !object.text.is_empty() {
             self.write_held()?;
             self.held = Some(object);
         }
@@ -109,44 +105,61 @@ impl<'a, W: Write> JsonLines<'a, W> {
         self.out.write_all(bytes)
     }
 
-    /// Adds a member to the last object, or to one of its own where there is none.
-    fn add_member(&mut self, name: &str, member: Value) -> Result<(), AllocError> {
-        let mut object = match self.held.take() {
-            Some(object) => object,
-            None => Value::Object(Map::new(self.alloc)),
-        };
-        let added = put_member(self.alloc, &mut object, name, member);
-        self.held = Some(object);
-        added
-    }
-
-    /// Adds notes.
-    fn add_notes(&mut self, notes: &str) -> Result<(), AllocError> {
-        let list = match self.names {
+    /// The list of what notes say, with names where they are given.
+    fn note_list(&self, notes: &str) -> Result<String, AllocError> {
+        let mut list = JsonText::new(self.alloc, None);
+        match self.names {
             Some(names) => {
                 let named = NamedText { names, text: notes }.to_string(self.alloc)?;
-                note_list(self.alloc, named.as_str())?
+                put_notes(&mut list, named.as_str());
             }
-            None => note_list(self.alloc, notes)?,
+            None => put_notes(&mut list, notes),
+        }
+        Ok(list.finish()?.text)
+    }
+
+    /// Writes the last object with these members, which are JSON; or one of their own where there is no last one.
+    fn write_last<N: Display, O: Display>(
+        &mut self,
+        notes: &Option<N>,
+        left_open: &Option<O>,
+    ) -> io::Result<()> {
+        let held = self.held.take();
+        let (before, between, behind) = match &held {
+            Some(object) => object.parts(),
+            None => ("{", "", "}"),
         };
-        self.add_member("notes", list)
+        let mut separator = if held.is_some() { "," } else { "" };
+        self.out.write_all(before.as_bytes())?;
+        if let Some(notes) = notes {
+            write!(self.out, "{separator}\"{NOTES}\":{notes}")?;
+            separator = ",";
+        }
+        self.out.write_all(between.as_bytes())?;
+        if let Some(left_open) = left_open {
+            write!(self.out, "{separator}\"{OPEN}\":{left_open}")?;
+        }
+        self.out.writeln(behind)
     }
 
     /// Ends the lines: the notes, which stand in a text, each a line behind the word `note`, and what is open at the end of good
-    /// logs go to the last object, or make one of their own where there is none. Where memory is refused for them they are left
-    /// out.
+    /// logs, which is JSON, go to the last object, or make one of their own where there is none. Where memory is refused for the
+    /// notes they are left out.
     ///
     /// # Errors
     ///
     /// That of a write.
-    pub fn end(&mut self, notes: &str, left_open: Option<Value>) -> io::Result<()> {
-        if !notes.is_empty() {
-            let _ = self.add_notes(notes);
+    pub fn end<O: Display + Drop>(&mut self, notes: &str, left_open: Option<O>) -> io::Result<()> {
+        let notes = if notes.is_empty() {
+            None
+        } else {
+            self.note_list(notes).ok()
+        };
+        if notes.is_some() || left_open.is_some() {
+            self.write_last(&notes, &left_open)?;
+        } else {
+            self.write_held()?;
         }
-        if let Some(left_open) = left_open {
-            let _ = self.add_member("open", left_open);
-        }
-        self.write_held()?;
         self.out.flush()
     }
 

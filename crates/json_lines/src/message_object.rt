@@ -1,163 +1,171 @@
 //! The object of a message.
 
-use crate::lists::{interface_text, number_list, put_member};
+use crate::json_text::JsonText;
 use cap_frame::Path;
 use report_lines::loopback_text;
 use rpc_view::{Descriptor, Loopback, Outcome, Payload, Resolution, RpcMessage, Target};
-use serde_json::{Value, json};
-use std::alloc::{AllocError, Global};
 
-/// The numbers of a path.
-pub(crate) fn path_list(alloc: Global, path: &Path) -> Result<Value, AllocError> {
-    number_list(alloc, path.as_slice())
+/// Writes an object that has a number alone beside its kind.
+fn put_numbered(json: &mut JsonText<'_>, kind: &str, id: u32) {
+    json.begin_object();
+    json.number_member("id", u64::from(id));
+    json.text_member("kind", kind);
+    json.end_object();
 }
 
-/// What has a number alone beside its kind.
-fn numbered(alloc: Global, kind: &str, id: u32) -> Result<Value, AllocError> {
-    json!(in alloc; {"kind": kind, "id": id})
+/// Writes what stands at a path of a question's answer.
+fn put_promised(json: &mut JsonText<'_>, kind: &str, question: u32, path: &Path) {
+    json.begin_object();
+    json.text_member("kind", kind);
+    json.numbers_member("path", path.as_slice());
+    json.number_member("question", u64::from(question));
+    json.end_object();
 }
 
-/// What stands at a path of a question's answer.
-fn promised(alloc: Global, kind: &str, question: u32, path: &Path) -> Result<Value, AllocError> {
-    let path = path_list(alloc, path)?;
-    json!(in alloc; {"kind": kind, "question": question, "path": path})
+/// Writes an object that has its kind alone.
+fn put_kind(json: &mut JsonText<'_>, kind: &str) {
+    json.begin_object();
+    json.text_member("kind", kind);
+    json.end_object();
 }
 
-/// What a call goes to.
-fn target_object(alloc: Global, target: &Target) -> Result<Value, AllocError> {
+/// Writes what a call or an embargo goes to.
+fn put_target(json: &mut JsonText<'_>, target: &Target) {
+    json.key("target");
     match target {
-        Target::Imported(id) => numbered(alloc, "import", *id),
-        Target::Promised(question, path) => promised(alloc, "answer", *question, path),
+        Target::Imported(id) => put_numbered(json, "import", *id),
+        Target::Promised(question, path) => put_promised(json, "answer", *question, path),
     }
 }
 
-/// An entry of a capability table.
-fn descriptor_object(alloc: Global, descriptor: &Descriptor) -> Result<Value, AllocError> {
+/// Writes an entry of a capability table.
+fn put_descriptor(json: &mut JsonText<'_>, descriptor: &Descriptor) {
     match descriptor {
-        Descriptor::NoCap => json!(in alloc; {"kind": "none"}),
-        Descriptor::SenderHosted(id) => numbered(alloc, "senderHosted", *id),
-        Descriptor::SenderPromise(id) => numbered(alloc, "senderPromise", *id),
-        Descriptor::ReceiverHosted(id) => numbered(alloc, "receiverHosted", *id),
+        Descriptor::NoCap => put_kind(json, "none"),
+        Descriptor::SenderHosted(id) => put_numbered(json, "senderHosted", *id),
+        Descriptor::SenderPromise(id) => put_numbered(json, "senderPromise", *id),
+        Descriptor::ReceiverHosted(id) => put_numbered(json, "receiverHosted", *id),
         Descriptor::ReceiverAnswer(question, path) => {
-            promised(alloc, "receiverAnswer", *question, path)
+            put_promised(json, "receiverAnswer", *question, path);
         }
     }
 }
 
-/// A capability table.
-fn table_list(alloc: Global, descriptors: &[Descriptor]) -> Result<Value, AllocError> {
-    let mut list = Vec::new(alloc);
+/// Writes a capability table.
+fn put_table(json: &mut JsonText<'_>, descriptors: &[Descriptor]) {
+    json.key("cap_table");
+    json.begin_list();
     for descriptor in descriptors {
-        list.push(descriptor_object(alloc, descriptor)?)?;
+        put_descriptor(json, descriptor);
     }
-    Ok(Value::Array(list))
+    json.end_list();
 }
 
-/// A capability of a payload's content.
-fn field_object(alloc: Global, path: &Path, index: u32) -> Result<Value, AllocError> {
-    let path = path_list(alloc, path)?;
-    json!(in alloc; {"path": path, "index": index})
+/// Writes a capability of a payload's content.
+fn put_field(json: &mut JsonText<'_>, path: &Path, index: u32) {
+    json.begin_object();
+    json.number_member("index", u64::from(index));
+    json.numbers_member("path", path.as_slice());
+    json.end_object();
 }
 
-/// The capabilities of a payload's content.
-fn field_list(alloc: Global, fields: &[(Path, u32)]) -> Result<Value, AllocError> {
-    let mut list = Vec::new(alloc);
+/// Writes the capabilities of a payload's content.
+fn put_fields(json: &mut JsonText<'_>, fields: &[(Path, u32)]) {
+    json.key("fields");
+    json.begin_list();
     for (path, index) in fields {
-        list.push(field_object(alloc, path, *index)?)?;
+        put_field(json, path, *index);
     }
-    Ok(Value::Array(list))
+    json.end_list();
 }
 
-/// A payload.
-fn payload_object(alloc: Global, payload: &Payload) -> Result<Value, AllocError> {
-    let table = table_list(alloc, payload.descriptors.as_slice())?;
-    let fields = field_list(alloc, payload.fields.as_slice())?;
-    json!(in alloc; {"cap_table": table, "fields": fields})
+/// Writes a member that is a payload.
+fn put_payload(json: &mut JsonText<'_>, name: &str, payload: &Payload) {
+    json.key(name);
+    json.begin_object();
+    put_table(json, payload.descriptors.as_slice());
+    put_fields(json, payload.fields.as_slice());
+    json.end_object();
 }
 
-/// What came of a call.
-fn outcome_object(alloc: Global, outcome: &Outcome) -> Result<Value, AllocError> {
+/// Writes what came of a call.
+fn put_outcome(json: &mut JsonText<'_>, outcome: &Outcome) {
+    json.key("outcome");
+    json.begin_object();
     match outcome {
         Outcome::Results(results) => {
-            let payload = payload_object(alloc, results)?;
-            json!(in alloc; {"kind": "results", "results": payload})
+            json.text_member("kind", "results");
+            put_payload(json, "results", results);
         }
-        Outcome::Exception => json!(in alloc; {"kind": "exception"}),
-        Outcome::Canceled => json!(in alloc; {"kind": "canceled"}),
-        Outcome::Elsewhere => json!(in alloc; {"kind": "resultsSentElsewhere"}),
+        Outcome::Exception => json.text_member("kind", "exception"),
+        Outcome::Canceled => json.text_member("kind", "canceled"),
+        Outcome::Elsewhere => json.text_member("kind", "resultsSentElsewhere"),
         Outcome::TakeFrom(question) => {
-            let question = *question;
-            json!(in alloc; {"kind": "takeFromOtherQuestion", "question": question})
+            json.text_member("kind", "takeFromOtherQuestion");
+            json.number_member("question", u64::from(*question));
         }
     }
+    json.end_object();
 }
 
-/// What a promise became.
-fn resolution_object(alloc: Global, resolution: &Resolution) -> Result<Value, AllocError> {
+/// Writes what a promise became.
+fn put_resolution(json: &mut JsonText<'_>, resolution: &Resolution) {
+    json.key("resolution");
     match resolution {
-        Resolution::Cap(descriptor) => descriptor_object(alloc, descriptor),
-        Resolution::Exception => json!(in alloc; {"kind": "exception"}),
+        Resolution::Cap(descriptor) => put_descriptor(json, descriptor),
+        Resolution::Exception => put_kind(json, "exception"),
     }
 }
 
-/// A Call, without where its results go.
-fn call_object(
-    alloc: Global,
+/// Writes a Call, without where it goes.
+fn put_call(
+    json: &mut JsonText<'_>,
     question: u32,
-    target: &Target,
     asked: (u64, u16),
     params: &Payload,
-) -> Result<Value, AllocError> {
+    yourself: bool,
+) {
     let (interface, method) = asked;
-    let target = target_object(alloc, target)?;
-    let interface = interface_text(alloc, interface)?;
-    let params = payload_object(alloc, params)?;
-    json!(in alloc; {
-        "kind": "call", "question": question, "target": target, "interface": interface, "method": method, "params": params
-    })
+    json.interface_members(interface, method);
+    json.text_member("kind", "call");
+    json.method_members(interface, method);
+    put_payload(json, "params", params);
+    json.number_member("question", u64::from(question));
+    json.text_member(
+        "send_results_to",
+        if yourself { "yourself" } else { "caller" },
+    );
 }
 
-/// Adds to a Call where its results go.
-fn with_results_to(alloc: Global, call: Value, yourself: bool) -> Result<Value, AllocError> {
-    let word = if yourself { "yourself" } else { "caller" };
-    let word = Value::String(String::from_str(alloc, word)?);
-    let mut object = call;
-    put_member(alloc, &mut object, "send_results_to", word)?;
-    Ok(object)
-}
-
-/// A Return.
-fn return_object(
-    alloc: Global,
+/// Writes a Return.
+fn put_return(
+    json: &mut JsonText<'_>,
     answer: u32,
     releases: bool,
     outcome: &Outcome,
     light: bool,
-) -> Result<Value, AllocError> {
-    let outcome = outcome_object(alloc, outcome)?;
-    json!(in alloc; {
-        "kind": "return", "answer": answer, "release_param_caps": releases, "outcome": outcome, "no_finish_needed": light
-    })
+) {
+    json.number_member("answer", u64::from(answer));
+    json.text_member("kind", "return");
+    json.flag_member("no_finish_needed", light);
+    put_outcome(json, outcome);
+    json.flag_member("release_param_caps", releases);
 }
 
-/// A Disembargo.
-fn disembargo_object(
-    alloc: Global,
-    id: u32,
-    loopback: Loopback,
-    target: &Target,
-) -> Result<Value, AllocError> {
-    let context = loopback_text(loopback);
-    let target = target_object(alloc, target)?;
-    json!(in alloc; {"kind": "disembargo", "id": id, "context": context, "target": target})
+/// Writes a Disembargo.
+fn put_disembargo(json: &mut JsonText<'_>, id: u32, loopback: Loopback, target: &Target) {
+    json.text_member("context", loopback_text(loopback));
+    json.number_member("id", u64::from(id));
+    json.text_member("kind", "disembargo");
+    put_target(json, target);
 }
 
-/// The object of a message.
-pub(crate) fn message_object(alloc: Global, message: &RpcMessage) -> Result<Value, AllocError> {
+/// Writes the members of a message.
+pub(crate) fn put_message(json: &mut JsonText<'_>, message: &RpcMessage) {
     match message {
         RpcMessage::Bootstrap { question } => {
-            let question = *question;
-            json!(in alloc; {"kind": "bootstrap", "question": question})
+            json.text_member("kind", "bootstrap");
+            json.number_member("question", u64::from(*question));
         }
         RpcMessage::Call {
             question,
@@ -167,39 +175,41 @@ pub(crate) fn message_object(alloc: Global, message: &RpcMessage) -> Result<Valu
             params,
             yourself,
         } => {
-            let call = call_object(alloc, *question, target, (*interface, *method), params)?;
-            with_results_to(alloc, call, *yourself)
+            put_call(json, *question, (*interface, *method), params, *yourself);
+            put_target(json, target);
         }
         RpcMessage::Return {
             answer,
             release_param_caps,
             outcome,
             light,
-        } => return_object(alloc, *answer, *release_param_caps, outcome, *light),
+        } => put_return(json, *answer, *release_param_caps, outcome, *light),
         RpcMessage::Finish {
             question,
             release_result_caps,
         } => {
-            let (question, releases) = (*question, *release_result_caps);
-            json!(in alloc; {"kind": "finish", "question": question, "release_result_caps": releases})
+            json.text_member("kind", "finish");
+            json.number_member("question", u64::from(*question));
+            json.flag_member("release_result_caps", *release_result_caps);
         }
         RpcMessage::Resolve {
             promise,
             resolution,
         } => {
-            let promise = *promise;
-            let resolution = resolution_object(alloc, resolution)?;
-            json!(in alloc; {"kind": "resolve", "promise": promise, "resolution": resolution})
+            json.text_member("kind", "resolve");
+            json.number_member("promise", u64::from(*promise));
+            put_resolution(json, resolution);
         }
         RpcMessage::Release { id, count } => {
-            let (id, count) = (*id, *count);
-            json!(in alloc; {"kind": "release", "id": id, "count": count})
+            json.number_member("count", u64::from(*count));
+            json.number_member("id", u64::from(*id));
+            json.text_member("kind", "release");
         }
         RpcMessage::Disembargo {
             number,
             loopback,
             target,
-        } => disembargo_object(alloc, *number, *loopback, target),
-        RpcMessage::Abort => json!(in alloc; {"kind": "abort"}),
+        } => put_disembargo(json, *number, *loopback, target),
+        RpcMessage::Abort => json.text_member("kind", "abort"),
     }
 }

@@ -1,8 +1,7 @@
 //! The object of a file that is no schema.
 
-use crate::json_lines::note_list;
-use crate::lists::put_member;
-use serde_json::{Value, json};
+use crate::json_lines::put_notes;
+use crate::json_text::{JsonText, NOTES};
 use std::alloc::{AllocError, Global};
 
 /// The text of the object that says that a file is no schema. It has the notes, each a line behind the word `note`, where
@@ -12,9 +11,14 @@ use std::alloc::{AllocError, Global};
 ///
 /// Out of memory.
 pub fn bad_schema_object(alloc: Global, file: &str, notes: &str) -> Result<String, AllocError> {
-    let mut object = json!(in alloc; {"kind": "bad schema", "file": file})?;
+    let mut json = JsonText::new(alloc, None);
+    json.begin_object();
+    json.text_member("file", file);
+    json.text_member("kind", "bad schema");
     if !notes.is_empty() {
-        put_member(alloc, &mut object, "notes", note_list(alloc, notes)?)?;
+        json.key(NOTES);
+        put_notes(&mut json, notes);
     }
-    object.to_string(alloc)
+    json.end_object();
+    Ok(json.finish()?.text)
 }

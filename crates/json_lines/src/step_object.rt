@@ -1,25 +1,26 @@
 //! The object of a step.
 
-use crate::edge_object::name_object;
-use crate::lists::put_member;
+use crate::edge_object::put_name;
+use crate::json_text::JsonText;
 use report_lines::{NumberedStep, call_of_step, kind_words};
 use run_model::vat_of;
-use serde_json::{Value, json};
-use std::alloc::{AllocError, Global};
 
-/// The object of a step. It has a message where the step sends or receives one, and a call where the step names one.
-pub(crate) fn step_object(alloc: Global, shown: &NumberedStep<'_>) -> Result<Value, AllocError> {
+/// Writes the object of a step. It has a message where the step sends or receives one, and a call where the step names one.
+pub(crate) fn put_step(json: &mut JsonText<'_>, shown: &NumberedStep<'_>) {
     let NumberedStep { at, record, step } = *shown;
-    let vat = vat_of(step);
     let (does, message) = kind_words(step);
-    let mut object =
-        json!(in alloc; {"kind": "step", "step": at, "vat": vat, "record": record, "does": does})?;
-    if let Some(message) = message {
-        let word = Value::String(String::from_str(alloc, message)?);
-        put_member(alloc, &mut object, "message", word)?;
-    }
+    json.begin_object();
     if let Some(call) = call_of_step(step) {
-        put_member(alloc, &mut object, "call", name_object(alloc, call)?)?;
+        json.key("call");
+        put_name(json, call);
     }
-    Ok(object)
+    json.text_member("does", does);
+    json.text_member("kind", "step");
+    if let Some(message) = message {
+        json.text_member("message", message);
+    }
+    json.number_member("record", record);
+    json.number_member("step", at as u64);
+    json.number_member("vat", u64::from(vat_of(step)));
+    json.end_object();
 }

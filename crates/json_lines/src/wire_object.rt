@@ -1,63 +1,50 @@
 //! The object of what is answered of the bytes of a connection.
 
-use crate::lists::put_member;
+use crate::json_text::JsonText;
+use case_report::WireLine;
 use report_lines::{breach_code, end_name, word_of};
-use serde_json::{Value, json};
-use std::alloc::{AllocError, Global};
-use wire_logs::{End, WireLine};
+use wire_cut::End;
 
-/// An object of this kind that names a message, by its end and its number there.
-fn message_object(alloc: Global, kind: &str, end: End, message: u64) -> Result<Value, AllocError> {
-    let end = end_name(end);
-    json!(in alloc; {"kind": kind, "end": end, "message": message})
+/// Writes what names a message, by its end and its number there.
+fn put_message(json: &mut JsonText<'_>, kind: &str, end: End, message: u64) {
+    json.text_member("end", end_name(end));
+    json.text_member("kind", kind);
+    json.number_member("message", message);
 }
 
-/// The same, with a word more.
-fn with_word(
-    alloc: Global,
-    kind: &str,
-    place: (End, u64),
-    name: &str,
-    word: &str,
-) -> Result<Value, AllocError> {
-    let (end, message) = place;
-    let mut object = message_object(alloc, kind, end, message)?;
-    let word = Value::String(String::from_str(alloc, word)?);
-    put_member(alloc, &mut object, name, word)?;
-    Ok(object)
-}
-
-/// The object of what is answered of the bytes of a connection. A no at a message has a rule, unless none is named.
-pub(crate) fn wire_object(alloc: Global, line: &WireLine) -> Result<Value, AllocError> {
+/// Writes what is answered of the bytes of a connection. A no at a message has a rule, unless none is named.
+pub(crate) fn put_wire(json: &mut JsonText<'_>, line: &WireLine) {
     match *line {
         WireLine::Yes {
             frames_of_a,
             frames_of_b,
             delivered,
         } => {
-            json!(in alloc; {
-                "kind": "yes", "frames_of_a": frames_of_a, "frames_of_b": frames_of_b, "delivered": delivered
-            })
+            json.number_member("delivered", delivered);
+            json.number_member("frames_of_a", frames_of_a);
+            json.number_member("frames_of_b", frames_of_b);
+            json.text_member("kind", "yes");
         }
         WireLine::No { end, message, rule } => {
-            with_word(alloc, "no", (end, message), "rule", breach_code(rule))
+            put_message(json, "no", end, message);
+            json.text_member("rule", breach_code(rule));
         }
         WireLine::NoOrder { of_a, of_b } => {
-            json!(in alloc; {"kind": "no ends", "message_of_a": of_a, "message_of_b": of_b})
+            json.text_member("kind", "no ends");
+            json.number_member("message_of_a", of_a);
+            json.number_member("message_of_b", of_b);
         }
-        WireLine::Unexplained { end, message } => message_object(alloc, "no", end, message),
-        WireLine::TooLong { end, message } => message_object(alloc, "too long", end, message),
+        WireLine::Unexplained { end, message } => put_message(json, "no", end, message),
+        WireLine::TooLong { end, message } => put_message(json, "too long", end, message),
         WireLine::Outside { end, message, why } => {
-            with_word(alloc, "outside", (end, message), "why", word_of(why))
+            put_message(json, "outside", end, message);
+            json.text_member("why", word_of(why));
         }
         WireLine::BadFrame { end, message } => {
-            with_word(
-                alloc,
-                "bad frame",
-                (end, message),
-                "fault",
-                "TooManySegments",
-            )
+            json.text_member("end", end_name(end));
+            json.text_member("fault", "TooManySegments");
+            json.text_member("kind", "bad frame");
+            json.number_member("message", message);
         }
     }
 }

@@ -15,9 +15,9 @@ use Rattle.vat_log.specs.Passages.{passage_of}
 use Rattle.vat_log.specs.declared.body.Body.{Body}
 use Rattle.case_book.specs.Case.{Contents, vats_of}
 use Rattle.case_book.specs.declared.link.Link.{Link}
-use Rattle.picture.specs.Places.{frames_before, log_of}
-use Rattle.picture.specs.Flow.{flow, next_after, other_log, passed_by, with_next}
-use Rattle.picture.specs.Glue.Seats.{Seat, after, followed, gone_on, hearing, is_coming, next_of, next_seat, seat_goes_on, seat_of, seats_of, turn_by, turn_of}
+use Rattle.picture.specs.Places.{frames_before, log_by_vat}
+use Rattle.picture.specs.Flow.{flow, next_after, other_log, frames_passed_by, with_next}
+use Rattle.picture.specs.Glue.Seats.{Seat, seats_after, followed, gone_on, hearing, is_coming, next_of_seat, next_seat, seat_goes_on, seat_of, seats_of, vat_turn_by, turn_of_seat}
 use Rattle.picture.specs.declared.order.flow.VatTurn.{VatTurn}
 use Rattle.picture.proofs.Seating.{Sits, comes_with, next_goes_on, next_log_as, sits_later}
 
@@ -56,27 +56,27 @@ less_apart a b less =
     let lt : a < b = subst (λ (r : Ordering). MatchOrdering r (a < b) (a ≡ b) (b < a)) less (ranked a b (nat_cmp a b) refl) in
     ne_eqb a b (λ e. omega (arith, lt, e))
 
-behind : (log : Log) (all logs : List Log) → AllByRecursion (λ vat. nat_cmp log.vat vat ≡ Less) (vats_of logs) → AllByRecursion (λ other. log_of all other.vat ≡ Some other) logs
-    → AllByRecursion (λ other. log_of (log ∷ all) other.vat ≡ Some other) logs
+behind : (log : Log) (all logs : List Log) → AllByRecursion (λ vat. nat_cmp log.vat vat ≡ Less) (vats_of logs) → AllByRecursion (λ other. log_by_vat all other.vat ≡ Some other) logs
+    → AllByRecursion (λ other. log_by_vat (log ∷ all) other.vat ≡ Some other) logs
 behind log all [] less are = tt
 behind log all (other ∷ logs) less are =
-    (cond-false (log.vat == other.vat) (Some log) (log_of all other.vat) (less_apart log.vat other.vat less.0) ∙ are.0, behind log all logs less.1 are.1)
+    (cond-false (log.vat == other.vat) (Some log) (log_by_vat all other.vat) (less_apart log.vat other.vat less.0) ∙ are.0, behind log all logs less.1 are.1)
 
-each_its : (logs : List Log) → IsStrictlySortedBy nat_cmp (vats_of logs) → AllByRecursion (λ log. log_of logs log.vat ≡ Some log) logs
+each_its : (logs : List Log) → IsStrictlySortedBy nat_cmp (vats_of logs) → AllByRecursion (λ log. log_by_vat logs log.vat ≡ Some log) logs
 unfolding IsStrictlySortedBy
 each_its [] sorted = tt
 each_its (log ∷ logs) sorted =
-    (cond-true (log.vat == log.vat) (Some log) (log_of logs log.vat) (eq-eqb log.vat log.vat refl), behind log logs logs sorted.0 (each_its logs sorted.1))
+    (cond-true (log.vat == log.vat) (Some log) (log_by_vat logs log.vat) (eq-eqb log.vat log.vat refl), behind log logs logs sorted.0 (each_its logs sorted.1))
 
 none_before : (sent : Bool) (connection : ℕ) (records : List Body) → frames_before sent connection records 0 ≡ 0
 none_before sent connection [] = refl
 none_before sent connection (event ∷ records) = refl
 
-none_sent : (connection : ℕ) (o : Option Log) → option_map_or (passed_by true connection []) o 0 ≡ 0
+none_sent : (connection : ℕ) (o : Option Log) → option_map_or (frames_passed_by true connection []) o 0 ≡ 0
 none_sent connection None = refl
 none_sent connection (Some log) = none_before true connection log.records
 
-seat_begins : (held : Contents) (log : Log) → log_of held.logs log.vat ≡ Some log → Sits held [] (seat_of log)
+seat_begins : (held : Contents) (log : Log) → log_by_vat held.logs log.vat ≡ Some log → Sits held [] (seat_of log)
 seat_begins held log its = record {
   its = its;
   came_is = refl;
@@ -97,7 +97,7 @@ flow_begins held logs seats are rising begun =
       flow_is = refl;
       seated = subst (AreSeated held []) same (record {
         logs_are = logs_begin held.logs;
-        each = each_mapped seat_of (λ log. log_of held.logs log.vat ≡ Some log) (Sits held []) (seat_begins held) held.logs (each_its held.logs sorted);
+        each = each_mapped seat_of (λ log. log_by_vat held.logs log.vat ≡ Some log) (Sits held []) (seat_begins held) held.logs (each_its held.logs sorted);
       });
     }
 
@@ -107,25 +107,25 @@ log_kept : (turn : VatTurn) (seat : Seat) (b : Bool) → (hearing turn (cond b (
 log_kept turn seat true = refl
 log_kept turn seat false = refl
 
-logs_kept : (turn : VatTurn) (seats : List Seat) → map (λ s. s.log) (after turn seats) ≡ map (λ s. s.log) seats
+logs_kept : (turn : VatTurn) (seats : List Seat) → map (λ s. s.log) (seats_after turn seats) ≡ map (λ s. s.log) seats
 logs_kept turn [] = refl
 logs_kept turn (seat ∷ seats) =
-    ap (λ (l : Log). l ∷ map (λ (s : Seat). s.log) (after turn seats)) (log_kept turn seat (turn.vat == seat.log.vat)) ∙ ap (λ l. seat.log ∷ l) (logs_kept turn seats)
+    ap (λ (l : Log). l ∷ map (λ (s : Seat). s.log) (seats_after turn seats)) (log_kept turn seat (turn.vat == seat.log.vat)) ∙ ap (λ l. seat.log ∷ l) (logs_kept turn seats)
 
 -- who takes a turn
-turned : (links : List Link) (o : Option Seat) (turn : VatTurn) → Some turn ≡ option_map (turn_of links) o → (seat : Seat) × (o ≡ Some seat) × (turn ≡ turn_of links seat)
+turned : (links : List Link) (o : Option Seat) (turn : VatTurn) → Some turn ≡ option_map (turn_of_seat links) o → (seat : Seat) × (o ≡ Some seat) × (turn ≡ turn_of_seat links seat)
 turned links None turn is = absurd (none-some turn (sym is))
-turned links (Some seat) turn is = (seat, refl, same_Some turn (turn_of links seat) is)
+turned links (Some seat) turn is = (seat, refl, same_Some turn (turn_of_seat links seat) is)
 
 module _ (held : Contents) where
   seated_by : (before : List ℕ) (seats : List Seat) (mover : Seat) (turn : VatTurn) → AreSeated held before seats → Sits held before mover → seat_goes_on mover ≡ true
-      → turn ≡ turn_of held.links mover → AreSeated held (before ++ mover.log.vat ∷ []) (after turn seats)
+      → turn ≡ turn_of_seat held.links mover → AreSeated held (before ++ mover.log.vat ∷ []) (seats_after turn seats)
   seated_by before seats mover turn seated sits goes is =
-      let comes = comes_with (is_coming mover.coming) (next_of mover) goes in
-      let by : turn_by held.links mover.log.vat (passage_of comes.0) ≡ turn = ap (λ o. turn_by held.links mover.log.vat (option_and_then passage_of o)) (sym comes.1) ∙ sym is in
-      subst (λ (t : VatTurn). AreSeated held (before ++ mover.log.vat ∷ []) (after t seats)) by (record {
-        logs_are = logs_kept (turn_by held.links mover.log.vat (passage_of comes.0)) seats ∙ seated.logs_are;
-        each = each_mapped (followed (turn_by held.links mover.log.vat (passage_of comes.0))) (Sits held before) (Sits held (before ++ mover.log.vat ∷ []))
+      let comes = comes_with (is_coming mover.coming) (next_of_seat mover) goes in
+      let by : vat_turn_by held.links mover.log.vat (passage_of comes.0) ≡ turn = ap (λ o. vat_turn_by held.links mover.log.vat (option_and_then passage_of o)) (sym comes.1) ∙ sym is in
+      subst (λ (t : VatTurn). AreSeated held (before ++ mover.log.vat ∷ []) (seats_after t seats)) by (record {
+        logs_are = logs_kept (vat_turn_by held.links mover.log.vat (passage_of comes.0)) seats ∙ seated.logs_are;
+        each = each_mapped (followed (vat_turn_by held.links mover.log.vat (passage_of comes.0))) (Sits held before) (Sits held (before ++ mover.log.vat ∷ []))
             (sits_later held before mover comes.0 sits comes.1 comes.2) seats seated.each;
       })
 
@@ -140,8 +140,8 @@ module _ (held : Contents) where
       ap (λ o. order ++ option_to_list o) (sym next) ∙ ap (with_next held) is ∙ ap (flow held) e
 
   -- a turn more
-  pub flows_on : (steps : ℕ) (seats later : List Seat) (turn : VatTurn) (order more : List ℕ) → Some turn ≡ option_map (turn_of held.links) (next_seat seats)
-      → more ≡ order ++ turn.vat ∷ [] → later ≡ after turn seats → IsFlowing held steps order seats → IsFlowing held (steps + 1) more later
+  pub flows_on : (steps : ℕ) (seats later : List Seat) (turn : VatTurn) (order more : List ℕ) → Some turn ≡ option_map (turn_of_seat held.links) (next_seat seats)
+      → more ≡ order ++ turn.vat ∷ [] → later ≡ seats_after turn seats → IsFlowing held steps order seats → IsFlowing held (steps + 1) more later
   flows_on steps seats later turn order more is longer are flowing =
       let taken = turned held.links (next_seat seats) turn is in
       let mover = taken.0 in
@@ -161,12 +161,12 @@ module _ (held : Contents) where
       let e : steps + suc more ≡ suc (steps + more) = omega arith in
       ap (flow held) e ∙ ap (with_next held) (ends_at steps more none) ∙ ap (λ o. flow held steps ++ option_to_list o) none ∙ append-nil (flow held steps)
 
-  no_turn : (links : List Link) (o : Option Seat) → None ≡ option_map (turn_of links) o → o ≡ None
+  no_turn : (links : List Link) (o : Option Seat) → None ≡ option_map (turn_of_seat links) o → o ≡ None
   no_turn links None is = refl
-  no_turn links (Some seat) is = absurd (none-some (turn_of links seat) is)
+  no_turn links (Some seat) is = absurd (none-some (turn_of_seat links seat) is)
 
   -- where no vat may go on
-  pub flows_out : (turns steps : ℕ) (seats : List Seat) (order : List ℕ) → steps < turns → None ≡ option_map (turn_of held.links) (next_seat seats)
+  pub flows_out : (turns steps : ℕ) (seats : List Seat) (order : List ℕ) → steps < turns → None ≡ option_map (turn_of_seat held.links) (next_seat seats)
       → IsFlowing held steps order seats → order ≡ flow held turns
   flows_out turns steps seats order lt none flowing =
       let e : steps + (turns - steps) ≡ turns = omega (arith, lt) in

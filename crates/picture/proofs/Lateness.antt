@@ -25,7 +25,7 @@ use Rattle.vat_rules.specs.declared.outcome.Why.{Why}
 use Rattle.vat_rules.specs.Events.{event_of, event_or_none, past_at}
 use Rattle.vat_rules.specs.Audit.{read_as, reads_by, edition_of}
 use Rattle.picture.specs.Places as places
-use Rattle.picture.specs.Places.{message_of, turn_of, turn_by}
+use Rattle.picture.specs.Places.{message_of_body, question_turn_of, question_turn_by}
 use Rattle.picture.specs.Rows.{late_in}
 
 -- ---- one record
@@ -68,14 +68,14 @@ module _ (asks : Bool) (k q : ℕ) where
 
   module _ (sent : Bool) (j c : ℕ) (rs : List ℕ) (p : Bool) (way : p ≡ (beq asks sent && (j == k))) (past : Past) where
     -- a message does to the question what looking back finds behind it
-    said : (m : RpcMessage) → unwrap_or (if p then turn_of q m else None) (is_released (id k asks q) past) ≡ is_released (id k asks q) (Wire sent j c rs m ∷ past)
+    said : (m : RpcMessage) → unwrap_or (if p then question_turn_of q m else None) (is_released (id k asks q) past) ≡ is_released (id k asks q) (Wire sent j c rs m ∷ past)
     said (Bootstrap o) = opened p (o == q) (names (id k asks q) (Some (id j sent o))) (since past) (named asks sent p k q j o way)
     said (Call o target interface method params yourself) = opened p (o == q) (names (id k asks q) (Some (id j sent o))) (since past) (named asks sent p k q j o way)
     said (Finish o true) =
         released p (o == q) (names (id k asks q) (Some (id j sent o))) (point past (Wire sent j c rs (Finish o true))) (since past) (named asks sent p k q j o way)
     said _ = kept p (is_released (id k asks q) past)
 
-    passed : (r : Result RpcMessage ViewError) → unwrap_or (if p then option_and_then (turn_of q) (result_ok r) else None) (is_released (id k asks q) past)
+    passed : (r : Result RpcMessage ViewError) → unwrap_or (if p then option_and_then (question_turn_of q) (result_ok r) else None) (is_released (id k asks q) past)
         ≡ is_released (id k asks q) (cons_option (event_or_none (made_with (Wire sent j c rs) (read_as r))) past)
     passed (Ok m) = said m
     passed (Err e) = kept p (is_released (id k asks q) past)
@@ -99,7 +99,7 @@ module _ (edition : Edition) where
   abbrev read : Body → Option DecodedRecord
   read b = event_or_none (event_of (reads_by edition default_limits) b)
 
-  one_more : (asks : Bool) (k q : ℕ) (b : Body) (past : Past) → unwrap_or (turn_by edition asks k q b) (is_released (id k asks q) past) ≡ is_released (id k asks q) (cons_option (read b) past)
+  one_more : (asks : Bool) (k q : ℕ) (b : Body) (past : Past) → unwrap_or (question_turn_by edition asks k q b) (is_released (id k asks q) past) ≡ is_released (id k asks q) (cons_option (read b) past)
   one_more asks k q (body.Send j c rs frame) past =
       passed asks k q true j c rs (passes asks k (body.Send j c rs frame)) (way_sent asks k j c rs frame) past (message_of_bytes edition frame default_limits)
   one_more asks k q (body.Receive j c rs frame) past =
@@ -107,16 +107,16 @@ module _ (edition : Edition) where
   one_more true k q _ past = refl
   one_more false k q _ past = refl
 
-  all_more : (asks : Bool) (k q : ℕ) (bs : List Body) (past : Past) → fold (λ released event. unwrap_or (turn_by edition asks k q event) released) (is_released (id k asks q) past) bs
+  all_more : (asks : Bool) (k q : ℕ) (bs : List Body) (past : Past) → fold (λ released event. unwrap_or (question_turn_by edition asks k q event) released) (is_released (id k asks q) past) bs
       ≡ is_released (id k asks q) (reverse (filter_map read bs) ++ past)
   all_more asks k q [] past = refl
   all_more asks k q (b ∷ bs) past =
-      ap (λ r. fold (λ released event. unwrap_or (turn_by edition asks k q event) released) r bs) (one_more asks k q b past)
+      ap (λ r. fold (λ released event. unwrap_or (question_turn_by edition asks k q event) released) r bs) (one_more asks k q b past)
       ∙ all_more asks k q bs (cons_option (read b) past) ∙ ap (is_released (id k asks q)) (behind (read b) (filter_map read bs) past)
 
   -- a question's results are given back for a picture just where looking back finds it
   given_back : (asks : Bool) (k q n : ℕ) (records : List Body)
-      → places.is_released edition asks k q (take n records) ≡ is_released (id k asks q) (past_at (reads_by edition default_limits) records n)
+      → places.is_given_back edition asks k q (take n records) ≡ is_released (id k asks q) (past_at (reads_by edition default_limits) records n)
   given_back asks k q n records = all_more asks k q (take n records) [] ∙ ap (is_released (id k asks q)) (append-nil (past_at (reads_by edition default_limits) records n))
 
   -- ---- the Return
@@ -128,12 +128,12 @@ module _ (edition : Edition) where
     late_if (Err why) = false
 
     late_by : (sent : Bool) (j c : ℕ) (rs : List ℕ) (r : Result RpcMessage ViewError)
-        → places.is_late edition (Some (sent, j)) (result_ok r) (take n records) ≡ late_if (made_with (Wire sent j c rs) (read_as r))
+        → places.is_late_return edition (Some (sent, j)) (result_ok r) (take n records) ≡ late_if (made_with (Wire sent j c rs) (read_as r))
     late_by sent j c rs (Ok (Return q release outcome light)) = given_back (not sent) j q n records
     late_by sent j c rs (Ok _) = refl
     late_by sent j c rs (Err e) = refl
 
-    late_so : (b : Body) → places.is_late edition (passage_of b) (message_of edition b) (take n records) ≡ late_if (event_of (reads_by edition default_limits) b)
+    late_so : (b : Body) → places.is_late_return edition (passage_of b) (message_of_body edition b) (take n records) ≡ late_if (event_of (reads_by edition default_limits) b)
     late_so (body.Send j c rs frame) = late_by true j c rs (message_of_bytes edition frame default_limits)
     late_so (body.Receive j c rs frame) = late_by false j c rs (message_of_bytes edition frame default_limits)
     late_so _ = refl

@@ -10,9 +10,9 @@ use Rattle.vat_log.specs.Passages.{passage_of}
 use Rattle.vat_log.specs.declared.body.Body.{Body}
 use Rattle.case_book.specs.Case.{Contents, or_else}
 use Rattle.case_book.specs.declared.link.Link.{Link}
-use Rattle.picture.specs.Places.{log_of, other_end, other_end_of}
-use Rattle.picture.specs.Flow.{came, goes_on, goes_to_receive, is_awaited, is_reached, may_come, may_pass, next_in, next_log, passed_by, receives, sent_to, takes_frame}
-use Rattle.picture.specs.Glue.Seats.{Seat, followed, further, gone_on, heard, hearing, is_coming, next_of, next_seat, received_in, seat_goes_on, seat_goes_to_receive, seat_receives, sent_in, taken, turn_by}
+use Rattle.picture.specs.Places.{log_by_vat, vat_at_other_end, other_end_of}
+use Rattle.picture.specs.Flow.{came, goes_on, goes_to_receive, is_awaited, is_reached, is_free_to_come, may_pass, next_record_in, next_log, frames_passed_by, receives_sent_frame, frames_sent_to, takes_frame}
+use Rattle.picture.specs.Glue.Seats.{Seat, followed, next_position, gone_on, heard, hearing, is_coming, next_of_seat, next_seat, received_in, seat_goes_on, seat_goes_to_receive, seat_receives, frame_addressee, taken, vat_turn_by}
 use Rattle.picture.specs.declared.order.flow.VatTurn.{VatTurn}
 use Rattle.picture.proofs.Coming.{bit, count_on, heard_on, hears, is_counted, is_counted_first, passes_so, taken_on}
 use Rattle.picture.proofs.Underway.{came_other, came_own, hears_as, is_it, passed_other, passed_own, sent_more}
@@ -20,9 +20,9 @@ use Rattle.picture.proofs.Underway.{came_other, came_own, hears_as, is_it, passe
 -- a seat behind these steps: its log is one of the case, its records that came are as many as there are steps of its vat, and on
 -- each connection as many frames are under way to it as were sent to it and not received
 pub record Sits (held : Contents) (before : List ℕ) (seat : Seat) : Type 0 where
-  pub its : log_of held.logs seat.log.vat ≡ Some seat.log
+  pub its : log_by_vat held.logs seat.log.vat ≡ Some seat.log
   pub came_is : seat.came ≡ came before seat.log
-  pub coming_are : (connection : ℕ) → count_on connection seat.coming + passed_by false connection before seat.log ≡ sent_to held before connection seat.log.vat
+  pub coming_are : (connection : ℕ) → count_on connection seat.coming + frames_passed_by false connection before seat.log ≡ frames_sent_to held before connection seat.log.vat
 
 -- ---- what may come
 
@@ -34,7 +34,7 @@ pass_same : (one other : ℕ → Bool) → ((on : ℕ) → one on ≡ other on) 
 pass_same one other same None = refl
 pass_same one other same (Some passage) = ap (λ b. passage.0 || b) (same passage.1)
 
-come_same : (one other : ℕ → Bool) → ((on : ℕ) → one on ≡ other on) → (o : Option Body) → may_come one o ≡ may_come other o
+come_same : (one other : ℕ → Bool) → ((on : ℕ) → one on ≡ other on) → (o : Option Body) → is_free_to_come one o ≡ is_free_to_come other o
 come_same one other same None = refl
 come_same one other same (Some event) = pass_same one other same (passage_of event)
 
@@ -43,12 +43,12 @@ passes_if aw None takes = absurd (false≢true takes)
 passes_if aw (Some passage) takes = or_right passage.0 (aw passage.1) ((and_parts (not passage.0) (aw passage.1) takes).1)
 
 -- whoever receives goes on
-comes_if : (aw : ℕ → Bool) (o : Option Body) → takes_frame aw (option_and_then passage_of o) ≡ true → may_come aw o ≡ true
+comes_if : (aw : ℕ → Bool) (o : Option Body) → takes_frame aw (option_and_then passage_of o) ≡ true → is_free_to_come aw o ≡ true
 comes_if aw None takes = absurd (false≢true takes)
 comes_if aw (Some event) takes = passes_if aw (passage_of event) takes
 
 -- who goes on has a record
-pub comes_with : (aw : ℕ → Bool) (o : Option Body) → may_come aw o ≡ true → (event : Body) × (o ≡ Some event) × (may_pass aw (passage_of event) ≡ true)
+pub comes_with : (aw : ℕ → Bool) (o : Option Body) → is_free_to_come aw o ≡ true → (event : Body) × (o ≡ Some event) × (may_pass aw (passage_of event) ≡ true)
 comes_with aw None may = absurd (false≢true may)
 comes_with aw (Some event) may = (event, refl, may)
 
@@ -88,9 +88,9 @@ module _ (held : Contents) (before : List ℕ) where
   no_less a is = absurd (omega (arith, ltb-true 0 (0 - a) is))
 
   linked_by : (log : Log) (connection : ℕ) (o : Option Link)
-      → nat_lt 0 (option_map_or (passed_by true connection before) (option_and_then (log_of held.logs) (option_and_then (other_end_of log.vat) o)) 0 - passed_by false connection before log) ≡ true
+      → nat_lt 0 (option_map_or (frames_passed_by true connection before) (option_and_then (log_by_vat held.logs) (option_and_then (other_end_of log.vat) o)) 0 - frames_passed_by false connection before log) ≡ true
       → is_some o ≡ true
-  linked_by log connection None awaited = no_less (passed_by false connection before log) awaited
+  linked_by log connection None awaited = no_less (frames_passed_by false connection before log) awaited
   linked_by log connection (Some link) awaited = refl
 
   reached_by : (log : Log) (coming : List ℕ) → ((on : ℕ) → nat_lt 0 (count_on on coming) ≡ is_awaited held before log on) → nat_lt 0 (length coming) ≡ is_reached held before log
@@ -102,23 +102,23 @@ module _ (held : Contents) (before : List ℕ) where
 
   module _ (seat : Seat) (sits : Sits held before seat) where
     pub counts_as : (on : ℕ) → nat_lt 0 (count_on on seat.coming) ≡ is_awaited held before seat.log on
-    counts_as on = ap (nat_lt 0) (minus_is (count_on on seat.coming) (passed_by false on before seat.log) (sent_to held before on seat.log.vat) (sits.coming_are on))
+    counts_as on = ap (nat_lt 0) (minus_is (count_on on seat.coming) (frames_passed_by false on before seat.log) (frames_sent_to held before on seat.log.vat) (sits.coming_are on))
 
     pub awaited_as : (on : ℕ) → is_coming seat.coming on ≡ is_awaited held before seat.log on
     awaited_as on = is_counted on seat.coming ∙ counts_as on
 
-    next_as : next_of seat ≡ next_in before seat.log
+    next_as : next_of_seat seat ≡ next_record_in before seat.log
     next_as = ap (λ n. slice_get seat.log.records n) sits.came_is
 
-    receives_as : seat_receives seat ≡ receives held before seat.log
+    receives_as : seat_receives seat ≡ receives_sent_frame held before seat.log
     receives_as =
-        takes_same (is_coming seat.coming) (is_awaited held before seat.log) awaited_as (option_and_then passage_of (next_of seat))
+        takes_same (is_coming seat.coming) (is_awaited held before seat.log) awaited_as (option_and_then passage_of (next_of_seat seat))
         ∙ ap (λ o. takes_frame (is_awaited held before seat.log) (option_and_then passage_of o)) next_as
 
     goes_on_as : seat_goes_on seat ≡ goes_on held before seat.log
     goes_on_as =
-        come_same (is_coming seat.coming) (is_awaited held before seat.log) awaited_as (next_of seat)
-        ∙ ap (λ o. may_come (is_awaited held before seat.log) o) next_as
+        come_same (is_coming seat.coming) (is_awaited held before seat.log) awaited_as (next_of_seat seat)
+        ∙ ap (λ o. is_free_to_come (is_awaited held before seat.log) o) next_as
 
     goes_to_receive_as : seat_goes_to_receive seat ≡ goes_to_receive held before seat.log
     goes_to_receive_as =
@@ -141,11 +141,11 @@ module _ (held : Contents) (before : List ℕ) where
   either_as (Some seat) b x y one other = ap (λ z. or_else z y) one
 
   next_found : (seats : List Seat) → AllByRecursion (Sits held before) seats
-      → or_else (find (receives held before) (map (λ s. s.log) seats)) (or_else (find (goes_to_receive held before) (map (λ s. s.log) seats)) (find (goes_on held before) (map (λ s. s.log) seats)))
+      → or_else (find (receives_sent_frame held before) (map (λ s. s.log) seats)) (or_else (find (goes_to_receive held before) (map (λ s. s.log) seats)) (find (goes_on held before) (map (λ s. s.log) seats)))
       ≡ option_map (λ s. s.log) (next_seat seats)
   next_found seats each =
       either_as (find seat_receives seats) (or_else (find seat_goes_to_receive seats) (find seat_goes_on seats)) _ _
-      (found_as seat_receives (receives held before) receives_as seats each)
+      (found_as seat_receives (receives_sent_frame held before) receives_as seats each)
       (either_as (find seat_goes_to_receive seats) (find seat_goes_on seats) _ _
       (found_as seat_goes_to_receive (goes_to_receive held before) goes_to_receive_as seats each)
       (found_as seat_goes_on (goes_on held before) goes_on_as seats each))
@@ -153,7 +153,7 @@ module _ (held : Contents) (before : List ℕ) where
   -- the seat that goes on has the log whose record comes next
   pub next_log_as : (seats : List Seat) → map (λ s. s.log) seats ≡ held.logs → AllByRecursion (Sits held before) seats → next_log held before ≡ option_map (λ s. s.log) (next_seat seats)
   next_log_as seats are each =
-      ap (λ (logs : List Log). or_else (find (receives held before) logs) (or_else (find (goes_to_receive held before) logs) (find (goes_on held before) logs))) (sym are)
+      ap (λ (logs : List Log). or_else (find (receives_sent_frame held before) logs) (or_else (find (goes_to_receive held before) logs) (find (goes_on held before) logs))) (sym are)
       ∙ next_found seats each
 
   found_in : (p : Seat → Bool) (seats : List Seat) (seat : Seat) → find p seats ≡ Some seat → AllByRecursion (Sits held before) seats → Sits held before seat × (p seat ≡ true)
@@ -176,7 +176,7 @@ module _ (held : Contents) (before : List ℕ) where
       elim (either_is (find seat_receives seats) (or_else (find seat_goes_to_receive seats) (find seat_goes_on seats)) seat is) [
         | inl first ↦
             let found = found_in seat_receives seats seat first each in
-            (found.0, comes_if (is_coming seat.coming) (next_of seat) found.1)
+            (found.0, comes_if (is_coming seat.coming) (next_of_seat seat) found.1)
         | inr others ↦
             elim (either_is (find seat_goes_to_receive seats) (find seat_goes_on seats) seat others) [
               | inl second ↦
@@ -194,7 +194,7 @@ own_adds a b c r r' s s' x y z one two three four five six = omega (arith, one, 
 other_adds : (a c r r' s s' y z : ℕ) → c ≡ a + y → r' ≡ r → s' ≡ s + z → y ≡ z → a + r ≡ s → c + r' ≡ s'
 other_adds a c r r' s s' y z one two three four five = omega (arith, one, two, three, four, five)
 
-module _ (held : Contents) (before : List ℕ) (mover : Seat) (event : Body) (sits : Sits held before mover) (next : next_of mover ≡ Some event)
+module _ (held : Contents) (before : List ℕ) (mover : Seat) (event : Body) (sits : Sits held before mover) (next : next_of_seat mover ≡ Some event)
     (may : may_pass (is_coming mover.coming) (passage_of event) ≡ true) where
   abbrev vat : ℕ
   vat = mover.log.vat
@@ -203,39 +203,39 @@ module _ (held : Contents) (before : List ℕ) (mover : Seat) (event : Body) (si
   passage = passage_of event
 
   abbrev turn : VatTurn
-  turn = turn_by held.links vat passage
+  turn = vat_turn_by held.links vat passage
 
   abbrev later : List ℕ
   later = before ++ vat ∷ []
 
-  next_is : next_in before mover.log ≡ Some event
+  next_is : next_record_in before mover.log ≡ Some event
   next_is = ap (λ n. slice_get mover.log.records n) (sym sits.came_is) ∙ next
 
   module _ (seat : Seat) (its : Sits held before seat) where
     -- the connections of what is heard are those of what is sent
     abbrev heard_bit : ℕ → ℕ
-    heard_bit on = bit (hears seat.log.vat on (sent_in held.links vat passage))
+    heard_bit on = bit (hears seat.log.vat on (frame_addressee held.links vat passage))
 
     abbrev sent_bit : ℕ → ℕ
-    sent_bit on = bit (is_it vat (other_end held.links on seat.log.vat) && passes_so true on passage)
+    sent_bit on = bit (is_it vat (vat_at_other_end held.links on seat.log.vat) && passes_so true on passage)
 
     bits_are : (on : ℕ) → heard_bit on ≡ sent_bit on
     bits_are on = ap bit (hears_as held.links seat.log.vat vat on passage)
 
-    sent_are : (on : ℕ) → sent_to held later on seat.log.vat ≡ sent_to held before on seat.log.vat + sent_bit on
+    sent_are : (on : ℕ) → frames_sent_to held later on seat.log.vat ≡ frames_sent_to held before on seat.log.vat + sent_bit on
     sent_are on = sent_more held before mover.log event on sits.its next_is seat.log.vat
 
     module _ (own : (vat == seat.log.vat) ≡ true) where
       same_log : seat.log ≡ mover.log
-      same_log = same_Some seat.log mover.log (sym its.its ∙ ap (log_of held.logs) (sym (eqb-true vat seat.log.vat own)) ∙ sits.its)
+      same_log = same_Some seat.log mover.log (sym its.its ∙ ap (log_by_vat held.logs) (sym (eqb-true vat seat.log.vat own)) ∙ sits.its)
 
-      own_next : next_in before seat.log ≡ Some event
-      own_next = ap (next_in before) same_log ∙ next_is
+      own_next : next_record_in before seat.log ≡ Some event
+      own_next = ap (next_record_in before) same_log ∙ next_is
 
       within : seat.came < length seat.log.records
       within = slice_get_within seat.log.records seat.came event (ap (λ n. slice_get seat.log.records n) its.came_is ∙ own_next)
 
-      came_more : further seat.came (length seat.log.records) ≡ came later seat.log
+      came_more : next_position seat.came (length seat.log.records) ≡ came later seat.log
       came_more =
           cond-true (nat_lt seat.came (length seat.log.records)) (seat.came + 1) seat.came (lt-ltb seat.came (length seat.log.records) within)
           ∙ ap (λ n. n + 1) its.came_is ∙ sym (came_own before vat seat.log own)
@@ -245,22 +245,22 @@ module _ (held : Contents) (before : List ℕ) (mover : Seat) (event : Body) (si
           ltb-true 0 (count_on on seat.coming) (counts_as held before seat its on ∙ ap (λ (l : Log). is_awaited held before l on) same_log
           ∙ sym (awaited_as held before mover sits on) ∙ received_is (is_coming mover.coming) passage on may receives)
 
-      own_are : (on : ℕ) → count_on on (heard seat.log.vat turn.sent (taken turn.received seat.coming)) + passed_by false on later seat.log ≡ sent_to held later on seat.log.vat
+      own_are : (on : ℕ) → count_on on (heard seat.log.vat turn.sent (taken turn.received seat.coming)) + frames_passed_by false on later seat.log ≡ frames_sent_to held later on seat.log.vat
       own_are on =
-          own_adds (count_on on seat.coming) (count_on on (taken (received_in passage) seat.coming)) _ (passed_by false on before seat.log) _
-          (sent_to held before on seat.log.vat) _ (bit (passes_so false on passage)) (heard_bit on) (sent_bit on)
+          own_adds (count_on on seat.coming) (count_on on (taken (received_in passage) seat.coming)) _ (frames_passed_by false on before seat.log) _
+          (frames_sent_to held before on seat.log.vat) _ (bit (passes_so false on passage)) (heard_bit on) (sent_bit on)
           (taken_on on passage seat.coming some_are)
-          (heard_on on seat.log.vat (sent_in held.links vat passage) (taken (received_in passage) seat.coming))
+          (heard_on on seat.log.vat (frame_addressee held.links vat passage) (taken (received_in passage) seat.coming))
           (passed_own before vat seat.log event false on own own_next) (sent_are on) (bits_are on) (its.coming_are on)
 
       own_sits : Sits held later (hearing turn (gone_on turn seat))
       own_sits = record { its = its.its; came_is = came_more; coming_are = own_are }
 
     module _ (other : (vat == seat.log.vat) ≡ false) where
-      other_are : (on : ℕ) → count_on on (heard seat.log.vat turn.sent seat.coming) + passed_by false on later seat.log ≡ sent_to held later on seat.log.vat
+      other_are : (on : ℕ) → count_on on (heard seat.log.vat turn.sent seat.coming) + frames_passed_by false on later seat.log ≡ frames_sent_to held later on seat.log.vat
       other_are on =
-          other_adds (count_on on seat.coming) _ (passed_by false on before seat.log) _ (sent_to held before on seat.log.vat) _ (heard_bit on) (sent_bit on)
-          (heard_on on seat.log.vat (sent_in held.links vat passage) seat.coming)
+          other_adds (count_on on seat.coming) _ (frames_passed_by false on before seat.log) _ (frames_sent_to held before on seat.log.vat) _ (heard_bit on) (sent_bit on)
+          (heard_on on seat.log.vat (frame_addressee held.links vat passage) seat.coming)
           (passed_other before vat seat.log false on other) (sent_are on) (bits_are on) (its.coming_are on)
 
       other_sits : Sits held later (hearing turn seat)

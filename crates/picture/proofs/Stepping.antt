@@ -1,7 +1,7 @@
 -- What a loop over a list has counted, or has left to look for, one item further.
 use Rattle.std.proofs.Common.{◌≡◌, ◌≢◌, ◌∙◌, ℕ, zero, suc, ◌+◌, ◌-◌, ◌≤◌, Bool, true, false, cond, List, [], ◌∷◌, length, take, drop, Option, Some, None, fold, refl, sym, ap, add-one, arith}
 use Rattle.std.specs.Prelude.{count_by, slice_get}
-use Rattle.picture.specs.Places.{passes_in, places_from}
+use Rattle.picture.specs.Places.{passes_in, positions_from}
 
 folded_suc : {X Y : Type 0} (f : Y → X → Y) (g : Y → Option X → Y) (xs : List X) (i : ℕ) (start : Y) → ((y : Y) → g y None ≡ y) → ((y : Y) (x : X) → g y (Some x) ≡ f y x)
     → fold f start (take (suc i) xs) ≡ g (fold f start (take i xs)) (slice_get xs i)
@@ -37,15 +37,15 @@ counts_not p xs i n b so_far few is fails =
 
 -- the places from an item on
 places_suc : {X : Type 0} (p : X → Bool) (xs : List X) (i at : ℕ)
-    → places_from p at (drop i xs) ≡ cond (passes_in p (slice_get xs i)) (at ∷ places_from p (at + 1) (drop (suc i) xs)) (places_from p (at + 1) (drop (suc i) xs))
+    → positions_from p at (drop i xs) ≡ cond (passes_in p (slice_get xs i)) (at ∷ positions_from p (at + 1) (drop (suc i) xs)) (positions_from p (at + 1) (drop (suc i) xs))
 places_suc p [] zero at = refl
 places_suc p [] (suc i) at = refl
 places_suc p (x ∷ xs) zero at = refl
 places_suc p (x ∷ xs) (suc i) at = places_suc p xs i at
 
 places_at : {X : Type 0} (p : X → Bool) (xs : List X) (i : ℕ)
-    → places_from p i (drop i xs) ≡ cond (passes_in p (slice_get xs i)) (i ∷ places_from p (i + 1) (drop (i + 1) xs)) (places_from p (i + 1) (drop (i + 1) xs))
-places_at p xs i = places_suc p xs i i ∙ ap (λ k. cond (passes_in p (slice_get xs i)) (i ∷ places_from p (i + 1) (drop k xs)) (places_from p (i + 1) (drop k xs))) (sym (add-one i))
+    → positions_from p i (drop i xs) ≡ cond (passes_in p (slice_get xs i)) (i ∷ positions_from p (i + 1) (drop (i + 1) xs)) (positions_from p (i + 1) (drop (i + 1) xs))
+places_at p xs i = places_suc p xs i i ∙ ap (λ k. cond (passes_in p (slice_get xs i)) (i ∷ positions_from p (i + 1) (drop k xs)) (positions_from p (i + 1) (drop k xs))) (sym (add-one i))
 
 first_is : {X : Type 0} (x : X) (xs : List X) (n : ℕ) → n ≡ 0 → slice_get (x ∷ xs) n ≡ Some x
 first_is x xs zero is = refl
@@ -56,22 +56,22 @@ later_is x xs zero not = absurd (not refl)
 later_is x xs (suc n) not = let e : suc n - 1 ≡ n = omega arith in rw e refl
 
 -- the place that is looked for is this one
-pub found : {X : Type 0} (p : X → Bool) (xs : List X) (i left : ℕ) (total : Option ℕ) (b : Bool) → total ≡ slice_get (places_from p i (drop i xs)) left
+pub found : {X : Type 0} (p : X → Bool) (xs : List X) (i left : ℕ) (total : Option ℕ) (b : Bool) → total ≡ slice_get (positions_from p i (drop i xs)) left
     → b ≡ passes_in p (slice_get xs i) → b ≡ true → left ≡ 0 → total ≡ Some i
 found p xs i left total b so_far is holds none =
-    so_far ∙ ap (λ l. slice_get l left) (places_at p xs i ∙ ap (λ t. cond t (i ∷ places_from p (i + 1) (drop (i + 1) xs)) (places_from p (i + 1) (drop (i + 1) xs))) (sym is ∙ holds)) ∙ first_is _ _ left none
+    so_far ∙ ap (λ l. slice_get l left) (places_at p xs i ∙ ap (λ t. cond t (i ∷ positions_from p (i + 1) (drop (i + 1) xs)) (positions_from p (i + 1) (drop (i + 1) xs))) (sym is ∙ holds)) ∙ first_is _ _ left none
 
 -- an item passes, and another is looked for
-pub goes_by : {X : Type 0} (p : X → Bool) (xs : List X) (i left : ℕ) (total : Option ℕ) (b : Bool) → total ≡ slice_get (places_from p i (drop i xs)) left
-    → b ≡ passes_in p (slice_get xs i) → b ≡ true → left ≢ 0 → total ≡ slice_get (places_from p (i + 1) (drop (i + 1) xs)) (left - 1)
+pub goes_by : {X : Type 0} (p : X → Bool) (xs : List X) (i left : ℕ) (total : Option ℕ) (b : Bool) → total ≡ slice_get (positions_from p i (drop i xs)) left
+    → b ≡ passes_in p (slice_get xs i) → b ≡ true → left ≢ 0 → total ≡ slice_get (positions_from p (i + 1) (drop (i + 1) xs)) (left - 1)
 goes_by p xs i left total b so_far is holds some =
-    so_far ∙ ap (λ l. slice_get l left) (places_at p xs i ∙ ap (λ t. cond t (i ∷ places_from p (i + 1) (drop (i + 1) xs)) (places_from p (i + 1) (drop (i + 1) xs))) (sym is ∙ holds)) ∙ later_is _ _ left some
+    so_far ∙ ap (λ l. slice_get l left) (places_at p xs i ∙ ap (λ t. cond t (i ∷ positions_from p (i + 1) (drop (i + 1) xs)) (positions_from p (i + 1) (drop (i + 1) xs))) (sym is ∙ holds)) ∙ later_is _ _ left some
 
 -- an item doesn't pass
-pub passes_by : {X : Type 0} (p : X → Bool) (xs : List X) (i left : ℕ) (total : Option ℕ) (b : Bool) → total ≡ slice_get (places_from p i (drop i xs)) left
-    → b ≡ passes_in p (slice_get xs i) → b ≡ false → total ≡ slice_get (places_from p (i + 1) (drop (i + 1) xs)) left
+pub passes_by : {X : Type 0} (p : X → Bool) (xs : List X) (i left : ℕ) (total : Option ℕ) (b : Bool) → total ≡ slice_get (positions_from p i (drop i xs)) left
+    → b ≡ passes_in p (slice_get xs i) → b ≡ false → total ≡ slice_get (positions_from p (i + 1) (drop (i + 1) xs)) left
 passes_by p xs i left total b so_far is fails =
-    so_far ∙ ap (λ l. slice_get l left) (places_at p xs i ∙ ap (λ t. cond t (i ∷ places_from p (i + 1) (drop (i + 1) xs)) (places_from p (i + 1) (drop (i + 1) xs))) (sym is ∙ fails))
+    so_far ∙ ap (λ l. slice_get l left) (places_at p xs i ∙ ap (λ t. cond t (i ∷ positions_from p (i + 1) (drop (i + 1) xs)) (positions_from p (i + 1) (drop (i + 1) xs))) (sym is ∙ fails))
 
 nothing : (n : ℕ) → slice_get {X = ℕ} [] n ≡ None
 nothing zero = refl
@@ -84,5 +84,5 @@ dropped (x ∷ xs) zero all = absurd (omega arith)
 dropped (x ∷ xs) (suc i) all = dropped xs i (omega arith)
 
 -- behind the last item there is none
-pub found_none : {X : Type 0} (p : X → Bool) (xs : List X) (i left : ℕ) (total : Option ℕ) → total ≡ slice_get (places_from p i (drop i xs)) left → length xs ≤ i → total ≡ None
-found_none p xs i left total so_far all = so_far ∙ ap (λ l. slice_get (places_from p i l) left) (dropped xs i all) ∙ nothing left
+pub found_none : {X : Type 0} (p : X → Bool) (xs : List X) (i left : ℕ) (total : Option ℕ) → total ≡ slice_get (positions_from p i (drop i xs)) left → length xs ≤ i → total ≡ None
+found_none p xs i left total so_far all = so_far ∙ ap (λ l. slice_get (positions_from p i l) left) (dropped xs i all) ∙ nothing left

@@ -8,7 +8,7 @@ use Rattle.vat_log.specs.Log.{Log}
 use Rattle.vat_log.specs.Passages.{passage_of}
 use Rattle.vat_log.specs.declared.body.Body.{Body}
 use Rattle.case_book.specs.Case.{Contents, or_else}
-use Rattle.picture.specs.Places.{frames_before, is_vat, log_of, other_end}
+use Rattle.picture.specs.Places.{frames_before, is_vat, log_by_vat, vat_at_other_end}
 
 -- ---- what came before
 
@@ -17,28 +17,28 @@ abbrev pub came : List ℕ → Log → ℕ
 came before log = count_by (is_vat log.vat) before
 
 -- its record that comes next, if one is left
-abbrev pub next_in : List ℕ → Log → Option Body
-next_in before log = slice_get log.records (came before log)
+abbrev pub next_record_in : List ℕ → Log → Option Body
+next_record_in before log = slice_get log.records (came before log)
 
 -- how many frames its records that came sent, or received, on a connection
-abbrev pub passed_by : Bool → ℕ → List ℕ → Log → ℕ
-passed_by sent connection before log = frames_before sent connection log.records (came before log)
+abbrev pub frames_passed_by : Bool → ℕ → List ℕ → Log → ℕ
+frames_passed_by sent connection before log = frames_before sent connection log.records (came before log)
 
 -- the log of the vat at the other end of a connection
 abbrev pub other_log : Contents → ℕ → ℕ → Option Log
-other_log held connection vat = option_and_then (log_of held.logs) (other_end held.links connection vat)
+other_log held connection vat = option_and_then (log_by_vat held.logs) (vat_at_other_end held.links connection vat)
 
 -- how many frames were sent to a vat on a connection: those that the vat at its other end sent
-abbrev pub sent_to : Contents → List ℕ → ℕ → ℕ → ℕ
-sent_to held before connection vat = option_map_or (passed_by true connection before) (other_log held connection vat) 0
+abbrev pub frames_sent_to : Contents → List ℕ → ℕ → ℕ → ℕ
+frames_sent_to held before connection vat = option_map_or (frames_passed_by true connection before) (other_log held connection vat) 0
 
 -- how many of them are under way: it hasn't received them yet
-abbrev pub under_way : Contents → List ℕ → Log → ℕ → ℕ
-under_way held before log connection = sent_to held before connection log.vat - passed_by false connection before log
+abbrev pub frames_under_way : Contents → List ℕ → Log → ℕ → ℕ
+frames_under_way held before log connection = frames_sent_to held before connection log.vat - frames_passed_by false connection before log
 
 -- a frame is under way to it on a connection
 abbrev pub is_awaited : Contents → List ℕ → Log → ℕ → Bool
-is_awaited held before log connection = nat_lt 0 (under_way held before log connection)
+is_awaited held before log connection = nat_lt 0 (frames_under_way held before log connection)
 
 -- a frame is under way to it at all, on the connection of some link
 abbrev pub is_reached : Contents → List ℕ → Log → Bool
@@ -57,17 +57,17 @@ may_pass awaited None = true
 may_pass awaited (Some passage) = passage.0 || awaited passage.1
 
 -- there is a record, and it may come
-abbrev pub may_come : (ℕ → Bool) → Option Body → Bool
-may_come awaited None = false
-may_come awaited (Some event) = may_pass awaited (passage_of event)
+abbrev pub is_free_to_come : (ℕ → Bool) → Option Body → Bool
+is_free_to_come awaited None = false
+is_free_to_come awaited (Some event) = may_pass awaited (passage_of event)
 
 -- a vat's next record receives a frame that is under way
-abbrev pub receives : Contents → List ℕ → Log → Bool
-receives held before log = takes_frame (is_awaited held before log) (option_and_then passage_of (next_in before log))
+abbrev pub receives_sent_frame : Contents → List ℕ → Log → Bool
+receives_sent_frame held before log = takes_frame (is_awaited held before log) (option_and_then passage_of (next_record_in before log))
 
 -- a vat may go on
 abbrev pub goes_on : Contents → List ℕ → Log → Bool
-goes_on held before log = may_come (is_awaited held before log) (next_in before log)
+goes_on held before log = is_free_to_come (is_awaited held before log) (next_record_in before log)
 
 -- it may, and a frame is under way to it
 abbrev pub goes_to_receive : Contents → List ℕ → Log → Bool
@@ -77,7 +77,7 @@ goes_to_receive held before log = goes_on held before log && is_reached held bef
 -- under way, or else the first that may go on
 abbrev pub next_log : Contents → List ℕ → Option Log
 next_log held before =
-    or_else (find (receives held before) held.logs) (or_else (find (goes_to_receive held before) held.logs) (find (goes_on held before) held.logs))
+    or_else (find (receives_sent_frame held before) held.logs) (or_else (find (goes_to_receive held before) held.logs) (find (goes_on held before) held.logs))
 
 -- the vat of that log
 abbrev pub next_after : Contents → List ℕ → Option ℕ
@@ -95,9 +95,9 @@ flow held zero = []
 flow held (suc steps) = with_next held (flow held steps)
 
 -- how many records there are
-abbrev pub records_in : List Log → ℕ
-records_in logs = sum_by (λ log. length log.records) logs
+abbrev pub record_count : List Log → ℕ
+record_count logs = sum_by (λ log. length log.records) logs
 
 -- the whole order: as far as the logs go, or until no vat may go on
 abbrev pub flow_of : Contents → List ℕ
-flow_of held = flow held (records_in held.logs)
+flow_of held = flow held (record_count held.logs)

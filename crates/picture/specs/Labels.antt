@@ -48,8 +48,8 @@ short_text (Disembargo number loopback target) =
 short_text Abort = codes "abort"
 
 -- the results of a call: where there are more than three capabilities, how many there are
-abbrev pub answered_text : ℕ → List (ℕ × List ℕ) → List ℕ
-answered_text call results =
+abbrev pub results_text : ℕ → List (ℕ × List ℕ) → List ℕ
+results_text call results =
     if nat_lt 3 (length results)
     then codes "answer call " ++ (decimal call ++ (codes " with " ++ (decimal (length results) ++ codes " capabilities")))
     else body_text (Answer call results)
@@ -59,7 +59,7 @@ abbrev pub said_text : Body → Option RpcMessage → List ℕ
 said_text event (Some said) = short_text said
 said_text (Send connection call references frame) None = codes "send, unread"
 said_text (Receive connection call references frame) None = codes "receive, unread"
-said_text (Answer call results) None = answered_text call results
+said_text (Answer call results) None = results_text call results
 said_text event None = body_text event
 
 -- the words of a row

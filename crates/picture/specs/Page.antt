@@ -5,15 +5,15 @@ use Rattle.std.specs.List.{flat_map}
 use Rattle.rpc_view.specs.declared.message.RpcMessage.{RpcMessage}
 use Rattle.vat_log.specs.declared.body.Body.{Body}
 use Rattle.vat_log.specs.declared.body.Body.TheVariants.{Send, Receive}
-use Rattle.audit_core.specs.declared.report.Report.{Report}
+use Rattle.case_report.specs.declared.report.Report.{Report}
 use Rattle.report_lines.specs.Lines.{report_text}
 use Rattle.report_lines.specs.MessageText.{message_text}
 use Rattle.report_lines.specs.RecordText.{body_text}
 use Rattle.picture.specs.ReasonText.{whole_reason}
 use Rattle.picture.specs.Rows.{Drawn}
-use Rattle.picture.specs.Picture.{linked_text, picture_text, place_text, svg_text, tone_word}
+use Rattle.picture.specs.Picture.{linked_text, picture_text, row_name_text, svg_text, tone_word}
 use Rattle.picture.specs.declared.drawing.Picture.{Picture}
-use Rattle.picture.specs.declared.place.Place.{Place}
+use Rattle.picture.specs.declared.record_place.Place.{Place}
 use Rattle.picture.specs.declared.row.Tone.{Tone}
 
 -- what the table has of a record: the same as `records`, but for a frame that isn't read
@@ -29,10 +29,10 @@ listed_said event said reason = listed_words event said ++ whole_reason reason
 
 -- a row of the table, which leads to its row of the picture
 abbrev pub listed_begin : Place → Tone → List ℕ
-listed_begin place tone = codes "<tr id='record-" ++ (place_text place ++ (codes "' class='" ++ (tone_word tone ++ codes "'>")))
+listed_begin place tone = codes "<tr id='record-" ++ (row_name_text place ++ (codes "' class='" ++ (tone_word tone ++ codes "'>")))
 
 abbrev pub listed_link : Place → List ℕ
-listed_link place = codes "<td><a href='#row-" ++ (place_text place ++ (codes "'>" ++ (decimal place.vat ++ codes "</a></td>")))
+listed_link place = codes "<td><a href='#row-" ++ (row_name_text place ++ (codes "'>" ++ (decimal place.vat ++ codes "</a></td>")))
 
 abbrev pub listed_cells : ℕ → List ℕ → List ℕ
 listed_cells number words = codes "<td>" ++ (decimal number ++ (codes "</td><td>" ++ (words ++ codes "</td></tr>\n")))

@@ -7,16 +7,16 @@ use Rattle.std.specs.Option.{option_copied}
 use Rattle.rpc_view.specs.declared.message.RpcMessage.{RpcMessage}
 use Rattle.run_model.specs.declared.step.Step.{Step}
 use Rattle.case_book.specs.Case.{Contents}
-use Rattle.audit_core.specs.declared.report.Report.{Report}
-use Rattle.audit_core.specs.declared.report.Report.TheVariants as reports
+use Rattle.case_report.specs.declared.report.Report.{Report}
+use Rattle.case_report.specs.declared.report.Report.TheVariants as reports
 use Rattle.report_lines.specs.Lines.{breach_code, report_text}
-use Rattle.report_lines.specs.Sentences.{IsLine}
+use Rattle.report_lines.specs.Sentences.{IsPrintedLine}
 use Rattle.picture.specs.Places.{completed}
 use Rattle.vat_log.specs.Passages.{passage_of}
 use Rattle.picture.specs.Flow.{flow_of}
 use Rattle.picture.specs.Labels.{label_text}
 use Rattle.picture.specs.Rows.{Drawn, arrows_of, columns_of, ends_line, greater_of, least_of, lines_of, room_in, rows_of, scene_of}
-use Rattle.picture.specs.declared.place.Place.{Place}
+use Rattle.picture.specs.declared.record_place.Place.{Place}
 use Rattle.picture.specs.declared.window.Asked.{Asked}
 use Rattle.picture.specs.declared.window.Gap.{Gap}
 use Rattle.picture.specs.declared.row.Tone.{Tone}
@@ -116,24 +116,24 @@ circle_text tone mark at = codes "<g class='" ++ (tone ++ (codes "'><circle clas
     ++ (codes "' cy='" ++ (decimal at.y ++ codes "' r='3.5'/>")))))))
 
 -- words that begin at a point
-abbrev pub words_text : Point → List ℕ → List ℕ
-words_text at words = codes "<text x='" ++ (decimal at.x ++ (codes "' y='" ++ (decimal at.y ++ (codes "'>" ++ (words ++ codes "</text></g>\n")))))
+abbrev pub words_element : Point → List ℕ → List ℕ
+words_element at words = codes "<text x='" ++ (decimal at.x ++ (codes "' y='" ++ (decimal at.y ++ (codes "'>" ++ (words ++ codes "</text></g>\n")))))
 
 -- where the words of a row begin
-abbrev pub words_at : Drawn → Point
-words_at row = record { x = x_of row.column + 14; y = words_y (passage_of row.body) (y_of row.line) }
+abbrev pub words_begin_at : Drawn → Point
+words_begin_at row = record { x = x_of row.column + 14; y = words_y (passage_of row.body) (y_of row.line) }
 
 abbrev pub row_text : Drawn → List ℕ
 row_text row = circle_text (tone_word row.tone) (mark_word row.message) (point_at row.column row.line)
-    ++ words_text (words_at row) (label_text row.place.number row.body row.message row.reason)
+    ++ words_element (words_begin_at row) (label_text row.place.number row.body row.message row.reason)
 
 -- the name of a record, in the names of its rows
-abbrev pub place_text : Place → List ℕ
-place_text place = decimal place.vat ++ (codes "-" ++ decimal place.number)
+abbrev pub row_name_text : Place → List ℕ
+row_name_text place = decimal place.vat ++ (codes "-" ++ decimal place.number)
 
 -- a row that leads to the row of its record in a table
 abbrev pub linked_text : Drawn → List ℕ
-linked_text row = codes "<a id='row-" ++ (place_text row.place ++ (codes "' href='#record-" ++ (place_text row.place ++ (codes "'>" ++ (row_text row ++ codes "</a>\n")))))
+linked_text row = codes "<a id='row-" ++ (row_name_text row.place ++ (codes "' href='#record-" ++ (row_name_text row.place ++ (codes "'>" ++ (row_text row ++ codes "</a>\n")))))
 
 -- a row, on a page or in a picture alone
 abbrev pub shape_text : Bool → Drawn → List ℕ
@@ -203,8 +203,8 @@ style = letters ++ (strokes ++ (marks ++ (dark ++ tip)))
 abbrev pub height_of : ℕ → ℕ
 height_of lines = y_of lines + 48
 
-abbrev pub opening : ℕ → ℕ → List ℕ
-opening width height = codes "<svg xmlns='http://www.w3.org/2000/svg' width='" ++ (decimal width ++ (codes "' height='" ++ (decimal height
+abbrev pub opening_tag : ℕ → ℕ → List ℕ
+opening_tag width height = codes "<svg xmlns='http://www.w3.org/2000/svg' width='" ++ (decimal width ++ (codes "' height='" ++ (decimal height
     ++ (codes "' viewBox='0 0 " ++ (decimal width ++ (codes " " ++ (decimal height ++ codes "'>\n")))))))
 
 -- the line of `check`
@@ -217,7 +217,7 @@ sentence_of picture = option_copied picture.sentence
 
 -- all of it, with rows that lead to those of a table, or without
 abbrev pub svg_text : Bool → Picture → List ℕ
-svg_text linked picture = opening picture.width (height_of picture.lines) ++ (style ++ (flat_map (band_text (room_in picture.gap)) picture.rows.items
+svg_text linked picture = opening_tag picture.width (height_of picture.lines) ++ (style ++ (flat_map (band_text (room_in picture.gap)) picture.rows.items
     ++ (head_text picture.report.now ++ (flat_map column_text picture.columns.items
     ++ (left_out_text picture.above (codes "above") 76 ++ (flat_map arrow_text picture.arrows.items ++ (flat_map (shape_text linked) picture.rows.items
     ++ (sentence_text picture.report.now picture.gap (sentence_of picture)
@@ -255,7 +255,7 @@ arranged held None = completed held.logs (flow_of held)
 -- what a picture shows: the columns of all vats, the rows of the window, and the arrows of their messages
 pub record IsPictureOf (held : Contents) (order : List ℕ) (told : Report) (steps : List Step) (asked : Asked) (picture : Picture) : Type 0 where
   pub told_is : picture.report.now ≡ told
-  pub sentence_is : IfSome (sentence_of picture) IsLine
+  pub sentence_is : IfSome (sentence_of picture) IsPrintedLine
   pub columns_are : picture.columns.items ≡ columns_of held.logs picture.lines
   pub rows_are : picture.rows.items ≡ rows_of (scene_of held order steps told (sentence_of picture) asked)
   pub arrows_are : picture.arrows.items ≡ arrows_of (scene_of held order steps told (sentence_of picture) asked) picture.rows.items

@@ -13,16 +13,16 @@ use Rattle.vat_log.specs.declared.body.Body.{Body}
 use Rattle.vat_log.specs.Passages.{passage_of, passes, frame_of}
 use Rattle.case_book.specs.Case.{Contents}
 use Rattle.case_book.specs.declared.link.Link.{Link}
-use Rattle.picture.specs.declared.place.Place.{Place}
+use Rattle.picture.specs.declared.record_place.Place.{Place}
 
 -- the places of the items that pass a test, in a list whose first place is given
-abbrev pub places_from : {X : Type 0} → (X → Bool) → ℕ → List X → List ℕ
-places_from test at [] = []
-places_from test at (x ∷ xs) = if test x then at ∷ places_from test (at + 1) xs else places_from test (at + 1) xs
+abbrev pub positions_from : {X : Type 0} → (X → Bool) → ℕ → List X → List ℕ
+positions_from test at [] = []
+positions_from test at (x ∷ xs) = if test x then at ∷ positions_from test (at + 1) xs else positions_from test (at + 1) xs
 
 -- the place of the item of this number among those that pass a test, each counted from 0
 abbrev pub place_of_nth : {X : Type 0} → (X → Bool) → ℕ → List X → Option ℕ
-place_of_nth test number xs = slice_get (places_from test 0 xs) number
+place_of_nth test number xs = slice_get (positions_from test 0 xs) number
 
 -- there is an item, and it passes
 abbrev pub passes_in : {X : Type 0} → (X → Bool) → Option X → Bool
@@ -38,12 +38,12 @@ abbrev pub record_number : List ℕ → ℕ → ℕ → ℕ
 record_number order step vat = count_by (is_vat vat) (take step order)
 
 -- the step at which a record comes
-abbrev pub step_of : List ℕ → Place → Option ℕ
-step_of order place = place_of_nth (is_vat place.vat) place.number order
+abbrev pub step_of_place : List ℕ → Place → Option ℕ
+step_of_place order place = place_of_nth (is_vat place.vat) place.number order
 
 -- the log of a vat
-abbrev pub log_of : List Log → ℕ → Option Log
-log_of logs vat = find (λ log. log.vat == vat) logs
+abbrev pub log_by_vat : List Log → ℕ → Option Log
+log_by_vat logs vat = find (λ log. log.vat == vat) logs
 
 -- the column of a vat: how many have smaller numbers
 abbrev pub column_of : List Log → ℕ → ℕ
@@ -58,58 +58,58 @@ abbrev pub other_end_of : ℕ → Link → Option ℕ
 other_end_of vat link = if link.a == vat then Some link.b else (if link.b == vat then Some link.a else None)
 
 -- the vat at the other end of a connection
-abbrev pub other_end : List Link → ℕ → ℕ → Option ℕ
-other_end links connection vat = option_and_then (other_end_of vat) (find (λ link. link.connection == connection) links)
+abbrev pub vat_at_other_end : List Link → ℕ → ℕ → Option ℕ
+vat_at_other_end links connection vat = option_and_then (other_end_of vat) (find (λ link. link.connection == connection) links)
 
 -- the record of a vat
-abbrev pub place_in : ℕ → ℕ → Place
-place_in vat number = record { vat = vat; number = number }
+abbrev pub place_of_record : ℕ → ℕ → Place
+place_of_record vat number = record { vat = vat; number = number }
 
 -- the record of a log that has the frame of this number among those that it sends, or receives, on the connection
-abbrev pub frame_at : Bool → ℕ → ℕ → Log → Option Place
-frame_at sent connection frame log = option_map (place_in log.vat) (place_of_nth (passes sent connection) frame log.records)
+abbrev pub place_of_frame : Bool → ℕ → ℕ → Log → Option Place
+place_of_frame sent connection frame log = option_map (place_of_record log.vat) (place_of_nth (passes sent connection) frame log.records)
 
 -- of the n-th frame that a vat sends on a connection the n-th that the other end receives, and the other way round
 abbrev pub mate_from : Contents → Bool → ℕ → ℕ → Log → Option Place
 mate_from held sent connection number own =
-    option_and_then (λ vat. option_and_then (frame_at (not sent) connection (frames_before sent connection own.records number)) (log_of held.logs vat))
-    (other_end held.links connection own.vat)
+    option_and_then (λ vat. option_and_then (place_of_frame (not sent) connection (frames_before sent connection own.records number)) (log_by_vat held.logs vat))
+    (vat_at_other_end held.links connection own.vat)
 
 -- the same of a record of a vat that sends, or receives, on a connection
 abbrev pub mate_on : Contents → Place → (Bool × ℕ) → Option Place
-mate_on held place passage = option_and_then (mate_from held passage.0 passage.1 place.number) (log_of held.logs place.vat)
+mate_on held place passage = option_and_then (mate_from held passage.0 passage.1 place.number) (log_by_vat held.logs place.vat)
 
 -- the record at the other end of the message of this one, where it has a message and there is one
 abbrev pub mate_of : Contents → Place → Body → Option Place
 mate_of held place event = option_and_then (mate_on held place) (passage_of event)
 
 -- the message of a record, where it has one that is read by an edition, within the default limits
-abbrev pub message_of : Edition → Body → Option RpcMessage
-message_of edition b = option_and_then (λ frame. result_ok (message_of_bytes edition frame default_limits)) (frame_of b)
+abbrev pub message_of_body : Edition → Body → Option RpcMessage
+message_of_body edition b = option_and_then (λ frame. result_ok (message_of_bytes edition frame default_limits)) (frame_of b)
 
 -- what a message does to a question: it opens it (false), or finishes it and gives its results back (true)
-abbrev pub turn_of : ℕ → RpcMessage → Option Bool
-turn_of question (messages.Bootstrap opened) = if opened == question then Some false else None
-turn_of question (messages.Call opened target interface method params yourself) = if opened == question then Some false else None
-turn_of question (messages.Finish finished true) = if finished == question then Some true else None
-turn_of question _ = None
+abbrev pub question_turn_of : ℕ → RpcMessage → Option Bool
+question_turn_of question (messages.Bootstrap opened) = if opened == question then Some false else None
+question_turn_of question (messages.Call opened target interface method params yourself) = if opened == question then Some false else None
+question_turn_of question (messages.Finish finished true) = if finished == question then Some true else None
+question_turn_of question _ = None
 
 -- the same of a record, where it goes the way of the one who asks: sent or received, on the connection
-abbrev pub turn_by : Edition → Bool → ℕ → ℕ → Body → Option Bool
-turn_by edition asks connection question event =
-    if passes asks connection event then option_and_then (turn_of question) (message_of edition event) else None
+abbrev pub question_turn_by : Edition → Bool → ℕ → ℕ → Body → Option Bool
+question_turn_by edition asks connection question event =
+    if passes asks connection event then option_and_then (question_turn_of question) (message_of_body edition event) else None
 
 -- the last turn of a question in these records gives its results back
-abbrev pub is_released : Edition → Bool → ℕ → ℕ → List Body → Bool
-is_released edition asks connection question records =
-    fold (λ released event. unwrap_or (turn_by edition asks connection question event) released) false records
+abbrev pub is_given_back : Edition → Bool → ℕ → ℕ → List Body → Bool
+is_given_back edition asks connection question records =
+    fold (λ released event. unwrap_or (question_turn_by edition asks connection question event) released) false records
 
 -- a message that passes so is a Return that is late, behind these records: a Finish with releaseResultCaps passed since its
 -- question was opened
-abbrev pub is_late : Edition → Option (Bool × ℕ) → Option RpcMessage → List Body → Bool
-is_late edition (Some passage) (Some (messages.Return answer releases outcome light)) before =
-    is_released edition (not passage.0) passage.1 answer before
-is_late edition passage said before = false
+abbrev pub is_late_return : Edition → Option (Bool × ℕ) → Option RpcMessage → List Body → Bool
+is_late_return edition (Some passage) (Some (messages.Return answer releases outcome light)) before =
+    is_given_back edition (not passage.0) passage.1 answer before
+is_late_return edition passage said before = false
 
 -- the steps that an order leaves of a log, each of them its vat's
 abbrev pub steps_left : List ℕ → Log → List ℕ

@@ -15,13 +15,13 @@ use Rattle.run_model.specs.declared.step.Step.{Step}
 use Rattle.run_model.specs.declared.step.Step.TheVariants.{Make}
 use Rattle.run_model.specs.declared.name.Name.{Name}
 use Rattle.case_book.specs.Case.{Contents}
-use Rattle.audit_core.specs.declared.report.Report.{Report}
-use Rattle.audit_core.specs.declared.report.Report.TheVariants as reports
+use Rattle.case_report.specs.declared.report.Report.{Report}
+use Rattle.case_report.specs.declared.report.Report.TheVariants as reports
 use Rattle.report_lines.specs.StepText.{call_of_step}
-use Rattle.picture.specs.Places.{place_of_nth, record_number, step_of, log_of, column_of, frame_at, place_in, mate_of, message_of, is_late}
+use Rattle.picture.specs.Places.{place_of_nth, record_number, step_of_place, log_by_vat, column_of, place_of_frame, place_of_record, mate_of, message_of_body, is_late_return}
 use Rattle.vat_log.specs.Passages.{passage_of}
-use Rattle.picture.specs.declared.place.Place.{Place}
-use Rattle.picture.specs.declared.calls.Maker.{Maker}
+use Rattle.picture.specs.declared.record_place.Place.{Place}
+use Rattle.picture.specs.declared.call_makers.Maker.{Maker}
 use Rattle.picture.specs.declared.focus.Focus.{Focus}
 use Rattle.picture.specs.declared.window.Window.{Window}
 use Rattle.picture.specs.declared.window.Asked.{Asked}
@@ -38,24 +38,24 @@ use Rattle.picture.specs.declared.arrow.Stroke.TheVariants as strokes
 -- ---- what the verdict names
 
 -- the record by which a vat received the message of this number on a connection
-abbrev pub receipt : List Log → ℕ → ℕ → ℕ → Option Place
-receipt logs connection vat number = option_and_then (frame_at false connection number) (log_of logs vat)
+abbrev pub receipt_of_frame : List Log → ℕ → ℕ → ℕ → Option Place
+receipt_of_frame logs connection vat number = option_and_then (place_of_frame false connection number) (log_by_vat logs vat)
 
 -- the record at a step of an order
 abbrev pub place_at : List ℕ → ℕ → Option Place
-place_at order step = option_map (λ vat. place_in vat (record_number order step vat)) (slice_get order step)
+place_at order step = option_map (λ vat. place_of_record vat (record_number order step vat)) (slice_get order step)
 
 -- the record that a verdict names
 abbrev pub named_by : Contents → List ℕ → Report → Option Place
-named_by held order (reports.Vat vat at broken) = Some (place_in vat at)
-named_by held order (reports.OutsideVat vat at why) = Some (place_in vat at)
-named_by held order (reports.Link connection end number) = receipt held.logs connection end number
+named_by held order (reports.Vat vat at broken) = Some (place_of_record vat at)
+named_by held order (reports.OutsideVat vat at why) = Some (place_of_record vat at)
+named_by held order (reports.Link connection end number) = receipt_of_frame held.logs connection end number
 named_by held order (reports.OrderStep step) = place_at order step
 named_by held order _ = None
 
 -- the record of this place
 abbrev pub body_at : List Log → Place → Option Body
-body_at logs place = option_and_then (λ log. slice_get log.records place.number) (log_of logs place.vat)
+body_at logs place = option_and_then (λ log. slice_get log.records place.number) (log_by_vat logs place.vat)
 
 -- the other end of the message of a record
 abbrev pub mate_at : Contents → Place → Option Place
@@ -63,7 +63,7 @@ mate_at held place = option_and_then (mate_of held place) (body_at held.logs pla
 
 -- where the verdict is on a link, the other end of its message
 abbrev pub mate_by : Contents → Report → Option Place
-mate_by held (reports.Link connection end number) = option_and_then (mate_at held) (receipt held.logs connection end number)
+mate_by held (reports.Link connection end number) = option_and_then (mate_at held) (receipt_of_frame held.logs connection end number)
 mate_by held _ = None
 
 -- ---- the window
@@ -101,7 +101,7 @@ window_of steps middle asked = window_from steps (first_of steps middle asked) a
 
 -- the step that the verdict names, or the first
 abbrev pub middle_of : List ℕ → Option Place → ℕ
-middle_of order place = unwrap_or (option_and_then (step_of order) place) 0
+middle_of order place = unwrap_or (option_and_then (step_of_place order) place) 0
 
 -- the row of a step, counted from 0, where it is in the window
 abbrev pub row_in : Window → ℕ → Option ℕ
@@ -109,8 +109,8 @@ row_in window step =
     if nat_le window.from step && nat_lt (step - window.from) window.count then Some (step - window.from) else None
 
 -- the row of a record
-abbrev pub row_of : List ℕ → Window → Place → Option ℕ
-row_of order window place = option_and_then (row_in window) (step_of order place)
+abbrev pub row_of_place : List ℕ → Window → Place → Option ℕ
+row_of_place order window place = option_and_then (row_in window) (step_of_place order place)
 
 -- how many lines are free below the row at fault, if there is one
 abbrev pub room_in : Option Gap → ℕ
@@ -123,8 +123,8 @@ room_above None row = 0
 room_above (Some gap) row = if nat_lt gap.row row then gap.room else 0
 
 -- the line of a row: further down, below the row at fault
-abbrev pub line_of : Option Gap → ℕ → ℕ
-line_of gap row = row + room_above gap row
+abbrev pub line_of_row : Option Gap → ℕ → ℕ
+line_of_row gap row = row + room_above gap row
 
 -- ---- the sentence of what is broken, which stands below the row at fault
 
@@ -150,8 +150,8 @@ gap_of sentence (Some row) = Some (record { row = row; room = room_of sentence }
 -- ---- calls of one reference
 
 -- the call that a record names, in the run of all records
-abbrev pub call_at : List Step → Place → Option Name
-call_at steps place = option_and_then (λ at. option_and_then call_of_step (slice_get steps at))
+abbrev pub call_at_place : List Step → Place → Option Name
+call_at_place steps place = option_and_then (λ at. option_and_then call_of_step (slice_get steps at))
     (place_of_nth (λ step. vat_of step == place.vat) place.number steps)
 
 -- who made a call, where this step makes it
@@ -166,7 +166,7 @@ maker_of steps call = slice_get (filter_map (maker_by call) steps) 0
 
 -- the same of the call that a record names
 abbrev pub maker_at : List Step → Place → Option Maker
-maker_at steps place = option_and_then (maker_of steps) (call_at steps place)
+maker_at steps place = option_and_then (maker_of steps) (call_at_place steps place)
 
 -- both are there, and the same
 abbrev pub are_kin : Option Maker → Option Maker → Bool
@@ -199,7 +199,7 @@ scene_in held order steps focus sentence window = record {
   maker = option_and_then (maker_at steps) focus.at;
   window = window;
   sentence = sentence;
-  gap = gap_of sentence (option_and_then (row_of order window) focus.at);
+  gap = gap_of sentence (option_and_then (row_of_place order window) focus.at);
 }
 
 -- what is drawn of a case, in this order, for its report and its sentence: the window that is asked for, or the one around what
@@ -236,16 +236,16 @@ pub record Drawn : Type 0 where
 
 -- a record of a log is a Return that is late
 abbrev pub late_in : Log → ℕ → Body → Bool
-late_in log number event = is_late (edition_of log) (passage_of event) (message_of (edition_of log) event) (take number log.records)
+late_in log number event = is_late_return (edition_of log) (passage_of event) (message_of_body (edition_of log) event) (take number log.records)
 
 -- the row of a record of a log, whose frames are read by the log's edition
 abbrev pub drawn : Scene → ℕ → Place → Log → Body → Drawn
 drawn scene row place log event = record {
   place = place;
   column = column_of scene.held.logs place.vat;
-  line = line_of scene.gap row;
+  line = line_of_row scene.gap row;
   body = event;
-  message = message_of (edition_of log) event;
+  message = message_of_body (edition_of log) event;
   reason = reason_of_record event;
   late = late_in log place.number event;
   tone = tone_of scene place;
@@ -256,7 +256,7 @@ abbrev pub drawn_in : Scene → ℕ → Place → Log → Option Drawn
 drawn_in scene row place log = option_map (drawn scene row place log) (slice_get log.records place.number)
 
 abbrev pub drawn_at : Scene → ℕ → Place → Option Drawn
-drawn_at scene row place = option_and_then (drawn_in scene row place) (log_of scene.held.logs place.vat)
+drawn_at scene row place = option_and_then (drawn_in scene row place) (log_by_vat scene.held.logs place.vat)
 
 -- the row of this number: the record that comes at its step
 abbrev pub row_at : Scene → ℕ → Option Drawn
@@ -292,13 +292,13 @@ reach_away scene false column = Above column
 
 -- where an arrow goes to, or comes from, in this column: the other end's row, or out of the window
 abbrev pub reach_in : Scene → Bool → ℕ → Option ℕ → Reach
-reach_in scene sent column (Some row) = At column (line_of scene.gap row)
+reach_in scene sent column (Some row) = At column (line_of_row scene.gap row)
 reach_in scene sent column None = reach_away scene sent column
 
 -- where the other end is; nowhere, if there is none
 abbrev pub reach_of : Scene → Bool → Option Place → Reach
 reach_of scene sent None = Nowhere
-reach_of scene sent (Some mate) = reach_in scene sent (column_of scene.held.logs mate.vat) (row_of scene.order scene.window mate)
+reach_of scene sent (Some mate) = reach_in scene sent (column_of scene.held.logs mate.vat) (row_of_place scene.order scene.window mate)
 
 -- What is received in one row and sent in another is drawn from the other.
 abbrev pub is_drawn_there : Bool → Reach → Bool
@@ -311,12 +311,12 @@ late_number number log = unwrap_or (option_map (late_in log number) (slice_get l
 
 -- the same of a place
 abbrev pub late_at : List Log → Place → Bool
-late_at logs place = unwrap_or (option_map (late_number place.number) (log_of logs place.vat)) false
+late_at logs place = unwrap_or (option_map (late_number place.number) (log_by_vat logs place.vat)) false
 
 -- a message is a Return that is late at this end or at the other one
-abbrev pub late_by : List Log → Bool → Option Place → Bool
-late_by logs late None = late
-late_by logs late (Some mate) = if late then true else late_at logs mate
+abbrev pub is_late_at_an_end : List Log → Bool → Option Place → Bool
+is_late_at_an_end logs late None = late
+is_late_at_an_end logs late (Some mate) = if late then true else late_at logs mate
 
 -- the arrow of a row, that goes so far
 abbrev pub arrow_to : Drawn → Bool → Bool → Reach → Option Arrow
@@ -330,7 +330,7 @@ arrow_to row sent late reach = if is_drawn_there sent reach then None else Some 
 })
 
 abbrev pub arrow_by : Scene → Drawn → (Bool × ℕ) → Option Arrow
-arrow_by scene row passage = arrow_to row passage.0 (late_by scene.held.logs row.late (mate_of scene.held row.place row.body))
+arrow_by scene row passage = arrow_to row passage.0 (is_late_at_an_end scene.held.logs row.late (mate_of scene.held row.place row.body))
     (reach_of scene passage.0 (mate_of scene.held row.place row.body))
 
 -- the arrow of a row, where it has one

@@ -3,14 +3,14 @@
 ghost use Rattle.std.specs.Prelude.{◌≡◌, ◌++◌, IfOk, map};
 ghost use Rattle.std.specs.Arc.{arc_value};
 ghost use Rattle.std.specs.Option.{option_to_list};
-ghost use Rattle.picture.specs.Rows.{arrow_of, arrow_to, arrows_of, is_drawn_there, late_by, outcome_stroke, reach_away, reach_in, reach_of, stroke_of};
+ghost use Rattle.picture.specs.Rows.{arrow_of, arrow_to, arrows_of, is_drawn_there, is_late_at_an_end, outcome_stroke, reach_away, reach_in, reach_of, stroke_of};
 
-use crate::logs::column_of;
 use crate::passing::late::late_at;
 use crate::passing::mate::mate_of;
-use crate::place::Place;
+use crate::record_place::Place;
 use crate::row::{Row, Tone};
 use crate::scene::Scene;
+use crate::vat_logs::column_of;
 use crate::window::{line_of, lines_of, row_of};
 use rpc_view::{Outcome, RpcMessage};
 use std::alloc::{AllocError, Global};
@@ -18,7 +18,7 @@ use std::sync::Arc;
 use vat_log::VatLog;
 
 /// Where the other end of an arrow is.
-#[derive(Clone, Copy, Debug, PartialEq, Eq)]
+#[derive(Clone, Copy, PartialEq, Eq)]
 pub enum Reach {
     /// At another row.
     At {
@@ -44,7 +44,7 @@ pub enum Reach {
 }
 
 /// How the line of an arrow is drawn.
-#[derive(Clone, Copy, Debug, PartialEq, Eq)]
+#[derive(Clone, Copy, PartialEq, Eq)]
 pub enum Stroke {
     /// As most are.
     Plain,
@@ -57,7 +57,7 @@ pub enum Stroke {
 }
 
 /// An arrow: a message that a row sends or receives.
-#[derive(Clone, Copy, Debug)]
+#[derive(Clone, Copy)]
 pub struct Arrow {
     /// The column of the row, counted from 0.
     pub column: u32,
@@ -164,7 +164,8 @@ fn late_by(
     late: bool,
     mate: Option<Place>,
 ) -> Result<bool, AllocError>
-    ensures { IfOk result (λ either. either ≡ late_by (map arc_value logs.now) late mate) }
+    ensures { IfOk result
+        (λ either. either ≡ is_late_at_an_end (map arc_value logs.now) late mate) }
 {
     match mate {
         Some(mate) => {

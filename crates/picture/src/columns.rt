@@ -5,13 +5,13 @@ ghost use Rattle.std.specs.Arc.{arc_value};
 ghost use Rattle.case_book.specs.Case.{vat_limit};
 ghost use Rattle.picture.specs.Rows.{column_at, columns_of};
 
-use crate::logs::column_of;
+use crate::vat_logs::column_of;
 use std::alloc::{AllocError, Global};
 use std::sync::Arc;
 use vat_log::VatLog;
 
 /// The column of a vat.
-#[derive(Clone, Copy, Debug)]
+#[derive(Clone, Copy)]
 pub struct Column {
     /// The vat.
     pub vat: u32,

@@ -7,15 +7,15 @@ use crate::arrow::{Arrow, arrows_of};
 use crate::columns::{Column, columns_of};
 use crate::row::{Row, rows_of};
 use crate::scene::scene_of;
-use crate::width::width_of;
+use crate::svg::width::width_of;
 use crate::window::{Asked, Gap, lines_of};
-use audit_core::Report;
 use case_book::Case;
+use case_report::Report;
 use run_model::Step;
 use std::alloc::{AllocError, Global};
 
 /// A picture of a case. It is shown as an SVG that needs nothing else: no script, no font, no other file.
-#[derive(Debug, Drop)]
+#[derive(Drop)]
 pub struct Picture<'a> {
     /// The report, whose line is the picture's head.
     pub report: &'a Report,

@@ -5,9 +5,9 @@ ghost use Rattle.picture.specs.Rows.{focus_of, mate_by, named_by};
 
 use crate::order::positions::place_at;
 use crate::passing::mate::{mate_at, receipt};
-use crate::place::Place;
-use audit_core::Report;
+use crate::record_place::Place;
 use case_book::Case;
+use case_report::Report;
 
 /// The records that a verdict names: the one at fault, and the other end of its message where the verdict is on a link.
 #[derive(Clone, Copy)]

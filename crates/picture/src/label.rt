@@ -2,7 +2,7 @@
 
 ghost use Rattle.std.specs.Prelude.{◌≡◌, Some, false};
 ghost use Rattle.std.specs.Fmt.{WritesOnOk};
-ghost use Rattle.picture.specs.Labels.{answered_text, caps_text, label_text, said_text, short_outcome, short_text};
+ghost use Rattle.picture.specs.Labels.{results_text, caps_text, label_text, said_text, short_outcome, short_text};
 
 use crate::reason_text::ShortReason;
 use exception_reasons::Reason;
@@ -14,9 +14,9 @@ use vat_log::{Body, ResultReferences};
 
 /// A capability table: its first three entries, and how many more there are.
 #[derive(Clone, Copy)]
-struct Caps<'a>(&'a [Descriptor]);
+struct ListedCaps<'a>(&'a [Descriptor]);
 
-impl Display for Caps<'_> {
+impl Display for ListedCaps<'_> {
     ghost output = { λ caps. Some (caps_text caps.0.now) };
 
     fn fmt<W: fmt::Write>(&self, f: &mut Formatter<W>) -> fmt::Result {
@@ -43,7 +43,7 @@ impl Display for ShortOutcome<'_> {
     fn fmt<W: fmt::Write>(&self, f: &mut Formatter<W>) -> fmt::Result {
         match self.0 {
             Outcome::Results(payload) => {
-                write!(f, "results{}", Caps(payload.descriptors.as_slice()))
+                write!(f, "results{}", ListedCaps(payload.descriptors.as_slice()))
             }
             Outcome::Exception => f.write_str("exception"),
             Outcome::Canceled => f.write_str("canceled"),
@@ -63,7 +63,7 @@ fn put_call<W: fmt::Write>(
     ensures { WritesOnOk W.write_str_gives f.old result
         (short_text (RpcMessage.Call question target.now 0 0 params.now false)) f.new }
 {
-    let caps = Caps(params.descriptors.as_slice());
+    let caps = ListedCaps(params.descriptors.as_slice());
     write!(f, "call {question} to {}{caps}", Shown(target))
 }
 
@@ -115,7 +115,7 @@ fn put_answer<W: fmt::Write>(
     results: &ResultReferences,
 ) -> fmt::Result
     requires { body.now ≡ Body.Answer call results.now }
-    ensures { WritesOnOk W.write_str_gives f.old result (answered_text call results.now) f.new }
+    ensures { WritesOnOk W.write_str_gives f.old result (results_text call results.now) f.new }
 {
     let count = results.as_slice().len();
     if count > 3 {

@@ -1,6 +1,6 @@
 //! A picture of a conversation: a column for each vat, a row for each record, and an arrow for each message.
 //!
-//! It stands on `audit_core`, whose report a picture is drawn for, on `report_lines`, whose texts stand in it, on
+//! It stands on `case_report`, whose report a picture is drawn for, on `report_lines`, whose texts stand in it, on
 //! `case_book`, `merge_order`, `run_model`, `vat_log`, `rpc_view` and `exception_reasons`. It opens no file. Where records
 //! stand is said in `specs/Places.antt`, rows and arrows in `specs/Rows.antt`, the words of a row in `specs/Labels.antt` and
 //! `specs/ReasonText.antt`, and what is drawn of all that in `specs/Picture.antt`: [`draw`] makes just these rows and arrows,
@@ -11,22 +11,21 @@
 
 mod arrow;
 mod breaks;
-mod calls;
+mod call_makers;
 mod columns;
 mod drawing;
 mod focus;
 mod label;
 mod laws;
-mod logs;
 mod order;
 mod page;
 mod passing;
-mod place;
 mod reason_text;
+mod record_place;
 mod row;
 mod scene;
 mod svg;
-mod width;
+mod vat_logs;
 mod window;
 
 pub use arrow::{Arrow, Reach, Stroke};
@@ -35,6 +34,6 @@ pub use drawing::{Picture, draw};
 pub use laws::{late_returns_are_the_audits, reasons_make_no_tags};
 pub use order::arranging::arrange;
 pub use page::text_of;
-pub use place::Place;
+pub use record_place::Place;
 pub use row::{Row, Tone};
 pub use window::{Asked, Gap, Window, limit_of};

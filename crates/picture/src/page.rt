@@ -5,12 +5,12 @@ ghost use Rattle.std.specs.List.{flat_map};
 ghost use Rattle.picture.specs.Page.{dark_layout, drawn_text, layout, listed_begin, listed_cells, listed_link, listed_said, listed_text, listed_words, page_begin, page_style, page_text};
 
 use crate::drawing::Picture;
-use crate::place::Place;
 use crate::reason_text::WholeReason;
+use crate::record_place::Place;
 use crate::row::{Row, Tone};
+use crate::svg::document::Svg;
 use crate::svg::shapes::{RowName, tone_word};
-use crate::svg::whole::Svg;
-use audit_core::Report;
+use case_report::Report;
 use report_lines::{Shown, ShownReport};
 use rpc_view::RpcMessage;
 use std::alloc::{AllocError, Global};

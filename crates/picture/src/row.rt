@@ -5,14 +5,14 @@ ghost use Rattle.std.specs.Option.{option_to_list};
 ghost use Rattle.picture.specs.Labels.{label_text};
 ghost use Rattle.picture.specs.Rows.{drawn, drawn_at, drawn_in, is_place, row_at, rows_of, tone_of};
 
-use crate::calls::{are_kin, maker_at};
+use crate::call_makers::{are_kin, maker_at};
 use crate::label::Label;
-use crate::logs::{body_in, column_of, log_of};
 use crate::order::positions::place_at;
 use crate::passing::late::is_late;
-use crate::passing::messages::message_of;
-use crate::place::Place;
+use crate::passing::record_messages::message_of;
+use crate::record_place::Place;
 use crate::scene::Scene;
+use crate::vat_logs::{body_in, column_of, log_of};
 use crate::window::line_of;
 use exception_reasons::{Reason, record_reason};
 use rpc_view::RpcMessage;
@@ -22,7 +22,7 @@ use vat_log::{Body, VatLog};
 use vat_rules::edition_of;
 
 /// How a row is marked.
-#[derive(Clone, Copy, Debug, PartialEq, Eq)]
+#[derive(Clone, Copy, PartialEq, Eq)]
 pub enum Tone {
     /// Not at all.
     Plain,
@@ -35,7 +35,7 @@ pub enum Tone {
 }
 
 /// A row: a record of a vat, with its message where it has one that is read. Contracts see it by these parts.
-#[derive(Debug, Drop)]
+#[derive(Drop)]
 pub struct Row<'a> {
     /// The record.
     pub(crate) place: Place,

@@ -1,16 +1,16 @@
 //! What a picture is drawn of.
 
 ghost use Rattle.std.specs.Prelude.{◌≡◌, ◌≤◌, ◌+◌, IfSome, length, option_and_then};
-ghost use Rattle.report_lines.specs.Sentences.{IsLine};
-ghost use Rattle.picture.specs.Rows.{maker_at, row_of, scene_of};
+ghost use Rattle.report_lines.specs.Sentences.{IsPrintedLine};
+ghost use Rattle.picture.specs.Rows.{maker_at, row_of_place, scene_of};
 
 use crate::breaks::gap_of;
-use crate::calls::{Maker, maker_at};
+use crate::call_makers::{Maker, maker_at};
 use crate::focus::{Focus, focus_of};
-use crate::place::Place;
+use crate::record_place::Place;
 use crate::window::{Asked, Gap, Window, middle_of, row_of, window_of};
-use audit_core::Report;
 use case_book::Case;
+use case_report::Report;
 use report_lines::report_sentence;
 use run_model::Step;
 use std::marker::Model;
@@ -66,7 +66,7 @@ fn maker_named(steps: &[Step], place: Option<Place>) -> Option<Maker>
 
 /// The row of this record, if there is one.
 fn row_named(order: &[u32], window: Window, place: Option<Place>) -> Option<u16>
-    ensures { result ≡ option_and_then (row_of order.now window) place }
+    ensures { result ≡ option_and_then (row_of_place order.now window) place }
 {
     match place {
         Some(place) => row_of(order, window, place),
@@ -84,7 +84,7 @@ pub fn scene_of<'a>(
     asked: Asked,
 ) -> Scene<'a>
     ensures scene { result ≡ scene_of case.now order.now steps.now report.now result.sentence asked }
-    ensures line { IfSome result.sentence IsLine }
+    ensures line { IfSome result.sentence IsPrintedLine }
     ensures within { result.window.from + result.window.count ≤ length result.order }
 {
     let focus = focus_of(case, order, report);

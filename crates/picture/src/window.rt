@@ -1,13 +1,13 @@
 //! Which steps of an order are drawn.
 
 ghost use Rattle.std.specs.Prelude.{◌≡◌, ◌≤◌, ◌+◌};
-ghost use Rattle.picture.specs.Rows.{first_of, least_of, limit_of, line_of, lines_of, middle_of, room_in, row_in, row_of, wanted_of, window_of};
+ghost use Rattle.picture.specs.Rows.{first_of, least_of, limit_of, line_of_row, lines_of, middle_of, room_in, row_in, row_of_place, wanted_of, window_of};
 
 use crate::order::positions::step_of;
-use crate::place::Place;
+use crate::record_place::Place;
 
 /// Which steps of an order are asked for.
-#[derive(Clone, Copy, Debug)]
+#[derive(Clone, Copy)]
 pub struct Asked {
     /// The first step, counted from 0. Where there is none, the step that the verdict names is in the middle.
     pub from: Option<u64>,
@@ -19,7 +19,7 @@ pub struct Asked {
 }
 
 /// Steps of an order that follow one another: those that are drawn.
-#[derive(Clone, Copy, Debug)]
+#[derive(Clone, Copy)]
 pub struct Window {
     /// The first step, counted from 0.
     pub from: usize,
@@ -28,7 +28,7 @@ pub struct Window {
 }
 
 /// A row at fault, and the lines below it on which no row stands: they are for the sentence of what is broken.
-#[derive(Clone, Copy, Debug)]
+#[derive(Clone, Copy)]
 pub struct Gap {
     /// The row, counted from 0.
     pub row: u16,
@@ -112,7 +112,7 @@ fn row_in(window: Window, step: usize) -> Option<u16>
 
 /// The row of a record, where it is in the window.
 pub fn row_of(order: &[u32], window: Window, place: Place) -> Option<u16>
-    ensures { result ≡ row_of order.now window place }
+    ensures { result ≡ row_of_place order.now window place }
 {
     match step_of(order, place) {
         Some(step) => row_in(window, step),
@@ -122,7 +122,7 @@ pub fn row_of(order: &[u32], window: Window, place: Place) -> Option<u16>
 
 /// The line of a row: further down, below the row at fault.
 pub fn line_of(gap: Option<Gap>, row: u16) -> u32
-    ensures { result ≡ line_of gap row }
+    ensures { result ≡ line_of_row gap row }
 {
     match gap {
         Some(gap) if gap.row < row => row as u32 + gap.room as u32,

@@ -6,3 +6,4 @@ pub mod MessageText
 pub mod RecordText
 pub mod Sentences
 pub mod StepText
+pub mod ShownLines

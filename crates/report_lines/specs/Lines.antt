@@ -8,14 +8,14 @@ use Rattle.vat_rules.specs.declared.outcome.Why.{Why}
 use Rattle.vat_rules.specs.declared.outcome.Why.TheVariants as why
 use Rattle.vat_rules.specs.declared.outcome.Outcome.{Outcome}
 use Rattle.vat_rules.specs.declared.outcome.Outcome.TheVariants.{Good, Broken, Outside}
-use Rattle.audit_core.specs.declared.report.Breach.{Breach}
-use Rattle.audit_core.specs.declared.report.Breach.TheVariants as breach
-use Rattle.audit_core.specs.declared.report.Report.{Report as ReportOf}
-use Rattle.audit_core.specs.declared.report.Report.TheVariants as report
+use Rattle.case_report.specs.declared.report.Breach.{Breach}
+use Rattle.case_report.specs.declared.report.Breach.TheVariants as breach
+use Rattle.case_report.specs.declared.report.Report.{Report as ReportOf}
+use Rattle.case_report.specs.declared.report.Report.TheVariants as report
 use Rattle.wire_cut.specs.declared.end.End.{End}
 use Rattle.wire_cut.specs.declared.end.End.TheVariants as end
-use Rattle.wire_logs.specs.declared.wire_line.WireLine.{WireLine}
-use Rattle.wire_logs.specs.declared.wire_line.WireLine.TheVariants as wire
+use Rattle.case_report.specs.declared.wire_line.WireLine.{WireLine}
+use Rattle.case_report.specs.declared.wire_line.WireLine.TheVariants as wire
 use Rattle.report_lines.specs.declared.join_text.JoinLine.{JoinLine}
 use Rattle.report_lines.specs.declared.join_text.JoinLine.TheVariants as join
 use Rattle.report_lines.specs.declared.answer.Answer.{Answer}

@@ -7,5 +7,5 @@ abbrev pub is_letter : ℕ → Bool
 is_letter c = nat_le 32 c && nat_lt c 127 && not ((c == 38) || (c == 60))
 
 -- it isn't empty, and has such characters alone, so no end of a line
-abbrev pub IsLine : List ℕ → Type 0
-IsLine text = (nat_lt 0 (length text) && list_all is_letter text) ≡ true
+abbrev pub IsPrintedLine : List ℕ → Type 0
+IsPrintedLine text = (nat_lt 0 (length text) && list_all is_letter text) ≡ true

@@ -9,17 +9,16 @@ use crate::join_text::{JoinLine, join_status, put_join};
 use crate::report_text::{put_no_order, put_report, report_status};
 use crate::shown::Shown;
 use crate::wire_text::{put_wire, wire_status};
-use audit_core::Report;
+use case_report::{Report, WireLine};
 use merge_order::Order;
 use rpc_view::RpcMessage;
 use std::fmt;
 use std::fmt::{Display, Formatter};
 use vat_log::{Salvaged, SpelledLog};
 use vat_rules::SlimFinding;
-use wire_logs::WireLine;
 
 /// What is answered to an input. It is shown as its line (docs/FORMATS.md), without the line's end.
-#[derive(Debug, Drop)]
+#[derive(Drop)]
 pub enum Answer {
     /// What the audit of a vat's log found.
     Finding(SlimFinding),

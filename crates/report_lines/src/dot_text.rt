@@ -11,7 +11,7 @@ use std::fmt;
 use std::fmt::{Display, Formatter};
 
 /// A line that bounds a graph in the DOT language, to be shown without the line's end.
-#[derive(Clone, Copy, Debug)]
+#[derive(Clone, Copy)]
 pub enum DotBound {
     /// The first line.
     Head,
@@ -59,7 +59,7 @@ impl Display for Owner<'_> {
 }
 
 /// An edge of a run, to be shown as its line in the DOT language, without the line's end.
-#[derive(Clone, Copy, Debug)]
+#[derive(Clone, Copy)]
 pub struct DotEdge<'a>(pub &'a Edge);
 
 impl Display for DotEdge<'_> {

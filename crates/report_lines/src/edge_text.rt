@@ -33,7 +33,7 @@ impl Display for Shown<&Cap> {
 }
 
 /// An edge of a run, to be shown as its line (docs/FORMATS.md), without the line's end.
-#[derive(Clone, Copy, Debug)]
+#[derive(Clone, Copy)]
 pub struct ShownEdge<'a>(pub &'a Edge);
 
 impl Display for ShownEdge<'_> {

@@ -8,7 +8,7 @@ use std::fmt;
 use std::fmt::Formatter;
 
 /// What is answered of logs whose connections are joined.
-#[derive(Clone, Copy, Debug, PartialEq, Eq)]
+#[derive(Clone, Copy, PartialEq, Eq)]
 pub enum JoinLine {
     /// Each end of a connection has its other end.
     Joined {

@@ -189,7 +189,7 @@ impl Display for Shown<&Body> {
 }
 
 /// A record of a log, to be shown as its line (docs/FORMATS.md), without the line's end.
-#[derive(Debug, Drop)]
+#[derive(Drop)]
 pub struct NumberedRecord<'a> {
     /// The record's number in its log, counted from 0.
     pub at: usize,

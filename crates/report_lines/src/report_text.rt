@@ -5,7 +5,7 @@ ghost use Rattle.std.specs.Fmt.{WritesOnOk};
 ghost use Rattle.report_lines.specs.Lines.{breach_code, no_order_text, report_status, report_text};
 
 use crate::finding_text::{code_of, put_broken, put_outside};
-use audit_core::{Breach, Report};
+use case_report::{Breach, Report};
 use std::fmt;
 use std::fmt::{Display, Formatter};
 
@@ -67,7 +67,7 @@ pub fn report_status(report: &Report) -> u8
 }
 
 /// What is answered of a case, to be shown as its line, without the line's end.
-#[derive(Clone, Copy, Debug)]
+#[derive(Clone, Copy)]
 pub struct ShownReport<'a>(pub &'a Report);
 
 impl Display for ShownReport<'_> {

@@ -2,14 +2,14 @@
 //! docs/RULES.md. Contracts know that each is a line, and not what it says.
 
 ghost use Rattle.std.specs.Prelude.{IfSome};
-ghost use Rattle.report_lines.specs.Sentences.{IsLine};
+ghost use Rattle.report_lines.specs.Sentences.{IsPrintedLine};
 
-use audit_core::{Breach, Report};
+use case_report::{Breach, Report};
 use vat_rules::{Rule, Why};
 
 /// What a rule asks.
 pub fn rule_sentence(rule: Rule) -> &'static str
-    ensures { IsLine result.now }
+    ensures { IsPrintedLine result.now }
 {
     match rule {
         Rule::Closed => {
@@ -56,7 +56,7 @@ pub fn rule_sentence(rule: Rule) -> &'static str
 
 /// What that asks which a record breaks.
 fn breach_sentence(breach: Breach) -> &'static str
-    ensures { IsLine result.now }
+    ensures { IsPrintedLine result.now }
 {
     match breach {
         Breach::Rule(rule) => rule_sentence(rule),
@@ -67,7 +67,7 @@ fn breach_sentence(breach: Breach) -> &'static str
 
 /// Why a record isn't judged.
 pub fn why_sentence(why: Why) -> &'static str
-    ensures { IsLine result.now }
+    ensures { IsPrintedLine result.now }
 {
     match why {
         Why::Level => "its message is part of a level of the protocol above 1",
@@ -80,7 +80,7 @@ pub fn why_sentence(why: Why) -> &'static str
 
 /// What the no or the outside of a case stands on.
 pub fn report_sentence(report: &Report) -> Option<&'static str>
-    ensures { IfSome result (λ sentence. IsLine sentence.now) }
+    ensures { IfSome result (λ sentence. IsPrintedLine sentence.now) }
 {
     match report {
         Report::Vat { rule, .. } => Some(breach_sentence(*rule)),

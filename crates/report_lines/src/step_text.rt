@@ -121,7 +121,7 @@ impl Display for Shown<Option<Name>> {
 }
 
 /// A step of a run, to be shown as its line (docs/FORMATS.md), without the line's end.
-#[derive(Clone, Copy, Debug)]
+#[derive(Clone, Copy)]
 pub struct NumberedStep<'a> {
     /// The step's number in its run, counted from 0.
     pub at: usize,

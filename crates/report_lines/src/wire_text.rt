@@ -6,9 +6,10 @@ ghost use Rattle.report_lines.specs.Lines.{end_name, wire_status, wire_text};
 
 use crate::finding_text::word_of;
 use crate::report_text::breach_code;
+use case_report::WireLine;
 use std::fmt;
 use std::fmt::Formatter;
-use wire_logs::{End, WireLine};
+use wire_cut::End;
 
 /// The name of an end of a connection: that of its file.
 pub fn end_name(end: End) -> &'static str

@@ -11,9 +11,10 @@
 //! notes out. With `--json` in these places each line is a JSON object, and the last one has the notes. `vataudit --version` prints the version,
 //! and the kit by which the program was proved, if packaging/proved built it.
 //!
-//! It stands on `command_line`, which reads the words, and on `command_run`, which runs the command that they spell
-//! and says in its specs/Runs.antt what a run prints. Here are the files: those that are read are a `Source` of
-//! `case_files`, which remembers what it read where notes are wanted (file.rt), and what is made is written to a new one (new_file.rt; with names, named_file.rt), or to a new folder (new_folder.rt).
+//! It stands on `command_line`, which reads the words, on `command_run`, which runs the command that they spell
+//! and says in its specs/Runs.antt what a run prints, and on `told_runs`, which runs it with notes, with names or with JSON. The files that are read, and those that are
+//! made, are those of `host_files`. Here are the words that belong to no command (manner.rt), the schemas that they name, and the
+//! line that tells of progress.
 #![tactic(auto)]
 
 ghost use Rattle.std.specs.Prelude.{◌≡◌, ◌≢◌, ◌⊎◌};
@@ -21,34 +22,23 @@ ghost use Rattle.clap.specs.Words.{kind_of};
 ghost use Rattle.command_line.specs.Spelled.{HasWorkers};
 ghost use Rattle.report_lines.specs.Faults.{fault_status};
 
-mod file;
-mod folder_reader;
-mod host;
-mod made;
 mod manner;
-mod named_file;
-mod new_file;
-mod new_folder;
 mod progress;
 mod proved_by;
 mod schemas;
 mod watched;
 
+use cause_notes::SearchingSource;
 use clap::error::ErrorKind;
 use command_line::{Command, command_of};
-use command_run::{
-    FAILED, JsonOutput, NotedSource, SearchingSource, Telling, ToldLines, Unwatched, Watch,
-    run_as_json, run_as_json_with_notes, run_on, run_telling, run_with_notes,
-};
-use file::{Folder, RememberingFolder};
-use host::LogHost;
+use command_run::{FAILED, Unwatched, Watch, run_on};
+use host_files::{Folder, LogHost, Made, RememberingFolder};
 use json_lines::OUT_OF_MEMORY;
-use made::Made;
 use manner::{Manner, take_manner};
 use progress::RunProgress;
 use proved_by::ProgramVersion;
 use report_lines::Fault;
-use schema_names::Names;
+use schema_names::SchemaNames;
 use schemas::{SchemaFault, names_of, say_bad_schema};
 use std::alloc::{AllocError, Global};
 use std::io::{IsTerminal, Write};
@@ -58,6 +48,10 @@ use std::sync::Wait;
 use std::thread::Threads;
 use std::time::Clock;
 use std::{env, fs, io, thread};
+use told_runs::{
+    JsonOutput, NotedSource, Telling, ToldLines, run_as_json, run_as_json_with_notes, run_telling,
+    run_with_notes,
+};
 use watched::{CountedSource, WipingWriter};
 
 /// Prints that memory ran out, as a line or as an object, and gives the exit status: that of a failed write where the line can't be written.
@@ -323,7 +317,7 @@ fn run_named<
 >(
     rt: &R,
     manner: &Manner,
-    names: Option<&Names>,
+    names: Option<&SchemaNames>,
     command: &Command<'_>,
     out: &mut W,
     notes: N,
@@ -346,7 +340,7 @@ fn run_named<
 }
 
 /// The names, where a schema is asked for.
-fn asked_names<'a>(manner: &Manner, names: &'a Names) -> Option<&'a Names> {
+fn asked_names<'a>(manner: &Manner, names: &'a SchemaNames) -> Option<&'a SchemaNames> {
     if manner.schemas.is_empty() {
         return None;
     }

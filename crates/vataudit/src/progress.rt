@@ -45,7 +45,7 @@ impl Count {
 
 /// What became of the line.
 #[derive(Drop)]
-struct Line {
+struct LineState {
     is_shown: bool,
     is_over: bool,
 }
@@ -59,7 +59,7 @@ pub struct RunProgress {
     links: Count,
     audited: Count,
     compared: Count,
-    line: Mutex<Line>,
+    line: Mutex<LineState>,
     parker: Parker,
 }
 
@@ -111,7 +111,7 @@ impl RunProgress {
             links: Count::new(),
             audited: Count::new(),
             compared: Count::new(),
-            line: Mutex::new(Line {
+            line: Mutex::new(LineState {
                 is_shown: false,
                 is_over: false,
             }),

@@ -1,11 +1,10 @@
 //! The schemas whose names are printed.
 
-use crate::file::Folder;
-use crate::host::LogHost;
 use crate::manner::Manner;
 use case_files::{Source, SourceError};
+use host_files::{Folder, LogHost};
 use json_lines::bad_schema_object;
-use schema_names::{Limits, Names, SchemaError, read_names};
+use schema_names::{Limits, SchemaError, SchemaNames, read_names};
 use std::alloc::{AllocError, Global};
 
 /// Why a schema isn't read.
@@ -51,7 +50,7 @@ fn add_names<R: LogHost>(
     alloc: Global,
     folder: &mut Folder<'_, R>,
     file: &str,
-    names: &mut Names,
+    names: &mut SchemaNames,
 ) -> Result<(), SchemaFault> {
     let bytes = folder.read(file)?;
     let more = read_names(alloc, bytes, Limits::default())?;
@@ -63,10 +62,10 @@ fn add_names<R: LogHost>(
 pub fn names_of<'a, R: LogHost>(
     rt: &R,
     files: &'a [String],
-) -> Result<Names, (&'a str, SchemaFault)> {
+) -> Result<SchemaNames, (&'a str, SchemaFault)> {
     let alloc = rt.alloc();
     let mut folder = Folder::new(rt);
-    let mut names = Names::none(alloc);
+    let mut names = SchemaNames::none(alloc);
     for file in files {
         if let Err(fault) = add_names(alloc, &mut folder, file.as_str(), &mut names) {
             return Err((file.as_str(), fault));

@@ -4,7 +4,7 @@ use crate::progress::RunProgress;
 use byte_pieces::{PieceFault, Pieces};
 use bytes::Bytes;
 use case_files::{RememberingSource, Source, SourceError};
-use command_run::SearchingSource;
+use cause_notes::SearchingSource;
 use std::alloc::{AllocError, Global};
 use std::io;
 use std::io::{Eprint, Write};

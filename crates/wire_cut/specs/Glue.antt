@@ -9,12 +9,12 @@ use Rattle.wire_cut.specs.declared.cut.CutFault.TheVariants as fault
 use Rattle.wire_cut.specs.Frames.{StopsAt}
 
 -- a frame that is cut off, and what is left behind it; or what no whole frame begins
-abbrev pub IsNext : List ℕ → List ℕ → Next → Type 0
-IsNext old new (next.Whole frame) = (old ≡ frame ++ new) × IsOneFrame (segments_of frame) × (length new < length old)
-IsNext old new next.Cut = (new ≡ old) × (first_len_of old ≡ Err Short)
-IsNext old new next.TooMany = (new ≡ old) × (first_len_of old ≡ Err TooManySegments)
+abbrev pub IsNextFrame : List ℕ → List ℕ → Next → Type 0
+IsNextFrame old new (next.Whole frame) = (old ≡ frame ++ new) × IsOneFrame (segments_of frame) × (length new < length old)
+IsNextFrame old new next.Cut = (new ≡ old) × (first_len_of old ≡ Err Short)
+IsNextFrame old new next.TooMany = (new ≡ old) × (first_len_of old ≡ Err TooManySegments)
 
 -- why a file isn't cut, but for running out of memory
-abbrev pub IsFault : List ℕ → CutFault → Type 0
-IsFault bytes (fault.TooManySegments count) = StopsAt bytes count
-IsFault bytes fault.OutOfMemory = Unit {0}
+abbrev pub IsCutFault : List ℕ → CutFault → Type 0
+IsCutFault bytes (fault.TooManySegments count) = StopsAt bytes count
+IsCutFault bytes fault.OutOfMemory = Unit {0}

@@ -3,7 +3,7 @@
 ghost use Rattle.std.specs.Prelude.{◌≡◌, IfOk, IfErr};
 ghost use Rattle.wire_cut.specs.Frames.{AreFrames};
 ghost use Rattle.wire_cut.specs.declared.cut.CutFault.TheVariants.{OutOfMemory};
-ghost use Rattle.wire_cut.specs.Glue.{IsNext, IsFault};
+ghost use Rattle.wire_cut.specs.Glue.{IsNextFrame, IsCutFault};
 
 use bytes::Bytes;
 use cap_frame::{Frame, FrameError};
@@ -57,7 +57,7 @@ enum Next {
 
 /// Cuts off the frame that stands first, if a whole one does.
 fn cut_next(rest: &mut Bytes) -> Result<Next, AllocError>
-    ensures { IfOk result (IsNext rest.old rest.new) }
+    ensures { IfOk result (IsNextFrame rest.old rest.new) }
 {
     match Frame::first_len(rest.as_slice()) {
         Ok(len) => Ok(Next::Whole(rest.split_to(len)?)),
@@ -76,7 +76,7 @@ fn cut_next(rest: &mut Bytes) -> Result<Next, AllocError>
 /// `TooManySegments` with the number of the first frame that can't begin where it stands; or out of memory.
 pub fn cut_frames(alloc: Global, bytes: &Bytes) -> Result<WireFile, CutFault>
     ensures ok { IfOk result (λ file. AreFrames bytes.now file.frames.items file.left) }
-    ensures err { IfErr result (IsFault bytes.now) }
+    ensures err { IfErr result (IsCutFault bytes.now) }
 {
     let mut frames = Vec::new(alloc);
     let mut rest = bytes.slice(0..bytes.len())?;

@@ -1,4 +1,5 @@
-//! The frames that the ends of one connection sent, cut out of the bytes that were captured.
+//! The two ends of one connection, the frames that they sent, cut out of the bytes that were captured, and what a message may
+//! lack before it is sent.
 //!
 //! It stands on `cap_frame`, which says how long the frame is that stands first, and on `bytes`, from which frames are cut
 //! without copying.
@@ -6,6 +7,8 @@
 
 mod cut;
 mod end;
+mod lack;
 
 pub use cut::{CutFault, WireFile, cut_frames};
 pub use end::End;
+pub use lack::{Lack, Waiting};

@@ -3,13 +3,13 @@ use Rattle.std.proofs.Common.{◌≡◌, ℕ, List, Option, Some, None, subst, i
 use Rattle.std.specs.Prelude.{MatchOption}
 use Rattle.std.specs.Arc.{arc_value}
 use Rattle.vat_log.specs.Log.{Log}
-use Rattle.audit_core.specs.declared.report.Report.{Report}
-use Rattle.audit_core.specs.declared.report.Report.TheVariants as report
+use Rattle.case_report.specs.declared.report.Report.{Report}
+use Rattle.case_report.specs.declared.report.Report.TheVariants as report
 use Rattle.audit_core.specs.Headline.{YesMeansHeadline}
-use Rattle.wire_logs.specs.declared.wire_answer.WireAnswer.{WireAnswer}
-use Rattle.wire_logs.specs.declared.wire_answer.WireLogs.{WireLogs}
-use Rattle.wire_logs.specs.declared.wire_line.WireLine.{WireLine}
-use Rattle.wire_logs.specs.declared.wire_line.WireLine.TheVariants as line
+use Rattle.case_report.specs.declared.wire_answer.WireAnswer.{WireAnswer}
+use Rattle.case_report.specs.declared.wire_answer.WireLogs.{WireLogs}
+use Rattle.case_report.specs.declared.wire_line.WireLine.{WireLine}
+use Rattle.case_report.specs.declared.wire_line.WireLine.TheVariants as line
 use Rattle.wire_logs.specs.Lines.{IsLine, IsUnexplained, IsNoOrder}
 use Rattle.wire_logs.specs.Found.{IsAnswer, IsFoundOf, IsWithoutLogs, HasRun}
 

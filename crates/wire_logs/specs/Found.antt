@@ -9,14 +9,14 @@ use Rattle.case_book.specs.Case.{Contents, HoldsJust}
 use Rattle.case_book.specs.declared.link.Link.{Link}
 use Rattle.audit_core.specs.Headline.{IsHeadline, YesMeansHeadline}
 use Rattle.audit_core.specs.Report.{IsReport}
-use Rattle.audit_core.specs.declared.report.Report.{Report}
+use Rattle.case_report.specs.declared.report.Report.{Report}
 use Rattle.wire_cut.specs.Frames.{AreFrames, StopsAt}
 use Rattle.wire_cut.specs.declared.end.End.TheVariants.{A, B}
 use Rattle.wire_steps.specs.Parts.{connection, HasParts, HasAll}
 use Rattle.wire_logs.specs.Lines.{IsLine}
-use Rattle.wire_logs.specs.declared.wire_answer.WireAnswer.{WireAnswer}
-use Rattle.wire_logs.specs.declared.wire_line.WireLine.{WireLine}
-use Rattle.wire_logs.specs.declared.wire_line.WireLine.TheVariants as line
+use Rattle.case_report.specs.declared.wire_answer.WireAnswer.{WireAnswer}
+use Rattle.case_report.specs.declared.wire_line.WireLine.{WireLine}
+use Rattle.case_report.specs.declared.wire_line.WireLine.TheVariants as line
 
 -- the link between vat 1 and vat 2
 abbrev pub link : Link

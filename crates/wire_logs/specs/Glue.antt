@@ -5,14 +5,14 @@ use Rattle.vat_log.specs.Log.{Log}
 use Rattle.case_book.specs.Case.{Contents, HoldsJust}
 use Rattle.audit_core.specs.Headline.{YesMeansHeadline}
 use Rattle.audit_core.specs.Report.{IsReport}
-use Rattle.audit_core.specs.declared.report.Report.{Report}
+use Rattle.case_report.specs.declared.report.Report.{Report}
 use Rattle.wire_cut.specs.Frames.{AreFrames, StopsAt}
 use Rattle.wire_cut.specs.declared.cut.WireFile.{WireFile}
 use Rattle.wire_cut.specs.declared.end.End.{End}
 use Rattle.wire_logs.specs.Found.{IsFound, link}
-use Rattle.wire_logs.specs.declared.wire_answer.WireAnswer.{WireAnswer}
-use Rattle.wire_logs.specs.declared.wire_line.WireLine.{WireLine}
-use Rattle.wire_logs.specs.declared.wire_line.WireLine.TheVariants as line
+use Rattle.case_report.specs.declared.wire_answer.WireAnswer.{WireAnswer}
+use Rattle.case_report.specs.declared.wire_line.WireLine.{WireLine}
+use Rattle.case_report.specs.declared.wire_line.WireLine.TheVariants as line
 
 -- a report is the audit's of a case with just these two logs and their link
 pub record IsAudited (one two : Log) (report : Report) : Type 0 where

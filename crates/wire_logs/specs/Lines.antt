@@ -3,14 +3,14 @@ use Rattle.std.specs.Prelude.{◌≡◌, ◌⊎◌, ℕ, ◌-◌, ◌==◌, ⊤,
 use Rattle.std.specs.List.{filter_map}
 use Rattle.vat_log.specs.Log.{Log}
 use Rattle.vat_log.specs.Passages.{frame_sent, frame_received}
-use Rattle.audit_core.specs.declared.report.Report.{Report}
-use Rattle.audit_core.specs.declared.report.Report.TheVariants as report
+use Rattle.case_report.specs.declared.report.Report.{Report}
+use Rattle.case_report.specs.declared.report.Report.TheVariants as report
 use Rattle.wire_cut.specs.declared.end.End.{End}
 use Rattle.wire_cut.specs.declared.end.End.TheVariants.{A, B}
 use Rattle.wire_cut.specs.Ends.{other_end}
 use Rattle.wire_steps.specs.Parts.{connection, HasAll}
-use Rattle.wire_logs.specs.declared.wire_line.WireLine.{WireLine}
-use Rattle.wire_logs.specs.declared.wire_line.WireLine.TheVariants as line
+use Rattle.case_report.specs.declared.wire_line.WireLine.{WireLine}
+use Rattle.case_report.specs.declared.wire_line.WireLine.TheVariants as line
 
 -- how many frames the records before this number send, and how many they receive
 abbrev pub sent_before : Log → ℕ → ℕ
@@ -21,18 +21,18 @@ received_before log at = length (filter_map (frame_received connection) (take at
 
 -- The message that a record of an end's log names: the frame of that end that it sends, or the frame of the other end that it
 -- receives; of a record between frames the one that was received last before it, or the next one that is sent where none was.
-abbrev pub message_in : Option (List ℕ) → Option (List ℕ) → End → (sent received : ℕ) → End × ℕ
-message_in (Some frame) came end sent received = (end, sent)
-message_in None (Some frame) end sent received = (other_end end, received)
-message_in None None end sent received = if received == 0 then (end, sent) else (other_end end, received - 1)
+abbrev pub message_by_passage : Option (List ℕ) → Option (List ℕ) → End → (sent received : ℕ) → End × ℕ
+message_by_passage (Some frame) came end sent received = (end, sent)
+message_by_passage None (Some frame) end sent received = (other_end end, received)
+message_by_passage None None end sent received = if received == 0 then (end, sent) else (other_end end, received - 1)
 
-abbrev pub message_named : Log → End → ℕ → End × ℕ
-message_named log end at =
-    message_in (option_and_then (frame_sent connection) (slice_get log.records at)) (option_and_then (frame_received connection) (slice_get log.records at)) end (sent_before log at) (received_before log at)
+abbrev pub message_by_record : Log → End → ℕ → End × ℕ
+message_by_record log end at =
+    message_by_passage (option_and_then (frame_sent connection) (slice_get log.records at)) (option_and_then (frame_received connection) (slice_get log.records at)) end (sent_before log at) (received_before log at)
 
 -- the same, by the number of the vat: the first end's log, or else the second's
 abbrev pub named_in : (one two : Log) → (vat at : ℕ) → End × ℕ
-named_in one two vat at = if vat == one.vat then message_named one A at else message_named two B at
+named_in one two vat at = if vat == one.vat then message_by_record one A at else message_by_record two B at
 
 -- the explanation stops at some message
 abbrev pub IsUnexplained : WireLine → Type 0

@@ -7,11 +7,10 @@ ghost use Rattle.wire_logs.specs.Found.{IsAnswer, link};
 ghost use Rattle.wire_logs.specs.Glue.{IsAudited, IsCutOr, IsFoundIn};
 
 use crate::line_of::line_of;
-use crate::wire_answer::{WireAnswer, WireLogs};
-use crate::wire_line::WireLine;
-use audit_core::{Gate, Report, audit};
+use audit_core::{Gate, audit};
 use bytes::Bytes;
 use case_book::{Case, Link};
+use case_report::{Report, WireAnswer, WireLine, WireLogs};
 use std::alloc::{AllocError, Global};
 use std::sync::{Arc, Wait};
 use std::thread::Threads;

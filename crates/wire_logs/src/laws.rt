@@ -2,8 +2,8 @@
 
 ghost use Rattle.std.specs.Prelude.{◌≡◌, List, ℕ};
 ghost use Rattle.wire_logs.specs.Found.{IsAnswer, HasRun};
-ghost use Rattle.wire_logs.specs.declared.wire_answer.WireAnswer.{WireAnswer};
-ghost use Rattle.wire_logs.specs.declared.wire_line.WireLine.TheVariants.{Yes};
+ghost use Rattle.case_report.specs.declared.wire_answer.WireAnswer.{WireAnswer};
+ghost use Rattle.case_report.specs.declared.wire_line.WireLine.TheVariants.{Yes};
 
 /// Where the answer is a yes, there are two logs, an order that fits them and a run that have all that a yes of the audit means,
 /// and in which the one end sends just the whole frames of the first file, in order and byte for byte, and the other end receives

@@ -4,12 +4,6 @@
 mod explain;
 mod laws;
 mod line_of;
-mod wire_answer;
-mod wire_line;
 
 pub use explain::explain_wire;
 pub use laws::a_wire_that_is_explained_has_a_run;
-pub use wire_answer::{WireAnswer, WireLogs};
-pub use wire_cut::End;
-pub use wire_ends::{Lack, Waiting};
-pub use wire_line::WireLine;

@@ -5,11 +5,10 @@ ghost use Rattle.std.specs.Arc.{arc_value};
 ghost use Rattle.std.specs.Option.{option_copied};
 ghost use Rattle.vat_log.specs.Passages.{frame_sent, frame_received};
 ghost use Rattle.wire_ends.specs.Made.{AreLogs};
-ghost use Rattle.wire_logs.specs.Lines.{IsLine, IsUnexplained, message_named, named_in, received_before, sent_before};
+ghost use Rattle.wire_logs.specs.Lines.{IsLine, IsUnexplained, message_by_record, named_in, received_before, sent_before};
 
-use crate::wire_line::WireLine;
-use audit_core::Report;
 use bytes::Bytes;
+use case_report::{Report, WireLine};
 use vat_log::VatLog;
 use wire_cut::End;
 use wire_ends::{Blame, MadeLogs};
@@ -69,7 +68,7 @@ fn count_received(log: &VatLog, at: usize) -> u64
 /// The message that a record of an end's log names: a frame that is sent or received, or else the one that was received last
 /// before it.
 fn message_of(log: &VatLog, end: End, at: u64) -> (End, u64)
-    ensures { result ≡ message_named log.now end at }
+    ensures { result ≡ message_by_record log.now end at }
 {
     let at = at as usize;
     let sent = count_sent(log, at);

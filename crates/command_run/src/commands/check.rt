@@ -2,18 +2,18 @@
 
 ghost use Rattle.std.specs.Prelude.{◌≡◌, ◌≤◌};
 ghost use Rattle.command_run.specs.CommandAnswers.{AnswersReportOf};
-ghost use Rattle.command_run.specs.Glue.{ComesChecked, Prints};
+ghost use Rattle.command_run.specs.Glue.{ComesAsLine, Prints};
 ghost use Rattle.command_run.specs.ReportAnswers.{AnswersReport};
 ghost use Rattle.command_run.specs.Runs.{Wrote};
 
 use crate::answering::say;
+use crate::hearing::Hears;
 use crate::host::Host;
 use crate::output::Output;
 use crate::watch::Watch;
-use audit_core::Report;
 use case_files::Source;
+use case_report::Report;
 use case_streams::check_files;
-use cause_notes::Heard;
 use report_lines::{Answer, Fault};
 use std::thread::Threads;
 
@@ -23,16 +23,16 @@ use std::thread::Threads;
 /// # Errors
 ///
 /// The case's first fault, or out of memory.
-fn case_line<R: Threads + Sync, G: Watch, S: Source>(
+fn case_line<R: Threads + Sync, G: Watch, S: Source, H: Hears>(
     host: &Host<'_, R, G>,
     name: &str,
     workers: u32,
     source: &mut S,
-    heard: &mut Heard,
+    heard: &mut H,
 ) -> Result<Report, Fault>
     requires some { 1 ≤ workers }
     requires few { workers ≤ 64 }
-    ensures { ComesChecked S.read_gives source.old name.now result source.new }
+    ensures { ComesAsLine S.read_gives source.old name.now result source.new }
 {
     let line = check_files(host.rt, host.alloc, source, name, workers)?;
     heard.hear_case();
@@ -44,12 +44,12 @@ fn case_line<R: Threads + Sync, G: Watch, S: Source>(
 /// # Errors
 ///
 /// That of a write; nothing is written after it.
-pub fn say_report<R: Threads + Sync, G: Watch, S: Source, O: Output>(
+pub fn say_report<R: Threads + Sync, G: Watch, S: Source, O: Output, H: Hears>(
     host: &Host<'_, R, G>,
     name: &str,
     workers: u32,
     source: &mut S,
-    heard: &mut Heard,
+    heard: &mut H,
     out: &mut O,
 ) -> Result<u8, O::Error>
     requires some { 1 ≤ workers }

@@ -11,10 +11,10 @@ ghost use Rattle.command_run.specs.FrameFiles.{piece_len, piece_line, piece_stat
 use crate::answering::{put, say};
 use crate::commands::hex_frame::answer_of_bytes;
 use crate::commands::next_frame::cut_piece;
+use crate::hearing::Hears;
 use crate::output::Output;
 use bytes::Bytes;
 use case_files::Source;
-use cause_notes::Heard;
 use report_lines::{Answer, Fault};
 use rpc_view::Edition;
 use std::alloc::{AllocError, Global};
@@ -33,10 +33,10 @@ fn next_answer(alloc: Global, bytes: &mut Bytes) -> Result<Answer, AllocError>
 }
 
 /// Says the answer to each frame of a file.
-fn say_bytes<O: Output>(
+fn say_bytes<O: Output, H: Hears>(
     alloc: Global,
     bytes: Bytes,
-    heard: &mut Heard,
+    heard: &mut H,
     out: &mut O,
 ) -> Result<u8, O::Error>
     requires { O.can_write out.old }
@@ -60,11 +60,11 @@ fn say_bytes<O: Output>(
 /// # Errors
 ///
 /// That of a write; nothing is written after it.
-pub fn say_frames<S: Source, O: Output>(
+pub fn say_frames<S: Source, O: Output, H: Hears>(
     alloc: Global,
     name: &str,
     source: &mut S,
-    heard: &mut Heard,
+    heard: &mut H,
     out: &mut O,
 ) -> Result<u8, O::Error>
     requires { O.can_write out.old }

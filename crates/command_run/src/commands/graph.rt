@@ -1,21 +1,21 @@
 //! The edges of a run, line by line, or as a graph in the DOT language.
 
-ghost use Rattle.std.specs.Prelude.{◌⊎◌, OnOk};
+ghost use Rattle.std.specs.Prelude.{◌≤◌, ◌⊎◌, OnOk};
 ghost use Rattle.command_run.specs.CommandAnswers.{AnswersReportOf, IsOutOfMemory};
 ghost use Rattle.command_run.specs.Glue.{Prints};
 ghost use Rattle.command_run.specs.ReportAnswers.{AnswersGraph, ShowsEdges, dot_edge_lines, dot_lines, edge_lines, graph_lines};
 ghost use Rattle.command_run.specs.Runs.{Adds, Wrote};
 
 use crate::answering::say;
-use crate::commands::case_report::case_report;
+use crate::commands::judged_case::case_report;
+use crate::hearing::Hears;
 use crate::host::Host;
 use crate::output::Output;
 use crate::watch::Watch;
-use audit_core::Report;
 use authority::{Graph, graph};
 use case_files::Source;
-use cause_notes::Heard;
-use report_lines::{Answer, DotBound, DotEdge, Fault, ShownEdge};
+use case_report::Report;
+use report_lines::{Answer, DotBound, DotEdge, Fault, ShownEdge, ShownLine};
 use run_model::Run;
 use std::alloc::Global;
 use std::sync::Wait;
@@ -28,7 +28,7 @@ fn put_edges<O: Output>(graph: &Graph, out: &mut O) -> Result<(), O::Error>
     ensures more { OnOk result (O.can_write out.new) }
 {
     for edge in graph.edges() {
-        out.write_line(&ShownEdge(edge))?;
+        out.write_line(ShownLine::Edge(ShownEdge(edge)))?;
     }
     Ok(())
 }
@@ -40,7 +40,7 @@ fn put_dot_edges<O: Output>(graph: &Graph, out: &mut O) -> Result<(), O::Error>
     ensures more { OnOk result (O.can_write out.new) }
 {
     for edge in graph.edges() {
-        out.write_line(&DotEdge(edge))?;
+        out.write_line(ShownLine::DotEdge(DotEdge(edge)))?;
     }
     Ok(())
 }
@@ -51,9 +51,9 @@ fn put_dot<O: Output>(graph: &Graph, out: &mut O) -> Result<(), O::Error>
     ensures lines { OnOk result (Adds O.contents out.old (dot_lines graph.now) out.new) }
     ensures more { OnOk result (O.can_write out.new) }
 {
-    out.write_line(&DotBound::Head)?;
+    out.write_line(ShownLine::DotBound(DotBound::Head))?;
     put_dot_edges(graph, out)?;
-    out.write_line(&DotBound::End)?;
+    out.write_line(ShownLine::DotBound(DotBound::End))?;
     Ok(())
 }
 
@@ -71,11 +71,11 @@ fn put_graph<O: Output>(graph: &Graph, dot: bool, out: &mut O) -> Result<(), O::
 }
 
 /// Says the edges of a run, or that memory ran out.
-fn say_edges<O: Output>(
+fn say_edges<O: Output, H: Hears>(
     alloc: Global,
     run: &Run,
     dot: bool,
-    heard: &mut Heard,
+    heard: &mut H,
     out: &mut O,
 ) -> Result<u8, O::Error>
     requires { O.can_write out.old }
@@ -90,25 +90,28 @@ fn say_edges<O: Output>(
     Ok(0)
 }
 
-/// Audits the case that a source has under a name, and says which vat came to have which capability of another, where the
+/// Audits the case that a source has under a name, by so many workers, and says which vat came to have which capability of another, where the
 /// report is yes, a line each, or in the DOT language where that is asked for; else it says the report.
 ///
 /// # Errors
 ///
 /// That of a write; nothing is written after it.
-pub fn say_graph<R: Threads + Wait + Sync, G: Watch + Sync, S: Source, O: Output>(
+pub fn say_graph<R: Threads + Wait + Sync, G: Watch + Sync, S: Source, O: Output, H: Hears>(
     host: &Host<'_, R, G>,
     name: &str,
+    workers: u32,
     dot: bool,
     source: &mut S,
-    heard: &mut Heard,
+    heard: &mut H,
     out: &mut O,
 ) -> Result<u8, O::Error>
-    requires { O.can_write out.old }
+    requires some { 1 ≤ workers }
+    requires few { workers ≤ 64 }
+    requires out { O.can_write out.old }
     ensures { Prints (AnswersReportOf (AnswersGraph dot) S.read_gives source.old name.now source.new)
         (Wrote O.contents O.is_finished) out.old out.new result }
 {
-    let report = match case_report(host, name, 1, source, heard) {
+    let report = match case_report(host, name, workers, source, heard) {
         Ok(report) => report,
         Err(fault) => return say(Answer::Fault(fault), heard, out),
     };

@@ -10,9 +10,9 @@ ghost use Rattle.command_run.specs.Glue.{Prints};
 ghost use Rattle.command_run.specs.Runs.{Wrote};
 
 use crate::answering::say;
+use crate::hearing::Hears;
 use crate::output::Output;
 use bytes::Bytes;
-use cause_notes::Heard;
 use hex::FromHexError;
 use report_lines::{Answer, Fault};
 use rpc_view::{Edition, Limits, ViewError, read_bytes};
@@ -66,11 +66,11 @@ fn edition_asked(later: bool) -> Edition
 /// # Errors
 ///
 /// That of a write; nothing is written after it.
-pub fn say_frame<O: Output>(
+pub fn say_frame<O: Output, H: Hears>(
     alloc: Global,
     hex: &str,
     later: bool,
-    heard: &mut Heard,
+    heard: &mut H,
     out: &mut O,
 ) -> Result<u8, O::Error>
     requires { O.can_write out.old }

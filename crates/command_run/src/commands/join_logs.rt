@@ -9,15 +9,16 @@ ghost use Rattle.command_run.specs.Glue.{IsFilesOf, joined_bytes};
 ghost use Rattle.command_run.specs.JoinAnswers.{AnswersJoin, AnswersLogsOf, AnswersPairs, AreLinks, ArePaths, IsLinkOf};
 ghost use Rattle.command_run.specs.Runs.{Adds, Saves, Writes, Wrote};
 
-use crate::answering::{save_part, say};
+use crate::answering::{save_part, say_behind};
+use crate::hearing::Hears;
 use crate::output::{Failed, Output};
 use bytes::Bytes;
 use case_book::{CaseError, Link, MAX_LINKS, MAX_VATS};
 use case_files::{Source, file_names, read_log_list, written_case};
-use cause_notes::{Heard, JoinNote, NotedEnd};
-use log_ends::{EndPair, Joining, LogEnd, alike_ends, join_ends, renumbered_logs, vat_of};
+use log_ends::{EndPair, Joining, alike_ends, join_ends, renumbered_logs, vat_of};
 use report_lines::{Answer, Fault, JoinLine};
 use std::alloc::{AllocError, Global};
+use std::mem;
 use vat_log::VatLog;
 
 /// What is written to a folder: a file for each log, and the case file.
@@ -54,14 +55,6 @@ fn line_answer(line: JoinLine) -> JoinAnswer
     JoinAnswer {
         answer: Answer::Join(line),
         folder: None,
-    }
-}
-
-/// An end, as people are told of it.
-fn noted(end: LogEnd) -> NotedEnd {
-    NotedEnd {
-        log: end.log,
-        connection: end.connection,
     }
 }
 
@@ -135,16 +128,16 @@ fn is_pair(pairs: &[EndPair], alike: EndPair) -> bool {
     pairs.iter().any(|pair| *pair == alike)
 }
 
-/// Keeps for people that two ends were alike, where there are such that aren't those of one connection.
-fn keep_alike(
+/// Has it heard that two ends were alike, where there are such that aren't those of one connection.
+fn keep_alike<H: Hears>(
     alloc: Global,
     logs: &[VatLog],
     pairs: &[EndPair],
-    heard: &mut Heard,
+    heard: &mut H,
 ) -> Result<(), AllocError> {
     match alike_ends(alloc, logs)? {
         Some(alike) if !is_pair(pairs, alike) => {
-            heard.keep_join(JoinNote::Alike(noted(alike.first), noted(alike.second)));
+            heard.hear_alike(alike.first, alike.second);
         }
         _ => {}
     }
@@ -152,13 +145,13 @@ fn keep_alike(
 }
 
 /// The answer to logs each of whose connections has both its ends.
-fn joined_answer(
+fn joined_answer<H: Hears>(
     alloc: Global,
     folder: &str,
     names: &[&str],
     logs: &[VatLog],
     pairs: &[EndPair],
-    heard: &mut Heard,
+    heard: &mut H,
 ) -> Result<JoinAnswer, AllocError>
     requires joined { IsJoined logs.now pairs.now }
     requires few { length logs.now ≤ 1024 }
@@ -182,12 +175,12 @@ fn joined_answer(
 }
 
 /// The answer to logs that are read.
-fn answer_of_logs(
+fn answer_of_logs<H: Hears>(
     alloc: Global,
     folder: &str,
     names: &[&str],
     logs: &[VatLog],
-    heard: &mut Heard,
+    heard: &mut H,
 ) -> Result<JoinAnswer, AllocError>
     ensures { IfOk result
         (λ made. AnswersLogsOf folder.now (map (λ name. name.now) names.now)
@@ -200,14 +193,14 @@ fn answer_of_logs(
     Ok(match join_ends(alloc, logs)? {
         Joining::Joined(pairs) => joined_answer(alloc, folder, names, logs, &pairs, heard)?,
         Joining::Unmatched(end) => {
-            heard.keep_join(JoinNote::Unmatched(noted(end)));
+            heard.hear_unmatched(end);
             line_answer(JoinLine::Unmatched {
                 connection: end.connection,
                 vat: vat_of(logs, end.log),
             })
         }
         Joining::Ambiguous(end) => {
-            heard.keep_join(JoinNote::Ambiguous(noted(end)));
+            heard.hear_ambiguous(end);
             line_answer(JoinLine::Ambiguous {
                 connection: end.connection,
                 vat: vat_of(logs, end.log),
@@ -217,12 +210,12 @@ fn answer_of_logs(
 }
 
 /// The answer to the logs that a source has under these names.
-fn join_answer<S: Source>(
+fn join_answer<S: Source, H: Hears>(
     alloc: Global,
     folder: &str,
     names: &[&str],
     source: &mut S,
-    heard: &mut Heard,
+    heard: &mut H,
 ) -> JoinAnswer
     ensures { AnswersJoin S.read_gives source.old (map (λ name. name.now) names.now)
         folder.now (line (answer_text result.answer)) (answer_status result.answer)
@@ -270,12 +263,12 @@ fn save_folder<F: Output>(folder: &Option<JoinedFolder>, file: &mut F) -> Result
 /// # Errors
 ///
 /// That of a write; nothing is written after it.
-pub fn say_join<S: Source, O: Output, F: Output>(
+pub fn say_join<S: Source, O: Output, F: Output, H: Hears>(
     alloc: Global,
     folder: &str,
     names: &[&str],
     source: &mut S,
-    heard: &mut Heard,
+    heard: &mut H,
     out: &mut O,
     file: &mut F,
 ) -> Result<u8, Failed<O::Error, F::Error>>
@@ -286,11 +279,8 @@ pub fn say_join<S: Source, O: Output, F: Output>(
         (Wrote F.contents F.is_finished) out.old out.new file.old file.new result }
 {
     let made = join_answer(alloc, folder, names, source, heard);
-    if let Err(fault) = save_folder(&made.folder, file) {
-        return Err(Failed::File(fault));
-    }
-    match say(made.answer, heard, out) {
-        Ok(status) => Ok(status),
-        Err(fault) => Err(Failed::Out(fault)),
-    }
+    let saved = save_folder(&made.folder, file);
+    let said = say_behind(saved, &made.answer, heard, out);
+    mem::forget(made);
+    said
 }

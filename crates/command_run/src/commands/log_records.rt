@@ -6,17 +6,17 @@ ghost use Rattle.report_lines.specs.Lines.{line};
 ghost use Rattle.report_lines.specs.RecordText.{record_text};
 ghost use Rattle.vat_log.specs.Runs.{BeginsWith};
 ghost use Rattle.command_run.specs.CommandAnswers.{AnswersLogRecords};
-ghost use Rattle.command_run.specs.Glue.{EndsSo, Lists, Prints, is_chosen, status_behind, text_behind};
+ghost use Rattle.command_run.specs.Glue.{ListingEndsSo, Lists, Prints, is_chosen, status_behind, text_behind};
 ghost use Rattle.command_run.specs.RecordAnswers.{record_line};
 ghost use Rattle.command_run.specs.Runs.{Adds, Wrote};
 
 use crate::answering::say;
 use crate::commands::hex_frame::answer_of_bytes;
+use crate::hearing::Hears;
 use crate::output::Output;
 use byte_pieces::Pieces;
 use case_files::Source;
-use cause_notes::Heard;
-use report_lines::{Answer, Fault, NumberedRecord};
+use report_lines::{Answer, Fault, NumberedRecord, ShownLine};
 use rpc_view::Edition;
 use std::alloc::{AllocError, Global};
 use vat_log::{Body, LogStream, ReadFault, Record};
@@ -73,7 +73,7 @@ fn put_numbered<O: Output>(shown: NumberedRecord<'_>, out: &mut O) -> Result<(),
         (line (record_text shown.entry.at shown.entry.body.now shown.entry.message)) out.new) }
     ensures more { OnOk result (O.can_write out.new) }
 {
-    out.write_line(&shown)
+    out.write_line(ShownLine::Record(&shown))
 }
 
 /// Lists the records that are asked for of a log of which only the header was read, their frames read by the log's edition: to
@@ -120,7 +120,7 @@ fn ended<S: Source>(
     listed: Result<(), ReadFault>,
 ) -> Result<(), Fault>
     ensures { (read : Read) × S.read_gives source.old name.now read source.new
-        × EndsSo read listed (S.Reader.came reader.now) (S.Reader.is_over reader.now) result }
+        × ListingEndsSo read listed (S.Reader.came reader.now) (S.Reader.is_over reader.now) result }
 {
     let cannot_read = matches!(listed, Err(ReadFault::CannotRead));
     source.close(name, reader, cannot_read)?;
@@ -133,9 +133,9 @@ fn ended<S: Source>(
 }
 
 /// Ends the lines of a log: by why it wasn't listed to its end, or by none more.
-fn say_end<O: Output>(
+fn say_end<O: Output, H: Hears>(
     ended: Result<(), Fault>,
-    heard: &mut Heard,
+    heard: &mut H,
     out: &mut O,
 ) -> Result<u8, O::Error>
     requires { O.can_write out.old }
@@ -160,12 +160,12 @@ fn say_end<O: Output>(
 /// # Errors
 ///
 /// That of a write; nothing is written after it.
-pub fn say_records<S: Source, O: Output>(
+pub fn say_records<S: Source, O: Output, H: Hears>(
     alloc: Global,
     name: &str,
     range: RecordRange,
     source: &mut S,
-    heard: &mut Heard,
+    heard: &mut H,
     out: &mut O,
 ) -> Result<u8, O::Error>
     requires { O.can_write out.old }

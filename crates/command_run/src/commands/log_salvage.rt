@@ -8,9 +8,9 @@ ghost use Rattle.command_run.specs.Glue.{Salvages};
 ghost use Rattle.command_run.specs.Runs.{Writes, Wrote};
 
 use crate::answering::{FileAnswer, say_made};
+use crate::hearing::Hears;
 use crate::output::{Failed, Output};
 use case_files::Source;
-use cause_notes::Heard;
 use report_lines::{Answer, Fault};
 use std::alloc::Global;
 use vat_log::salvage_log;
@@ -47,11 +47,11 @@ fn salvage_answer<S: Source>(alloc: Global, source: &mut S, name: &str) -> FileA
 /// # Errors
 ///
 /// That of a write; nothing is written after it.
-pub fn say_salvaged<S: Source, O: Output, F: Output>(
+pub fn say_salvaged<S: Source, O: Output, F: Output, H: Hears>(
     alloc: Global,
     name: &str,
     source: &mut S,
-    heard: &mut Heard,
+    heard: &mut H,
     out: &mut O,
     file: &mut F,
 ) -> Result<u8, Failed<O::Error, F::Error>>

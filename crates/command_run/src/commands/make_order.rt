@@ -7,10 +7,10 @@ ghost use Rattle.command_run.specs.OrderAnswers.{AnswersLogs};
 ghost use Rattle.command_run.specs.Runs.{Writes, Wrote};
 
 use crate::answering::{FileAnswer, say_made};
+use crate::hearing::Hears;
 use crate::output::{Failed, Output};
 use case_book::Case;
 use case_files::{Source, read_case};
-use cause_notes::Heard;
 use merge_order::{make_order, write_order};
 use report_lines::{Answer, Fault};
 use std::alloc::{AllocError, Global};
@@ -55,11 +55,11 @@ fn order_answer<S: Source>(alloc: Global, source: &mut S, name: &str) -> FileAns
 /// # Errors
 ///
 /// That of a write; nothing is written after it.
-pub fn say_order<S: Source, O: Output, F: Output>(
+pub fn say_order<S: Source, O: Output, F: Output, H: Hears>(
     alloc: Global,
     name: &str,
     source: &mut S,
-    heard: &mut Heard,
+    heard: &mut H,
     out: &mut O,
     file: &mut F,
 ) -> Result<u8, Failed<O::Error, F::Error>>

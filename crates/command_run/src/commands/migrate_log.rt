@@ -7,14 +7,14 @@ ghost use Rattle.case_files.specs.CaseReading.{Read};
 ghost use Rattle.report_lines.specs.Lines.{answer_status, answer_text, line};
 ghost use Rattle.command_run.specs.CommandAnswers.{AnswersMigration};
 ghost use Rattle.command_run.specs.Glue.{Migrates};
-ghost use Rattle.command_run.specs.MigrationAnswers.{made_of};
+ghost use Rattle.command_run.specs.MigrationAnswers.{migrated_log};
 ghost use Rattle.command_run.specs.Runs.{Writes, Wrote};
 
 use crate::answering::{FileAnswer, say_made};
+use crate::hearing::Hears;
 use crate::output::{Failed, Output};
 use bytes::Bytes;
 use case_files::Source;
-use cause_notes::Heard;
 use report_lines::{Answer, Fault};
 use std::alloc::Global;
 use vat_log::{LogError, SpelledLog, migrate_bytes, raise_bytes};
@@ -22,7 +22,7 @@ use vat_log::{LogError, SpelledLog, migrate_bytes, raise_bytes};
 /// The log that is made of the one that these bytes spell: of version 3 where the later edition is asked for, or else one
 /// that is judged alike.
 fn made_of(alloc: Global, bytes: Bytes, later: bool) -> Result<SpelledLog, LogError>
-    ensures made { IfOk result (λ made. (log : Log) × (log_of bytes ≡ Ok log) × (made ≡ made_of later log)) }
+    ensures made { IfOk result (λ made. (log : Log) × (log_of bytes ≡ Ok log) × (made ≡ migrated_log later log)) }
     ensures err { IfErr result (λ e. Fails e (log_of bytes)) }
 {
     if later {
@@ -70,12 +70,12 @@ fn migration_answer<S: Source>(alloc: Global, source: &mut S, name: &str, later:
 /// # Errors
 ///
 /// That of a write; nothing is written after it.
-pub fn say_migrated<S: Source, O: Output, F: Output>(
+pub fn say_migrated<S: Source, O: Output, F: Output, H: Hears>(
     alloc: Global,
     name: &str,
     later: bool,
     source: &mut S,
-    heard: &mut Heard,
+    heard: &mut H,
     out: &mut O,
     file: &mut F,
 ) -> Result<u8, Failed<O::Error, F::Error>>

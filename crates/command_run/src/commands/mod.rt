@@ -1,13 +1,13 @@
 //! The commands, one a file, with what they ask of their source and what they say. `graph`, `run` and `draw` have the report of
-//! a case in common (case_report.rt), of which `check` has the line alone.
+//! a case in common (judged_case.rt), of which `check` has the line alone.
 
-pub(crate) mod case_report;
 pub(crate) mod check;
 pub(crate) mod draw_case;
 pub(crate) mod frame_list;
 pub(crate) mod graph;
 pub(crate) mod hex_frame;
 pub(crate) mod join_logs;
+pub(crate) mod judged_case;
 pub(crate) mod log_records;
 pub(crate) mod log_salvage;
 pub(crate) mod make_order;

@@ -1,6 +1,6 @@
 //! The steps of a run, line by line.
 
-ghost use Rattle.std.specs.Prelude.{◌≡◌, ◌⊎◌, OnOk};
+ghost use Rattle.std.specs.Prelude.{◌≡◌, ◌≤◌, ◌⊎◌, OnOk};
 ghost use Rattle.authority.specs.Records.{record_numbers_of};
 ghost use Rattle.command_run.specs.CommandAnswers.{AnswersReportOf, IsOutOfMemory};
 ghost use Rattle.command_run.specs.Glue.{Prints};
@@ -8,15 +8,15 @@ ghost use Rattle.command_run.specs.ReportAnswers.{AnswersRun, ShowsSteps, step_l
 ghost use Rattle.command_run.specs.Runs.{Adds, Wrote};
 
 use crate::answering::say;
-use crate::commands::case_report::case_report;
+use crate::commands::judged_case::case_report;
+use crate::hearing::Hears;
 use crate::host::Host;
 use crate::output::Output;
 use crate::watch::Watch;
-use audit_core::Report;
 use authority::record_numbers;
 use case_files::Source;
-use cause_notes::Heard;
-use report_lines::{Answer, Fault, NumberedStep};
+use case_report::Report;
+use report_lines::{Answer, Fault, NumberedStep, ShownLine};
 use run_model::Run;
 use std::alloc::Global;
 use std::sync::Wait;
@@ -35,16 +35,16 @@ fn put_steps<O: Output>(run: &Run, numbers: &[u64], out: &mut O) -> Result<(), O
             record: numbers[at],
             step,
         };
-        out.write_line(&shown)?;
+        out.write_line(ShownLine::Step(shown))?;
     }
     Ok(())
 }
 
 /// Says the steps of a run, or that memory ran out.
-fn say_steps<O: Output>(
+fn say_steps<O: Output, H: Hears>(
     alloc: Global,
     run: &Run,
-    heard: &mut Heard,
+    heard: &mut H,
     out: &mut O,
 ) -> Result<u8, O::Error>
     requires { O.can_write out.old }
@@ -59,24 +59,27 @@ fn say_steps<O: Output>(
     Ok(0)
 }
 
-/// Audits the case that a source has under a name, and says the steps of its run, where the report is yes, a line each;
+/// Audits the case that a source has under a name, by so many workers, and says the steps of its run, where the report is yes, a line each;
 /// else it says the report.
 ///
 /// # Errors
 ///
 /// That of a write; nothing is written after it.
-pub fn say_run<R: Threads + Wait + Sync, G: Watch + Sync, S: Source, O: Output>(
+pub fn say_run<R: Threads + Wait + Sync, G: Watch + Sync, S: Source, O: Output, H: Hears>(
     host: &Host<'_, R, G>,
     name: &str,
+    workers: u32,
     source: &mut S,
-    heard: &mut Heard,
+    heard: &mut H,
     out: &mut O,
 ) -> Result<u8, O::Error>
-    requires { O.can_write out.old }
+    requires some { 1 ≤ workers }
+    requires few { workers ≤ 64 }
+    requires out { O.can_write out.old }
     ensures { Prints (AnswersReportOf AnswersRun S.read_gives source.old name.now source.new)
         (Wrote O.contents O.is_finished) out.old out.new result }
 {
-    let report = match case_report(host, name, 1, source, heard) {
+    let report = match case_report(host, name, workers, source, heard) {
         Ok(report) => report,
         Err(fault) => return say(Answer::Fault(fault), heard, out),
     };

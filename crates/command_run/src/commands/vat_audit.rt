@@ -7,9 +7,9 @@ ghost use Rattle.command_run.specs.Glue.{IsAudited, Prints, answer_of};
 ghost use Rattle.command_run.specs.Runs.{Wrote};
 
 use crate::answering::say;
+use crate::hearing::Hears;
 use crate::output::Output;
 use case_files::Source;
-use cause_notes::Heard;
 use log_lane::audit_stream;
 use report_lines::{Answer, Fault};
 use std::alloc::Global;
@@ -58,11 +58,11 @@ fn finding<S: Source>(alloc: Global, source: &mut S, name: &str) -> Result<SlimF
 /// # Errors
 ///
 /// That of a write; nothing is written after it.
-pub fn say_vat<S: Source, O: Output>(
+pub fn say_vat<S: Source, O: Output, H: Hears>(
     alloc: Global,
     name: &str,
     source: &mut S,
-    heard: &mut Heard,
+    heard: &mut H,
     out: &mut O,
 ) -> Result<u8, O::Error>
     requires { O.can_write out.old }

@@ -7,19 +7,20 @@ ghost use Rattle.command_run.specs.Glue.{folder_bytes};
 ghost use Rattle.command_run.specs.Runs.{Saves, Writes, Wrote};
 ghost use Rattle.command_run.specs.WireAnswers.{AnswersCapture, AnswersWire, AreWritten, ReadsBoth};
 
-use crate::answering::{save_part, say};
+use crate::answering::{save_part, say_behind};
+use crate::hearing::Hears;
 use crate::host::Host;
 use crate::output::{Failed, Output};
 use crate::watch::Watch;
 use bytes::Bytes;
 use case_files::{Source, SourceError, link_case};
-use cause_notes::Heard;
+use case_report::WireLogs;
 use report_lines::{Answer, Fault};
 use std::alloc::{AllocError, Global};
 use std::mem;
 use std::sync::Wait;
 use std::thread::Threads;
-use wire_logs::{WireLogs, explain_wire};
+use wire_logs::explain_wire;
 
 /// What is asked of a connection.
 #[derive(Clone, Copy)]
@@ -96,11 +97,11 @@ fn asked_folder(
 }
 
 /// What is found of a connection. It is heard, too, for what people are told beside it.
-fn found_of<R: Threads + Wait + Sync, G: Watch + Sync>(
+fn found_of<R: Threads + Wait + Sync, G: Watch + Sync, H: Hears>(
     host: &Host<'_, R, G>,
     capture: &Capture,
     folder: Option<&str>,
-    heard: &mut Heard,
+    heard: &mut H,
 ) -> Result<ConnectionAnswer, AllocError>
     ensures { IfOk result
         (λ made. AnswersCapture (option_map (λ n. n.now) folder.entry) (Ok capture.now)
@@ -108,7 +109,7 @@ fn found_of<R: Threads + Wait + Sync, G: Watch + Sync>(
 {
     host.watch.begins(2, 1);
     let found = explain_wire(host.rt, host.alloc, &capture.a, &capture.b, host.watch)?;
-    heard.keep_wire(&found);
+    heard.hear_wire(&found);
     let folder = asked_folder(host.alloc, folder, &found.logs)?;
     let answer = Answer::Wire(found.line);
     mem::forget(found);
@@ -127,11 +128,11 @@ fn fault_answer(fault: Fault) -> ConnectionAnswer
 }
 
 /// The answer to what both ends of a connection sent.
-fn capture_answer<R: Threads + Wait + Sync, G: Watch + Sync>(
+fn capture_answer<R: Threads + Wait + Sync, G: Watch + Sync, H: Hears>(
     host: &Host<'_, R, G>,
     capture: &Capture,
     folder: Option<&str>,
-    heard: &mut Heard,
+    heard: &mut H,
 ) -> ConnectionAnswer
     ensures { AnswersCapture (option_map (λ n. n.now) folder.entry) (Ok capture.now)
         (line (answer_text result.answer)) (answer_status result.answer)
@@ -144,11 +145,11 @@ fn capture_answer<R: Threads + Wait + Sync, G: Watch + Sync>(
 }
 
 /// The answer to the files that a source has under two names.
-fn wire_answer<R: Threads + Wait + Sync, G: Watch + Sync, S: Source>(
+fn wire_answer<R: Threads + Wait + Sync, G: Watch + Sync, S: Source, H: Hears>(
     host: &Host<'_, R, G>,
     asked: &AskedWire<'_>,
     source: &mut S,
-    heard: &mut Heard,
+    heard: &mut H,
 ) -> ConnectionAnswer
     ensures { AnswersWire S.read_gives source.old asked.now.a.now asked.now.b.now
         (option_map (λ n. n.now) asked.now.folder) (line (answer_text result.answer))
@@ -181,11 +182,18 @@ fn save_folder<F: Output>(folder: &Option<WireFolder>, file: &mut F) -> Result<(
 /// # Errors
 ///
 /// That of a write; nothing is written after it.
-pub fn say_wire<R: Threads + Wait + Sync, G: Watch + Sync, S: Source, O: Output, F: Output>(
+pub fn say_wire<
+    R: Threads + Wait + Sync,
+    G: Watch + Sync,
+    S: Source,
+    O: Output,
+    F: Output,
+    H: Hears,
+>(
     host: &Host<'_, R, G>,
     asked: &AskedWire<'_>,
     source: &mut S,
-    heard: &mut Heard,
+    heard: &mut H,
     out: &mut O,
     file: &mut F,
 ) -> Result<u8, Failed<O::Error, F::Error>>
@@ -195,12 +203,9 @@ pub fn say_wire<R: Threads + Wait + Sync, G: Watch + Sync, S: Source, O: Output,
         (option_map (λ name. name.now) asked.now.folder) text status bytes source.new) (Wrote O.contents O.is_finished)
         (Wrote F.contents F.is_finished) out.old out.new file.old file.new result }
 {
-    let ConnectionAnswer { answer, folder } = wire_answer(host, asked, source, heard);
-    if let Err(fault) = save_folder(&folder, file) {
-        return Err(Failed::File(fault));
-    }
-    match say(answer, heard, out) {
-        Ok(status) => Ok(status),
-        Err(fault) => Err(Failed::Out(fault)),
-    }
+    let made = wire_answer(host, asked, source, heard);
+    let saved = save_folder(&made.folder, file);
+    let said = say_behind(saved, &made.answer, heard, out);
+    mem::forget(made);
+    said
 }

@@ -4,8 +4,8 @@ ghost use Rattle.std.specs.Prelude.{◌≡◌, ◌≤◌, find, length, map, IfO
 ghost use Rattle.std.specs.Arc.{arc_value};
 ghost use Rattle.std.specs.Option.{option_copied, option_map};
 ghost use Rattle.case_book.specs.Case.{vat_limit};
-ghost use Rattle.picture.specs.Flow.{flow_of, records_in};
-ghost use Rattle.picture.specs.Glue.Seats.{after, next_seat, seat_goes_on, seat_goes_to_receive, seat_receives, seats_of, turn_of};
+ghost use Rattle.picture.specs.Flow.{flow_of, record_count};
+ghost use Rattle.picture.specs.Glue.Seats.{seats_after, next_seat, seat_goes_on, seat_goes_to_receive, seat_receives, seats_of, turn_of_seat};
 
 use crate::order::seat::Seat;
 use case_book::{Case, Link};
@@ -39,7 +39,7 @@ fn seats_of(alloc: Global, logs: &[Arc<VatLog>]) -> Result<Vec<Seat>, AllocError
 /// How many records there are.
 fn records_in(logs: &[Arc<VatLog>]) -> usize
     requires { length logs.now ≤ vat_limit }
-    ensures { result ≡ records_in (map arc_value logs.now) }
+    ensures { result ≡ record_count (map arc_value logs.now) }
 {
     let mut records = 0;
     for log in logs {
@@ -100,7 +100,7 @@ fn next_seat(seats: &[Seat]) -> Option<&Seat>
 
 /// The turn that is taken next, if one may be.
 fn next_turn(seats: &[Seat], links: &[Link]) -> Option<VatTurn>
-    ensures { result ≡ option_map (turn_of links.now) (next_seat seats.now) }
+    ensures { result ≡ option_map (turn_of_seat links.now) (next_seat seats.now) }
 {
     match next_seat(seats) {
         Some(seat) => Some(seat.turn(links)),
@@ -110,7 +110,7 @@ fn next_turn(seats: &[Seat], links: &[Link]) -> Option<VatTurn>
 
 /// Each vat follows a turn.
 fn follow(seats: &mut [Seat], turn: VatTurn) -> Result<(), AllocError>
-    ensures { OnOk result (seats.new ≡ after turn seats.old) }
+    ensures { OnOk result (seats.new ≡ seats_after turn seats.old) }
 {
     for seat in seats.iter_mut() {
         seat.follow(turn)?;
@@ -120,7 +120,7 @@ fn follow(seats: &mut [Seat], turn: VatTurn) -> Result<(), AllocError>
 
 /// All vats after a turn.
 fn followed(seats: Vec<Seat>, turn: VatTurn) -> Result<Vec<Seat>, AllocError>
-    ensures { IfOk result (λ later. later.items ≡ after turn seats.items) }
+    ensures { IfOk result (λ later. later.items ≡ seats_after turn seats.items) }
 {
     let mut seats = seats;
     follow(&mut seats, turn)?;

@@ -1,10 +1,10 @@
 //! Where records stand in an order of them all.
 
 ghost use Rattle.std.specs.Prelude.{◌≡◌, ◌≤◌, count_by, slice_get};
-ghost use Rattle.picture.specs.Places.{is_vat, passes_in, record_number, step_of};
+ghost use Rattle.picture.specs.Places.{is_vat, passes_in, record_number, step_of_place};
 ghost use Rattle.picture.specs.Rows.{place_at};
 
-use crate::place::Place;
+use crate::record_place::Place;
 
 /// Whether a step of an order is this vat's.
 pub fn is_step_of(order: &[u32], step: usize, vat: u32) -> bool
@@ -45,7 +45,7 @@ pub fn steps_of(order: &[u32], vat: u32) -> usize
 
 /// The step of an order at which a record comes.
 pub fn step_of(order: &[u32], place: Place) -> Option<usize>
-    ensures { result ≡ step_of order.now place }
+    ensures { result ≡ step_of_place order.now place }
 {
     let mut left = place.number;
     for step in 0..order.len() {

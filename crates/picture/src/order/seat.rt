@@ -3,11 +3,11 @@
 ghost use Rattle.std.specs.Prelude.{◌≡◌, ◌<◌, IfSome, OnOk, length, nat_lt, option_and_then};
 ghost use Rattle.vat_log.specs.Passages.{passage_of};
 ghost use Rattle.picture.specs.Flow.{may_pass, takes_frame};
-ghost use Rattle.picture.specs.Glue.Seats.{first_on, further, heard, is_coming, next_of, received_in, seat_goes_on, sent_in, taken};
+ghost use Rattle.picture.specs.Glue.Seats.{first_on, next_position, heard, is_coming, next_of_seat, received_in, seat_goes_on, frame_addressee, taken};
 
-use crate::logs::body_in;
 use crate::order::flow::VatTurn;
 use crate::passing::mate::other_end;
+use crate::vat_logs::body_in;
 use case_book::Link;
 use std::alloc::{AllocError, Global};
 use std::marker::Model;
@@ -77,7 +77,7 @@ fn received_in(passage: Option<(bool, u32)>) -> Option<u32>
 
 /// The vat to which this one sends a frame, and on which connection.
 fn sent_in(links: &[Link], vat: u32, passage: Option<(bool, u32)>) -> Option<(u32, u32)>
-    ensures { result ≡ sent_in links.now vat passage }
+    ensures { result ≡ frame_addressee links.now vat passage }
 {
     match passage {
         Some((true, connection)) => match other_end(links, connection, vat) {
@@ -90,7 +90,7 @@ fn sent_in(links: &[Link], vat: u32, passage: Option<(bool, u32)>) -> Option<(u3
 
 /// One record further, if one is left.
 fn further(came: usize, records: usize) -> usize
-    ensures { result ≡ further came records }
+    ensures { result ≡ next_position came records }
 {
     if came < records { came + 1 } else { came }
 }
@@ -132,7 +132,7 @@ fn hear_frame(coming: &mut Vec<u32>, vat: u32, sent: Option<(u32, u32)>) -> Resu
 impl Seat {
     ghost use Rattle.std.specs.Prelude.{IfOk};
     ghost use Rattle.std.specs.Arc.{arc_value};
-    ghost use Rattle.picture.specs.Glue.Seats.{followed, gone_on, hearing, seat_goes_to_receive, seat_of, seat_receives, turn_of};
+    ghost use Rattle.picture.specs.Glue.Seats.{followed, gone_on, hearing, seat_goes_to_receive, seat_of, seat_receives, turn_of_seat};
 
     /// Before the first record.
     pub fn new(alloc: Global, log: &Arc<VatLog>) -> Result<Seat, AllocError>
@@ -147,7 +147,7 @@ impl Seat {
 
     /// Whether the next record sends or receives a frame, and on which connection.
     fn passage(&self) -> Option<(bool, u32)>
-        ensures { result ≡ option_and_then passage_of (next_of self.now) }
+        ensures { result ≡ option_and_then passage_of (next_of_seat self.now) }
     {
         match body_in(&self.log, self.came) {
             Some(body) => body.passage(),
@@ -181,7 +181,7 @@ impl Seat {
 
     /// The turn that the vat takes with its next record.
     pub fn turn(&self, links: &[Link]) -> VatTurn
-        ensures { result ≡ turn_of links.now self.now }
+        ensures { result ≡ turn_of_seat links.now self.now }
     {
         let vat = self.log.vat();
         let passage = self.passage();

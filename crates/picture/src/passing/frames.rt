@@ -1,11 +1,11 @@
 //! The frames that pass on a connection.
 
 ghost use Rattle.std.specs.Prelude.{◌≡◌, slice_get};
-ghost use Rattle.picture.specs.Places.{frame_at, frames_before, passes_in, place_of_nth};
+ghost use Rattle.picture.specs.Places.{place_of_frame, frames_before, passes_in, place_of_nth};
 ghost use Rattle.vat_log.specs.Passages.{passes};
 
-use crate::logs::body_in;
-use crate::place::Place;
+use crate::record_place::Place;
+use crate::vat_logs::body_in;
 use vat_log::VatLog;
 
 /// Whether the record of this number of a log sends, or receives, a frame on a connection.
@@ -49,7 +49,7 @@ fn frame_number(log: &VatLog, frame: usize, sent: bool, connection: u32) -> Opti
 
 /// The record of a log by which the frame of this number is sent, or received, on a connection.
 pub fn frame_at(log: &VatLog, frame: usize, sent: bool, connection: u32) -> Option<Place>
-    ensures { result ≡ frame_at sent connection frame log.now }
+    ensures { result ≡ place_of_frame sent connection frame log.now }
 {
     match frame_number(log, frame, sent, connection) {
         Some(number) => Some(Place {

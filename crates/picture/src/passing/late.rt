@@ -3,13 +3,13 @@
 ghost use Rattle.std.specs.Prelude.{◌≡◌, IfOk, map, take, slice_get};
 ghost use Rattle.std.specs.Arc.{arc_value};
 ghost use Rattle.vat_rules.specs.Audit.{edition_of};
-ghost use Rattle.picture.specs.Places.{is_late, is_released, turn_by, turn_of};
+ghost use Rattle.picture.specs.Places.{is_late_return, is_given_back, question_turn_by, question_turn_of};
 ghost use Rattle.picture.specs.Rows.{late_at, late_in, late_number};
 ghost use Rattle.picture.specs.Glue.{turn_in};
 
-use crate::logs::{body_in, log_of};
-use crate::passing::messages::message_of;
-use crate::place::Place;
+use crate::passing::record_messages::message_of;
+use crate::record_place::Place;
+use crate::vat_logs::{body_in, log_of};
 use rpc_view::{Edition, RpcMessage};
 use std::alloc::{AllocError, Global};
 use std::sync::Arc;
@@ -18,7 +18,7 @@ use vat_rules::edition_of;
 
 /// A question as a vat's log has it.
 #[derive(Clone, Copy)]
-struct Question {
+struct LoggedQuestion {
     /// Whether the vat asks it: its Call was sent, and not received.
     asks: bool,
     /// Its connection.
@@ -29,7 +29,7 @@ struct Question {
 
 /// What a message does to a question: it opens it (false), or finishes it and gives its results back (true).
 fn turn_of(message: &RpcMessage, question: u32) -> Option<bool>
-    ensures { result ≡ turn_of question message.now }
+    ensures { result ≡ question_turn_of question message.now }
 {
     match message {
         RpcMessage::Bootstrap { question: opened }
@@ -62,10 +62,10 @@ fn turn_by(
     alloc: Global,
     body: &Body,
     edition: Edition,
-    question: Question,
+    question: LoggedQuestion,
 ) -> Result<Option<bool>, AllocError>
     ensures { IfOk result (λ turn. turn
-        ≡ turn_by edition question.asks question.connection question.number body.now) }
+        ≡ question_turn_by edition question.asks question.connection question.number body.now) }
 {
     if !body.passes(question.asks, question.connection) {
         return Ok(None);
@@ -81,7 +81,7 @@ fn turn_at(
     alloc: Global,
     log: &VatLog,
     number: usize,
-    question: Question,
+    question: LoggedQuestion,
 ) -> Result<Option<bool>, AllocError>
     ensures { IfOk result (λ turn. turn
         ≡ turn_in (edition_of log.now) question.asks question.connection question.number
@@ -99,10 +99,10 @@ fn is_released(
     alloc: Global,
     log: &VatLog,
     number: usize,
-    question: Question,
+    question: LoggedQuestion,
 ) -> Result<bool, AllocError>
     ensures { IfOk result (λ released. released
-        ≡ is_released (edition_of log.now) question.asks question.connection question.number
+        ≡ is_given_back (edition_of log.now) question.asks question.connection question.number
         (take number log.now.records)) }
 {
     let mut at = number;
@@ -126,11 +126,11 @@ pub fn is_late(
     message: &Option<RpcMessage>,
 ) -> Result<bool, AllocError>
     ensures { IfOk result (λ late. late
-        ≡ is_late (edition_of log.now) passage message.now (take number log.now.records)) }
+        ≡ is_late_return (edition_of log.now) passage message.now (take number log.now.records)) }
 {
     match (passage, message) {
         (Some((sent, connection)), Some(RpcMessage::Return { answer, .. })) => {
-            let question = Question {
+            let question = LoggedQuestion {
                 asks: !sent,
                 connection,
                 number: *answer,

@@ -1,12 +1,12 @@
 //! The other end of a message: the record that received what one sent, or that sent what one received.
 
 ghost use Rattle.std.specs.Prelude.{◌≡◌};
-ghost use Rattle.picture.specs.Places.{mate_from, mate_of, other_end, other_end_of};
-ghost use Rattle.picture.specs.Rows.{mate_at, receipt};
+ghost use Rattle.picture.specs.Places.{mate_from, mate_of, vat_at_other_end, other_end_of};
+ghost use Rattle.picture.specs.Rows.{mate_at, receipt_of_frame};
 
-use crate::logs::{body_at, log_of};
 use crate::passing::frames::{frame_at, frames_before};
-use crate::place::Place;
+use crate::record_place::Place;
+use crate::vat_logs::{body_at, log_of};
 use case_book::{Case, Link};
 use vat_log::{Body, VatLog};
 
@@ -25,7 +25,7 @@ fn other_end_of(link: &Link, vat: u32) -> Option<u32>
 
 /// The vat at the other end of a connection.
 pub fn other_end(links: &[Link], connection: u32, vat: u32) -> Option<u32>
-    ensures { result ≡ other_end links.now connection vat }
+    ensures { result ≡ vat_at_other_end links.now connection vat }
 {
     for link in links {
         if link.connection == connection {
@@ -65,7 +65,7 @@ pub fn mate_at(case: &Case, place: Place) -> Option<Place>
 
 /// The record by which a vat received the message of this number on a connection.
 pub fn receipt(case: &Case, connection: u32, vat: u32, message: usize) -> Option<Place>
-    ensures { result ≡ receipt case.now.logs connection vat message }
+    ensures { result ≡ receipt_of_frame case.now.logs connection vat message }
 {
     let log = log_of(case.logs(), vat)?;
     frame_at(log, message, false, connection)

@@ -3,4 +3,4 @@
 mod frames;
 pub(crate) mod late;
 pub(crate) mod mate;
-pub(crate) mod messages;
+pub(crate) mod record_messages;

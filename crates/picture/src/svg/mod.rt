@@ -1,8 +1,9 @@
 //! The text of a picture: an SVG that needs nothing else, with no script and no font of its own.
 
-mod lists;
-mod notes;
+mod captions;
+pub(crate) mod document;
+mod element_lists;
 pub(crate) mod points;
 pub(crate) mod shapes;
 mod style;
-pub(crate) mod whole;
+pub(crate) mod width;

@@ -2,14 +2,14 @@
 
 ghost use Rattle.std.specs.Prelude.{◌≡◌, Some};
 ghost use Rattle.std.specs.Fmt.{WritesOnOk};
-ghost use Rattle.picture.specs.Picture.{arrow_line, arrow_text, band_lines, band_text, column_text, circle_text, line_text, linked_text, mark_word, place_text, row_text, shape_text, stroke_word, tone_word, words_at, words_text, words_y, y_of};
+ghost use Rattle.picture.specs.Picture.{arrow_line, arrow_text, band_lines, band_text, column_text, circle_text, line_text, linked_text, mark_word, row_name_text, row_text, shape_text, stroke_word, tone_word, words_begin_at, words_element, words_y, y_of};
 ghost use Rattle.picture.specs.Labels.{label_text};
 ghost use Rattle.vat_log.specs.Passages.{passage_of};
 
 use crate::arrow::{Arrow, Stroke};
 use crate::columns::Column;
 use crate::label::Label;
-use crate::place::Place;
+use crate::record_place::Place;
 use crate::row::{Row, Tone, label_of};
 use crate::svg::points::{Point, point_at, reach_point, x_of, y_of};
 use rpc_view::RpcMessage;
@@ -55,33 +55,33 @@ fn stroke_word(stroke: Stroke) -> &'static str
 
 /// A line from one point to another.
 #[derive(Clone, Copy)]
-struct Line {
+struct LineSegment {
     from: Point,
     to: Point,
 }
 
-impl Display for Line {
+impl Display for LineSegment {
     ghost output = { λ line. Some (line_text line.from line.to) };
 
     fn fmt<W: fmt::Write>(&self, f: &mut Formatter<W>) -> fmt::Result {
-        let Line { from, to } = self;
+        let LineSegment { from, to } = self;
         write!(f, "M{from}L{to}")
     }
 }
 
 /// The line of an arrow: from its row where that sends, else to its row.
-fn line_of(arrow: &Arrow) -> Line
+fn line_of(arrow: &Arrow) -> LineSegment
     ensures { line_text result.from result.to ≡ arrow_line arrow.now }
 {
     let here = point_at(arrow.column, arrow.line);
     let there = reach_point(arrow.column, arrow.line, arrow.reach);
     if arrow.sent {
-        Line {
+        LineSegment {
             from: here,
             to: there,
         }
     } else {
-        Line {
+        LineSegment {
             from: there,
             to: here,
         }
@@ -182,7 +182,7 @@ struct Words<'a> {
 }
 
 impl Display for Words<'_> {
-    ghost output = { λ it. Some (words_text it.at (label_text it.label.number it.label.body.now it.label.message.now it.label.reason.now)) };
+    ghost output = { λ it. Some (words_element it.at (label_text it.label.number it.label.body.now it.label.message.now it.label.reason.now)) };
 
     fn fmt<W: fmt::Write>(&self, f: &mut Formatter<W>) -> fmt::Result {
         let Words { at, label } = *self;
@@ -193,7 +193,7 @@ impl Display for Words<'_> {
 
 /// Where the words of a row begin.
 fn words_at(row: &Row<'_>) -> Point
-    ensures { result ≡ words_at row.now }
+    ensures { result ≡ words_begin_at row.now }
 {
     Point {
         x: x_of(row.column) + 14,
@@ -228,7 +228,7 @@ impl Display for PlainRow<'_> {
 pub struct RowName(pub Place);
 
 impl Display for RowName {
-    ghost output = { λ name. Some (place_text name.0) };
+    ghost output = { λ name. Some (row_name_text name.0) };
 
     fn fmt<W: fmt::Write>(&self, f: &mut Formatter<W>) -> fmt::Result {
         let Place { vat, number } = self.0;
@@ -252,12 +252,12 @@ impl Display for Linked<'_> {
 
 /// A row, on a page or in a picture alone.
 #[derive(Clone, Copy)]
-pub struct Shape<'a> {
+pub struct RowShape<'a> {
     pub row: &'a Row<'a>,
     pub linked: bool,
 }
 
-impl Display for Shape<'_> {
+impl Display for RowShape<'_> {
     ghost output = { λ shape. Some (shape_text shape.linked shape.row.now) };
 
     fn fmt<W: fmt::Write>(&self, f: &mut Formatter<W>) -> fmt::Result {

@@ -1,7 +1,7 @@
 use Rattle.std.proofs.Common.{◌∙◌, sym}
 use Rattle.clap.specs.Words.{first_value, found_of}
 use Rattle.command_line.proofs.Matched.{besides_of, checked_as, has_subcommand, input_there, is_some_by, matched, number_as, read_as, set_as, spells_one, thing_is}
-use Rattle.command_line.proofs.Named.{checking, drawing, framing, graphing, joining, last_command, listing, migrating, of_frames, of_run, of_vat, ordering, salvaging, wiring}
+use Rattle.command_line.proofs.Named.{checking, drawing, framing, graphing, joining, last_command, listing, migrating, of_frames, of_vat, ordering, running, salvaging, wiring}
 use Rattle.command_line.specs.Parser.{count, dot, html, input, later, most, other, path, start, workers}
 use Rattle.command_line.proofs.command.command_in.Goals as goal
 
@@ -21,6 +21,42 @@ pub workers_of-requires-clause-checked : goal.workers_of-requires-clause-checked
 workers_of-requires-clause-checked c =
     let m = matched c.requires.0 c.args.matches.now c.in-Some.given.now c.in-Some.name.now c.requires.1 c.in-Some.ensures.name c.in-Some.ensures.rows in
     let many = besides_of m checking c.in-check.is in
+    rw (m.each workers ∙ many.1.0) many.1.1
+
+pub workers_of-requires-in-graph-clause-given : goal.workers_of-requires-in-graph-clause-given
+workers_of-requires-in-graph-clause-given c =
+    let m = matched c.requires.0 c.args.matches.now c.in-Some.given.now c.in-Some.name.now c.requires.1 c.in-Some.ensures.name c.in-Some.ensures.rows in
+    let many = (besides_of m graphing c.in-graph.is) in
+    is_some_by (first_value (found_of c.in-Some.given.now) workers) many.0 (m.each workers ∙ many.1.0)
+
+pub workers_of-requires-in-graph-clause-checked : goal.workers_of-requires-in-graph-clause-checked
+workers_of-requires-in-graph-clause-checked c =
+    let m = matched c.requires.0 c.args.matches.now c.in-Some.given.now c.in-Some.name.now c.requires.1 c.in-Some.ensures.name c.in-Some.ensures.rows in
+    let many = (besides_of m graphing c.in-graph.is) in
+    rw (m.each workers ∙ many.1.0) many.1.1
+
+pub workers_of-requires-in-run-clause-given : goal.workers_of-requires-in-run-clause-given
+workers_of-requires-in-run-clause-given c =
+    let m = matched c.requires.0 c.args.matches.now c.in-Some.given.now c.in-Some.name.now c.requires.1 c.in-Some.ensures.name c.in-Some.ensures.rows in
+    let many = (besides_of m running c.in-run.is) in
+    is_some_by (first_value (found_of c.in-Some.given.now) workers) many.0 (m.each workers ∙ many.1.0)
+
+pub workers_of-requires-in-run-clause-checked : goal.workers_of-requires-in-run-clause-checked
+workers_of-requires-in-run-clause-checked c =
+    let m = matched c.requires.0 c.args.matches.now c.in-Some.given.now c.in-Some.name.now c.requires.1 c.in-Some.ensures.name c.in-Some.ensures.rows in
+    let many = (besides_of m running c.in-run.is) in
+    rw (m.each workers ∙ many.1.0) many.1.1
+
+pub workers_of-requires-in-draw-clause-given : goal.workers_of-requires-in-draw-clause-given
+workers_of-requires-in-draw-clause-given c =
+    let m = matched c.requires.0 c.args.matches.now c.in-Some.given.now c.in-Some.name.now c.requires.1 c.in-Some.ensures.name c.in-Some.ensures.rows in
+    let many = (besides_of m drawing c.in-draw.is).1.3 in
+    is_some_by (first_value (found_of c.in-Some.given.now) workers) many.0 (m.each workers ∙ many.1.0)
+
+pub workers_of-requires-in-draw-clause-checked : goal.workers_of-requires-in-draw-clause-checked
+workers_of-requires-in-draw-clause-checked c =
+    let m = matched c.requires.0 c.args.matches.now c.in-Some.given.now c.in-Some.name.now c.requires.1 c.in-Some.ensures.name c.in-Some.ensures.rows in
+    let many = (besides_of m drawing c.in-draw.is).1.3 in
     rw (m.each workers ∙ many.1.0) many.1.1
 
 pub value_of-requires : goal.value_of-requires
@@ -103,6 +139,7 @@ returns-in-draw-clause-spelled c words are =
         number_as m start _ c.number_of.ensures,
         number_as m count _ c.number_of-in-draw.ensures,
         set_as m html _ c.is_set-in-draw.ensures,
+        number_as m workers _ c.workers_of-in-draw.ensures.spelled,
       ),
     )
 
@@ -161,12 +198,12 @@ returns-in-records-clause-spelled c words are =
 pub returns-in-graph-clause-spelled : goal.returns-in-graph-clause-spelled
 returns-in-graph-clause-spelled c words are =
     let m = matched words c.args.matches.now c.in-Some.given.now c.in-Some.name.now are c.in-Some.ensures.name c.in-Some.ensures.rows in
-    (m.rows, (read_as m graphing c.in-graph.is, thing_is m _ c.value_of-input.ensures, set_as m dot _ c.is_set.ensures))
+    (m.rows, (read_as m graphing c.in-graph.is, thing_is m _ c.value_of-input.ensures, set_as m dot _ c.is_set.ensures, number_as m workers _ c.workers_of-in-graph.ensures.spelled))
 
 pub returns-in-run-clause-spelled : goal.returns-in-run-clause-spelled
 returns-in-run-clause-spelled c words are =
     let m = matched words c.args.matches.now c.in-Some.given.now c.in-Some.name.now are c.in-Some.ensures.name c.in-Some.ensures.rows in
-    spells_one m of_run _ c.in-run.is c.value_of-input.ensures
+    (m.rows, (read_as m running c.in-run.is, thing_is m _ c.value_of-input.ensures, number_as m workers _ c.workers_of-in-run.ensures.spelled))
 
 pub returns-in-vat-clause-spelled : goal.returns-in-vat-clause-spelled
 returns-in-vat-clause-spelled c words are =

@@ -3,7 +3,7 @@ use Rattle.clap.specs.Words.{kind_of}
 use Rattle.clap.specs.declared.error.ErrorKind.TheVariants.{OutOfMemory, ValueValidation}
 use Rattle.clap.proofs.TakesLemmas.{passed_up}
 use Rattle.command_line.proofs.Matched.{fails_by_memory, fails_by_value, handed_on, refused_never}
-use Rattle.command_line.proofs.Taken.{refuses_part, refuses_workers, takes_after_dashes, takes_check, takes_draw, takes_draw_page, takes_draw_part, takes_frame_later, takes_graph_dot, takes_join, takes_migrate, takes_migrate_later, takes_one, takes_order, takes_part, takes_records, takes_salvage, takes_wire, takes_wire_out, takes_workers}
+use Rattle.command_line.proofs.Taken.{refuses_part, refuses_workers, takes_after_dashes, takes_check, takes_draw, takes_draw_page, takes_draw_part, takes_draw_workers, takes_frame_later, takes_graph_dot, takes_join, takes_migrate, takes_migrate_later, takes_one, takes_order, takes_part, takes_records, takes_salvage, takes_wire, takes_wire_out, takes_workers}
 use Rattle.command_line.proofs.command.command_of.Goals as goal
 
 pub returns-in_err-command-clause-taken : goal.returns-in_err-command-clause-taken
@@ -22,18 +22,18 @@ returns-in_err-command-clause-taken_check g c first case spelled plain =
     (fails_by_memory (map g.S.AsStr.text c.args.words.now) (first ∷ codes "check" ∷ case ∷ []) c.in_err-command.field-0.0 c.in_err-command.ensures.kinds spelled (takes_check first case plain))
 
 pub returns-in_err-command-clause-taken_workers : goal.returns-in_err-command-clause-taken_workers
-returns-in_err-command-clause-taken_workers g c first case number spelled plain good =
+returns-in_err-command-clause-taken_workers g c first name case number audits spelled plain good =
     passed_up c.from_residual.result c.in_err-command.field-0.0 (λ e. kind_of e ≡ OutOfMemory) c.from_residual.ensures.1
-    (fails_by_memory (map g.S.AsStr.text c.args.words.now) (first ∷ codes "check" ∷ case ∷ codes "--workers" ∷ number ∷ []) c.in_err-command.field-0.0 c.in_err-command.ensures.kinds spelled (takes_workers first case number plain good))
+    (fails_by_memory (map g.S.AsStr.text c.args.words.now) (first ∷ name ∷ case ∷ codes "--workers" ∷ number ∷ []) c.in_err-command.field-0.0 c.in_err-command.ensures.kinds spelled (takes_workers first name case number audits plain good))
 
 pub returns-in_err-command-clause-refused_workers : goal.returns-in_err-command-clause-refused_workers
-returns-in_err-command-clause-refused_workers g c first case number spelled plain unflagged bad =
+returns-in_err-command-clause-refused_workers g c first name case number audits spelled plain unflagged bad =
     handed_on c.from_residual.result c.in_err-command.field-0.0 (λ e. (kind_of e ≡ OutOfMemory) ⊎ (kind_of e ≡ ValueValidation)) c.from_residual.ensures.1
-    (fails_by_value (map g.S.AsStr.text c.args.words.now) (first ∷ codes "check" ∷ case ∷ codes "--workers" ∷ number ∷ []) c.in_err-command.field-0.0 c.in_err-command.ensures.kinds spelled (refuses_workers first case number plain unflagged bad))
+    (fails_by_value (map g.S.AsStr.text c.args.words.now) (first ∷ name ∷ case ∷ codes "--workers" ∷ number ∷ []) c.in_err-command.field-0.0 c.in_err-command.ensures.kinds spelled (refuses_workers first name case number audits plain unflagged bad))
 
 pub returns-clause-refused_workers : goal.returns-clause-refused_workers
-returns-clause-refused_workers g c first case number spelled plain unflagged bad =
-    absurd (refused_never (map g.S.AsStr.text c.args.words.now) (first ∷ codes "check" ∷ case ∷ codes "--workers" ∷ number ∷ []) c.in_ok-command.ensures.kinds spelled (refuses_workers first case number plain unflagged bad))
+returns-clause-refused_workers g c first name case number audits spelled plain unflagged bad =
+    absurd (refused_never (map g.S.AsStr.text c.args.words.now) (first ∷ name ∷ case ∷ codes "--workers" ∷ number ∷ []) c.in_ok-command.ensures.kinds spelled (refuses_workers first name case number audits plain unflagged bad))
 
 pub returns-in_err-command-clause-taken_order : goal.returns-in_err-command-clause-taken_order
 returns-in_err-command-clause-taken_order g c first case out spelled plain unflagged =
@@ -49,6 +49,11 @@ pub returns-in_err-command-clause-taken_draw_part : goal.returns-in_err-command-
 returns-in_err-command-clause-taken_draw_part g c first case out from count spelled plain unflagged good well =
     passed_up c.from_residual.result c.in_err-command.field-0.0 (λ e. kind_of e ≡ OutOfMemory) c.from_residual.ensures.1
     (fails_by_memory (map g.S.AsStr.text c.args.words.now) (first ∷ codes "draw" ∷ case ∷ codes "--out" ∷ out ∷ codes "--from" ∷ from ∷ codes "--count" ∷ count ∷ []) c.in_err-command.field-0.0 c.in_err-command.ensures.kinds spelled (takes_draw_part first case out from count plain unflagged good well))
+
+pub returns-in_err-command-clause-taken_draw_workers : goal.returns-in_err-command-clause-taken_draw_workers
+returns-in_err-command-clause-taken_draw_workers g c first case out number spelled plain unflagged good =
+    passed_up c.from_residual.result c.in_err-command.field-0.0 (λ e. kind_of e ≡ OutOfMemory) c.from_residual.ensures.1
+    (fails_by_memory (map g.S.AsStr.text c.args.words.now) (first ∷ codes "draw" ∷ case ∷ codes "--workers" ∷ number ∷ codes "--out" ∷ out ∷ []) c.in_err-command.field-0.0 c.in_err-command.ensures.kinds spelled (takes_draw_workers first case number out plain unflagged good))
 
 pub returns-in_err-command-clause-taken_draw_page : goal.returns-in_err-command-clause-taken_draw_page
 returns-in_err-command-clause-taken_draw_page g c first case out spelled plain unflagged =

@@ -35,3 +35,6 @@ returns-in-Frames g c =
       lines_written (AnswersFile said.0) (Wrote g.O.Output.contents g.O.Output.is_finished) (Wrote g.F.Output.contents g.F.Output.is_finished) c.args.out.now
           c.say_frames.new.out c.args.file.now c.say_frames.result c.of_lines-in-Frames.result c.of_lines-in-Frames.ensures said.2,
     )
+
+pub returns-in-Draw : goal.returns-in-Draw
+returns-in-Draw g c = rw c.in-Draw.is c.say_drawn.ensures

@@ -12,7 +12,7 @@ picture_bytes-requires g c = (c.in_ok-case.field-0.order, subst (λ (h : Content
 pub fault_of-requires : goal.fault_of-requires
 fault_of-requires g c =
     let came = c.in_ok-case.field-0 in
-    only_memory came.case 1 c.in-Err.error (accepted came.case 1 (omega arith) (omega arith) (tied g.S.Source.read_gives c.args.source.now c.read_case.new.source c.args.name.now came c.in_ok-case.ensures))
+    only_memory came.case c.args.workers c.in-Err.error (accepted came.case c.args.workers c.requires.some c.requires.few (tied g.S.Source.read_gives c.args.source.now c.read_case.new.source c.args.name.now came c.in_ok-case.ensures))
     c.in-Err.ensures.err
 
 pub returns-in-Ok : goal.returns-in-Ok

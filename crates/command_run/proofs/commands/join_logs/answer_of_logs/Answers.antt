@@ -3,7 +3,7 @@ use Rattle.command_run.proofs.commands.join_logs.answer_of_logs.Goals as goal
 use Rattle.command_run.proofs.commands.join_logs.answer_of_logs.Goals.{in-Joined+in_ok-joined_answer-in-Joined, in-Unmatched, in-Ambiguous}
 
 pub returns : goal.returns
-returns c = inr (inl (
+returns g c = inr (inl (
   c.in_ok-pairs.field-0,
   (
     c.in_ok-pairs.ensures,

@@ -1,5 +1,5 @@
 use Rattle.std.proofs.Common.{refl, sym, subst}
-use Rattle.audit_core.specs.declared.report.Report.{Report as ReportOf}
+use Rattle.case_report.specs.declared.report.Report.{Report as ReportOf}
 use Rattle.report_lines.specs.declared.answer.Answer.TheVariants.{Fault, Report}
 use Rattle.report_lines.specs.Lines.{answer_status, answer_text, line}
 use Rattle.command_run.specs.CommandAnswers.{AnswersReportOf}

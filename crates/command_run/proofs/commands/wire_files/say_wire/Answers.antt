@@ -1,21 +1,14 @@
-use Rattle.std.proofs.Common.{sym, subst, option_map}
-use Rattle.report_lines.specs.Lines.{answer_text, line}
+use Rattle.std.proofs.Common.{option_map}
 use Rattle.command_run.specs.Glue.{folder_bytes}
 use Rattle.command_run.specs.WireAnswers.{AnswersWire}
+use Rattle.command_run.proofs.Told.{written_behind}
 use Rattle.command_run.proofs.commands.wire_files.say_wire.Goals as goal
 
-pub returns-in-Ok : goal.returns-in-Ok
-returns-in-Ok g c =
-    let made = c.wire_answer-answer.result in
-    let text = line (answer_text made.answer) in
-    let bytes = folder_bytes made.folder in
-    let asked = c.args.asked.now in (
-      text,
-      (
-        bytes,
-        subst (λ n. AnswersWire g.S.Source.read_gives c.args.source.now asked.a.now asked.b.now (option_map (λ name. name.now) asked.folder) text n bytes c.wire_answer-answer.new.source)
-            (sym c.in-Ok.ensures.status) c.wire_answer-answer.ensures,
-        c.in_default.ensures.saves,
-        c.in-Ok.ensures.line,
-      ),
-    )
+pub returns : goal.returns
+returns g c =
+    let made = c.wire_answer-made.result in
+    let asked = c.args.asked.now in
+    written_behind
+    (λ text status bytes. AnswersWire g.S.Source.read_gives c.args.source.now asked.a.now asked.b.now (option_map (λ name. name.now) asked.folder) text status bytes c.wire_answer-made.new.source)
+    _ _ c.args.out.now c.say_behind-said.new.out c.args.file.now c.save_folder-saved.new.file made.answer (folder_bytes made.folder) c.save_folder-saved.result c.say_behind-said.result
+    c.wire_answer-made.ensures c.save_folder-saved.ensures.saves c.save_folder-saved.ensures.fails c.say_behind-said.ensures

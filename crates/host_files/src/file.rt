@@ -1,0 +1,256 @@
+//! Files and standard input.
+
+ghost use Rattle.std.specs.Prelude.{◌≡◌, ◌<◌, ◌≤◌, [], false, length, IfErr, IfOk, IfSome, OnOk};
+
+use crate::folder_reader::{FolderReader, Opened};
+use crate::host::LogHost;
+use bytes::Bytes;
+use case_files::{Source, SourceError};
+use std::alloc::Global;
+use std::fs::OpenFile;
+use std::io::{self, ErrorKind, Read};
+use std::marker::Model;
+
+/// How many bytes a file may have that is read at once, and how many the files have together that are read once more: 2^30 at
+/// most.
+pub(crate) const LIMIT: usize = 1_073_741_824;
+
+/// How many files are held open at once, at most. Those that are opened when so many are open are read at once.
+const HELD_OPEN: usize = 256;
+
+/// All that was read, where it is at most the limit. Else the reason is told.
+fn within_limit(bytes: Vec<u8>, why: &mut Option<io::Error>) -> Result<Bytes, SourceError>
+    ensures limit { IfOk result (λ kept. length kept ≤ LIMIT) }
+    ensures whole { IfOk result (λ kept. kept ≡ bytes.items) }
+    // What is at most the limit isn't refused as too long.
+    ensures long { IfErr result
+        (λ fault. fault ≡ SourceError.CannotRead → LIMIT < length bytes.items) }
+{
+    if bytes.len() > LIMIT {
+        *why = Some(io::Error::other("it has over 1073741824 bytes"));
+        return Err(SourceError::CannotRead);
+    }
+    Ok(Bytes::from_vec(bytes)?)
+}
+
+/// What is answered where the system refuses, whose reason is told.
+fn refused(error: io::Error, why: &mut Option<io::Error>) -> SourceError {
+    let fault = if error.kind() == ErrorKind::OutOfMemory {
+        SourceError::OutOfMemory
+    } else {
+        SourceError::CannotRead
+    };
+    *why = Some(error);
+    fault
+}
+
+/// For how many bytes room is made before a file is read: for as many as it says that it has, at most the limit, and
+/// one more, so that its end is seen without more room. A file that doesn't say it, as a pipe, is read without.
+fn room_for<F: OpenFile>(file: &F) -> usize {
+    match file.metadata() {
+        Ok(metadata) => metadata.len().min(LIMIT as u64) as usize + 1,
+        Err(_) => 0,
+    }
+}
+
+/// All bytes of a reader, where they are at most the limit; one more is read, to see that there are no more. Room for so
+/// many is made before. Where they can't be read the reason is told.
+pub fn read_all<R: Read + Drop>(
+    alloc: Global,
+    reader: R,
+    room: usize,
+    why: &mut Option<io::Error>,
+) -> Result<Bytes, SourceError>
+    ensures limit { IfOk result (λ bytes. length bytes ≤ LIMIT) }
+    ensures whole { IfOk result (λ bytes. IfSome (R.remaining reader) (λ all. bytes ≡ all)) }
+{
+    let mut bytes = Vec::with_capacity(alloc, room)?;
+    match reader.take(LIMIT as u64 + 1).read_to_end(&mut bytes) {
+        Ok(_) => within_limit(bytes, why),
+        Err(error) => Err(refused(error, why)),
+    }
+}
+
+/// Why standard input can't be read where it was read before.
+fn read_before() -> io::Error {
+    io::Error::other("standard input was read before")
+}
+
+/// All bytes of a file that was opened. Where they can't be read the reason is told.
+pub(crate) fn read_file<F: Read + OpenFile + Drop>(
+    alloc: Global,
+    opened: io::Result<F>,
+    why: &mut Option<io::Error>,
+) -> Result<Bytes, SourceError> {
+    match opened {
+        Ok(file) => {
+            let room = room_for(&file);
+            read_all(alloc, file, room, why)
+        }
+        Err(error) => Err(refused(error, why)),
+    }
+}
+
+/// Whether a file can be read once more under its name, as a pipe can't.
+fn lasts<F: OpenFile>(file: &F) -> bool {
+    match file.metadata() {
+        Ok(metadata) => metadata.is_file(),
+        Err(_) => false,
+    }
+}
+
+/// The bytes of a file that isn't held open, to be handed out; or why there are none.
+fn whole<F: Read + OpenFile + Drop, I>(alloc: Global, file: F) -> Opened<F, I> {
+    let room = room_for(&file);
+    let mut why = None;
+    match read_all(alloc, file, room, &mut why) {
+        Ok(bytes) => Opened::Whole(bytes, 0),
+        Err(SourceError::CannotRead) => Opened::Refused(why),
+        Err(SourceError::OutOfMemory) => {
+            Opened::Refused(Some(io::Error::from(ErrorKind::OutOfMemory)))
+        }
+    }
+}
+
+/// What was opened of the files of the working directory, and of standard input.
+#[derive(Drop)]
+pub(crate) struct Openings {
+    files: usize,
+    input_was_read: bool,
+    keeps: bool,
+}
+
+impl Openings {
+    /// Before anything is opened. The bytes of what can't be read once more are kept, or they aren't.
+    pub(crate) fn new(keeps: bool) -> Openings {
+        Openings {
+            files: 0,
+            input_was_read: false,
+            keeps,
+        }
+    }
+
+    /// Where the bytes of what can or can't be read once more are kept, if they are.
+    fn room_to_keep(&self, alloc: Global, lasts: bool) -> Option<Vec<u8>> {
+        if self.keeps && !lasts {
+            Some(Vec::new(alloc))
+        } else {
+            None
+        }
+    }
+
+    /// All bytes of standard input, which are there once. Where they can't be read the reason is told.
+    pub(crate) fn read_input<I: Read + Drop>(
+        &mut self,
+        alloc: Global,
+        input: I,
+        why: &mut Option<io::Error>,
+    ) -> Result<Bytes, SourceError> {
+        if self.input_was_read {
+            *why = Some(read_before());
+            return Err(SourceError::CannotRead);
+        }
+        self.input_was_read = true;
+        read_all(alloc, input, 0, why)
+    }
+
+    /// What hands out a file that was opened.
+    pub(crate) fn of_file<F: Read + OpenFile + Drop, I>(
+        &mut self,
+        alloc: Global,
+        opened: io::Result<F>,
+    ) -> FolderReader<F, I>
+        ensures { result.pieces ≡ record { bytes = []; is_over = false } }
+    {
+        match opened {
+            Ok(file) => {
+                let lasts = lasts(&file);
+                let kept = self.room_to_keep(alloc, lasts);
+                if self.files < HELD_OPEN {
+                    self.files += 1;
+                    return FolderReader::new(Opened::File(file), lasts, kept);
+                }
+                FolderReader::new(whole(alloc, file), lasts, kept)
+            }
+            Err(why) => FolderReader::new(Opened::Refused(Some(why)), true, None),
+        }
+    }
+
+    /// What hands out standard input, once.
+    pub(crate) fn of_input<F, I: Drop>(&mut self, alloc: Global, input: I) -> FolderReader<F, I>
+        ensures { result.pieces ≡ record { bytes = []; is_over = false } }
+    {
+        if self.input_was_read {
+            return FolderReader::new(Opened::Refused(Some(read_before())), false, None);
+        }
+        self.input_was_read = true;
+        FolderReader::new(Opened::Input(input), false, self.room_to_keep(alloc, false))
+    }
+}
+
+/// The files of the working directory, and standard input under the name `-`, which is read once. Nothing that was read is kept.
+/// Contracts see nothing of it.
+#[derive(Drop)]
+pub struct Folder<'a, R> {
+    rt: &'a R,
+    openings: Openings,
+}
+
+impl<'a, R> Model for Folder<'a, R> {
+    ghost use Rattle.std.specs.Prelude.{⊤};
+
+    ghost Value = { ⊤ };
+
+    ghost view = { λ _. tt };
+}
+
+impl<'a, R> Folder<'a, R> {
+    /// The folder.
+    pub fn new(rt: &'a R) -> Folder<'a, R> {
+        Folder {
+            rt,
+            openings: Openings::new(false),
+        }
+    }
+}
+
+impl<R: LogHost> Source for Folder<'_, R> {
+    type Reader = FolderReader<R::LogFile, R::LogInput>;
+
+    fn read(&mut self, name: &str) -> Result<Bytes, SourceError> {
+        let alloc = self.rt.alloc();
+        if name == "-" {
+            let input = self.rt.log_input();
+            return self.openings.read_input(alloc, input, &mut None);
+        }
+        read_file(alloc, self.rt.open_log(name), &mut None)
+    }
+
+    fn open(&mut self, name: &str) -> FolderReader<R::LogFile, R::LogInput> {
+        let alloc = self.rt.alloc();
+        if name == "-" {
+            let input = self.rt.log_input();
+            return self.openings.of_input(alloc, input);
+        }
+        self.openings.of_file(alloc, self.rt.open_log(name))
+    }
+
+    fn close(
+        &mut self,
+        _name: &str,
+        _reader: &FolderReader<R::LogFile, R::LogInput>,
+        failed: bool,
+    ) -> Result<(), SourceError> {
+        closed(failed)
+    }
+}
+
+/// What closing a reader answers.
+pub(crate) fn closed(failed: bool) -> Result<(), SourceError>
+    ensures { OnOk result (failed ≡ false) }
+{
+    if failed {
+        return Err(SourceError::CannotRead);
+    }
+    Ok(())
+}

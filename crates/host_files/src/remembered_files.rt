@@ -1,0 +1,251 @@
+//! Files and standard input, of which is remembered what people are told.
+
+use crate::file::{LIMIT, Openings, closed, read_file};
+use crate::folder_reader::{FolderReader, Opened, copy_of};
+use crate::host::LogHost;
+use bytes::Bytes;
+use case_files::{RememberingSource, Source, SourceError};
+use cause_notes::SearchingSource;
+use std::alloc::{AllocError, Global};
+use std::marker::Model;
+use std::rt::Files;
+use std::{fs, io, mem};
+
+/// What was closed of a folder.
+#[derive(Drop)]
+struct ClosedFile {
+    name: String,
+    count: u64,
+    again: Again,
+}
+
+/// Where the bytes of a file that was closed come from once more.
+#[derive(Drop)]
+enum Again {
+    /// From the file.
+    File,
+    /// From those that its reader kept.
+    Kept(Bytes),
+    /// From nowhere.
+    Nowhere,
+}
+
+impl ClosedFile {
+    /// The file of this name, and what its reader has of it.
+    fn of<F, I>(
+        alloc: Global,
+        name: &str,
+        reader: &FolderReader<F, I>,
+    ) -> Result<ClosedFile, AllocError> {
+        let again = match reader.kept() {
+            Some(bytes) => Again::Kept(Bytes::copy_from_slice(alloc, bytes)?),
+            None if reader.lasts() => Again::File,
+            None => Again::Nowhere,
+        };
+        Ok(ClosedFile {
+            name: String::from_str(alloc, name)?,
+            count: reader.count(),
+            again,
+        })
+    }
+}
+
+/// The files of a [`Folder`](crate::Folder), with what people are told of them. The bytes that it keeps are shared, not copied. Contracts see nothing of it.
+#[derive(Drop)]
+pub struct RememberingFolder<'a, R> {
+    rt: &'a R,
+    openings: Openings,
+    last: Option<String>,
+    refusal: Option<io::Error>,
+    kept: Vec<(String, Bytes)>,
+    closed: Vec<ClosedFile>,
+    left_out: Vec<String>,
+    lasting: Vec<String>,
+}
+
+impl<'a, R> Model for RememberingFolder<'a, R> {
+    ghost use Rattle.std.specs.Prelude.{⊤};
+
+    ghost Value = { ⊤ };
+
+    ghost view = { λ _. tt };
+}
+
+impl<'a, R: AllocGlobal> RememberingFolder<'a, R> {
+    /// The folder, of which nothing has been read yet.
+    pub fn new(rt: &'a R) -> RememberingFolder<'a, R> {
+        RememberingFolder {
+            rt,
+            openings: Openings::new(true),
+            last: None,
+            refusal: None,
+            kept: Vec::new(rt.alloc()),
+            closed: Vec::new(rt.alloc()),
+            left_out: Vec::new(rt.alloc()),
+            lasting: Vec::new(rt.alloc()),
+        }
+    }
+
+    /// Keeps the name that is asked for.
+    fn keep_name(&mut self, name: &str) -> Result<(), AllocError> {
+        self.last = None;
+        self.last = Some(String::from_str(self.rt.alloc(), name)?);
+        Ok(())
+    }
+
+    /// Keeps the name that is asked for, and the file that was read. Where memory is refused less is kept.
+    fn keep(&mut self, name: &str, read: &Result<Bytes, SourceError>) -> Result<(), AllocError> {
+        self.keep_name(name)?;
+        if let Ok(bytes) = read {
+            let file = (String::from_str(self.rt.alloc(), name)?, bytes.clone()?);
+            self.kept.push(file)?;
+        }
+        Ok(())
+    }
+}
+
+impl<R: Files + AllocGlobal> RememberingFolder<'_, R> {
+    /// How many bytes may still be read once more.
+    fn room(&self) -> usize {
+        let mut room = LIMIT;
+        for (_, bytes) in &self.kept {
+            room = room.saturating_sub(bytes.len());
+        }
+        room
+    }
+
+    /// Keeps the name whose reading ends, and what its reader has. Where memory is refused less is kept.
+    fn keep_closed<F, I>(
+        &mut self,
+        name: &str,
+        reader: &FolderReader<F, I>,
+    ) -> Result<(), AllocError> {
+        self.keep_name(name)?;
+        let file = ClosedFile::of(self.rt.alloc(), name, reader)?;
+        self.closed.push(file)?;
+        Ok(())
+    }
+
+    /// The bytes of a file that was closed: those that its reader kept, or else those that are read once more; at most so many.
+    fn read_again(&self, file: &ClosedFile, room: usize) -> Option<Bytes> {
+        if file.count > room as u64 {
+            return None;
+        }
+        let bytes = match &file.again {
+            Again::File => {
+                let opened = fs::open(self.rt, file.name.as_str());
+                read_file(self.rt.alloc(), opened, &mut None).ok()?
+            }
+            Again::Kept(bytes) => bytes.clone().ok()?,
+            Again::Nowhere => return None,
+        };
+        if bytes.len() <= room {
+            Some(bytes)
+        } else {
+            None
+        }
+    }
+
+    /// Keeps the name of a file whose bytes aren't kept, where some came.
+    fn leave_out(&mut self, file: ClosedFile) -> Result<(), AllocError> {
+        if file.count == 0 {
+            return Ok(());
+        }
+        if let Again::File = file.again {
+            let name = String::from_str(self.rt.alloc(), file.name.as_str())?;
+            self.lasting.push(name)?;
+        }
+        self.left_out.push(file.name)?;
+        Ok(())
+    }
+
+    /// Keeps the bytes of a file that was closed, or else its name.
+    fn keep_again(&mut self, file: ClosedFile) -> Result<(), AllocError> {
+        let room = self.room();
+        match self.read_again(&file, room) {
+            Some(bytes) => self.kept.push((file.name, bytes))?,
+            None => self.leave_out(file)?,
+        }
+        Ok(())
+    }
+}
+
+impl<R: LogHost> Source for RememberingFolder<'_, R> {
+    type Reader = FolderReader<R::LogFile, R::LogInput>;
+
+    fn read(&mut self, name: &str) -> Result<Bytes, SourceError> {
+        self.refusal = None;
+        let alloc = self.rt.alloc();
+        let read = if name == "-" {
+            let input = self.rt.log_input();
+            self.openings.read_input(alloc, input, &mut self.refusal)
+        } else {
+            read_file(alloc, self.rt.open_log(name), &mut self.refusal)
+        };
+        let _ = self.keep(name, &read);
+        read
+    }
+
+    fn open(&mut self, name: &str) -> FolderReader<R::LogFile, R::LogInput> {
+        let alloc = self.rt.alloc();
+        if name == "-" {
+            let input = self.rt.log_input();
+            return self.openings.of_input(alloc, input);
+        }
+        self.openings.of_file(alloc, self.rt.open_log(name))
+    }
+
+    fn close(
+        &mut self,
+        name: &str,
+        reader: &FolderReader<R::LogFile, R::LogInput>,
+        failed: bool,
+    ) -> Result<(), SourceError> {
+        self.refusal = match reader.refusal() {
+            Some(error) => Some(copy_of(self.rt.alloc(), error)),
+            None => None,
+        };
+        let _ = self.keep_closed(name, reader);
+        closed(failed)
+    }
+}
+
+impl<R: LogHost> RememberingSource for RememberingFolder<'_, R> {
+    fn last(&self) -> Option<&str> {
+        self.last.as_ref().map(String::as_str)
+    }
+
+    fn refusal(&self) -> Option<&io::Error> {
+        self.refusal.as_ref()
+    }
+
+    fn look_back(&mut self) -> Result<(), AllocError> {
+        let closed = mem::replace(&mut self.closed, Vec::new(self.rt.alloc()));
+        for file in closed {
+            self.keep_again(file)?;
+        }
+        Ok(())
+    }
+
+    fn kept(&self) -> &[(String, Bytes)] {
+        &self.kept
+    }
+
+    fn left_out(&self) -> &[String] {
+        &self.left_out
+    }
+
+    fn open_again(&self, name: &str) -> Option<FolderReader<R::LogFile, R::LogInput>> {
+        if !self.lasting.iter().any(|lasting| lasting.as_str() == name) {
+            return None;
+        }
+        let file = self.rt.open_log(name).ok()?;
+        Some(FolderReader::new(Opened::File(file), true, None))
+    }
+}
+
+impl<R: LogHost> SearchingSource for RememberingFolder<'_, R> {
+    fn has(&self, name: &str) -> bool {
+        fs::exists(self.rt, name).unwrap_or(false)
+    }
+}

@@ -1,0 +1,42 @@
+-- Answers that are told as objects.
+use Rattle.std.proofs.Common.{ℕ, List, Option, Some, None, Result, Ok, Err, subst, sym, inl, inr}
+use Rattle.case_files.specs.CaseReading.{Reads}
+use Rattle.command_line.specs.declared.command.Command.{Command}
+use Rattle.command_line.specs.declared.command.Command.TheVariants.{Check, Order, Graph, Run, Draw, Vat, Records, Frame, Frames, Migrate, Salvage, Wire, Join}
+use Rattle.command_run.specs.declared.output.Failed.{Failed}
+use Rattle.command_run.specs.declared.output.Failed.TheVariants.{Out, File}
+use Rattle.told_runs.specs.Endings.{EndsAs}
+use Rattle.command_run.specs.Runs.{Adds, Answering, CarriesOut, Saves, Tells, Writes, Writing, Wrote}
+
+module _ {W F E X : Type 0} (to_out : Writing W) (in_file : F → Option (List ℕ)) (file_done : F → Type 0)
+    (out out_new : W) (file file_new : F) (r : Result ℕ (Failed E X)) (ended : ℕ) (is : EndsAs r ended) where
+  saved : (bytes : Option (List ℕ)) → Saves (Wrote in_file file_done) bytes file file_new → Saves (Adds in_file) bytes file file_new
+  saved None same = same
+  saved (Some bytes) wrote = wrote.0
+
+  told : (answers : Answering) → Writes answers to_out (Wrote in_file file_done) out out_new file file_new r → Tells answers (Adds in_file) file file_new ended
+  told answers = go r is
+    where
+      go : (r : Result ℕ (Failed E X)) → EndsAs r ended → Writes answers to_out (Wrote in_file file_done) out out_new file file_new r → Tells answers (Adds in_file) file file_new ended
+      go (Ok s) (inl same) w = inl (w.0, (w.1.0, subst (λ n. answers w.0 n w.1.0) (sym same) w.1.1, saved w.1.0 w.1.2))
+      go (Ok s) (inr failed) w = inr (inl (failed, inl (s, (w.0, (w.1.0, w.1.1, saved w.1.0 w.1.2)))))
+      go (Err (Out x)) (inl failed) w = inr (inl (failed, inl (w.1.0, (w.0, (w.1.1.0, w.1.1.1, saved w.1.1.0 w.1.1.2)))))
+      go (Err (Out x)) (inr refused) w = inr (inr (refused, (w.1.0, (w.0, (w.1.1.0, w.1.1.1, saved w.1.1.0 w.1.1.2)))))
+      go (Err (File x)) failed w = inr (inl (failed, inr (w.0, (w.1.0, (w.1.1.0, w.1.1.1, w.1.1.2)))))
+
+  pub tells : {S : Type 0} (gives : Reads S) (command : Command) (old new : S)
+      → CarriesOut gives command old new (λ answers. Writes answers to_out (Wrote in_file file_done) out out_new file file_new r)
+      → CarriesOut gives command old new (λ answers. Tells answers (Adds in_file) file file_new ended)
+  tells gives (Check name workers) old new c = told _ c
+  tells gives (Graph name dot many) old new c = told _ c
+  tells gives (Run name many) old new c = told _ c
+  tells gives (Draw name path first steps is_page many) old new c = told _ c
+  tells gives (Vat name) old new c = (c.0, c.1, told _ c.2)
+  tells gives (Frame hex later) old new c = (c.0, told _ c.1)
+  tells gives (Frames name) old new c = (c.0, c.1, told _ c.2)
+  tells gives (Records name first many) old new c = (c.0, c.1, told _ c.2)
+  tells gives (Order name path) old new c = told _ c
+  tells gives (Migrate name later path) old new c = (c.0, c.1, told _ c.2)
+  tells gives (Salvage name path) old new c = (c.0, c.1, told _ c.2)
+  tells gives (Wire one another out) old new c = told _ c
+  tells gives (Join names path) old new c = told _ c

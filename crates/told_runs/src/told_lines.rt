@@ -1,0 +1,226 @@
+//! Lines with names and reasons, and commands that are run with them.
+
+ghost use Rattle.std.specs.Prelude.{◌≡◌, ◌⊎◌};
+ghost use Rattle.command_line.specs.Spelled.{HasWorkers};
+ghost use Rattle.told_runs.specs.Endings.{EndsAs};
+ghost use Rattle.command_run.specs.Runs.{Adds, CarriesOut, Tells};
+ghost use Rattle.report_lines.specs.Faults.{fault_status};
+
+use crate::note_hearing::NoteHearing;
+use crate::noted_run::NotedSource;
+use cause_notes::{Form, SearchingSource, write_note};
+use command_line::Command;
+use command_run::{FAILED, Failed, Host, Output, Watch, answer_heard};
+use exception_reasons::{Reason, record_reason};
+use named_text::NamedText;
+use report_lines::{Fault, ShownLine};
+use schema_names::SchemaNames;
+use std::alloc::{AllocError, Global};
+use std::io;
+use std::io::Write;
+use std::sync::Wait;
+use std::thread::Threads;
+
+/// What is told besides in lines and beside them.
+#[derive(Clone, Copy)]
+pub struct Telling<'a> {
+    /// Names of interfaces and methods, if any are given.
+    pub names: Option<&'a SchemaNames>,
+    /// The reasons of exceptions, behind the lines of records.
+    pub has_reasons: bool,
+    /// No notes.
+    pub is_quiet: bool,
+}
+
+/// Why a line isn't written.
+#[derive(Drop)]
+pub enum LineFault {
+    /// Memory was refused for its text.
+    OutOfMemory,
+    /// A write failed.
+    Write(io::Error),
+}
+
+impl From<AllocError> for LineFault {
+    fn from(_e: AllocError) -> LineFault {
+        LineFault::OutOfMemory
+    }
+}
+
+impl From<io::Error> for LineFault {
+    fn from(error: io::Error) -> LineFault {
+        LineFault::Write(error)
+    }
+}
+
+/// An output that writes lines with names, and behind each record's the reason of its exception: ` reason "TEXT"`. What is
+/// written isn't known as text.
+#[derive(Drop)]
+pub struct ToldLines<'a, W: Write> {
+    alloc: Global,
+    telling: Telling<'a>,
+    out: &'a mut W,
+}
+
+/// A text with names, where any are given.
+fn with_names(
+    alloc: Global,
+    names: Option<&SchemaNames>,
+    text: String,
+) -> Result<String, AllocError> {
+    match names {
+        Some(names) => {
+            let text = text.as_str();
+            NamedText { names, text }.to_string(alloc)
+        }
+        None => Ok(text),
+    }
+}
+
+/// The reason of the exception that a line tells of. None where it tells of none.
+fn reason_of(alloc: Global, shown: ShownLine<'_>) -> Result<Option<Reason>, AllocError> {
+    match shown {
+        ShownLine::Record(record) => record_reason(alloc, record.body),
+        _ => Ok(None),
+    }
+}
+
+impl<'a, W: Write> ToldLines<'a, W> {
+    /// Before any line.
+    pub fn new(alloc: Global, telling: Telling<'a>, out: &'a mut W) -> ToldLines<'a, W> {
+        ToldLines {
+            alloc,
+            telling,
+            out,
+        }
+    }
+
+    /// The text of a line.
+    fn text_of(&self, shown: ShownLine<'_>) -> Result<String, AllocError> {
+        let alloc = self.alloc;
+        let mut text = with_names(alloc, self.telling.names, format!(in alloc; "{shown}")?)?;
+        if !self.telling.has_reasons {
+            return Ok(text);
+        }
+        if let Some(reason) = reason_of(alloc, shown)? {
+            write!(text, " reason \"{reason}\"")?;
+        }
+        Ok(text)
+    }
+
+    /// Ends the lines with that of out of memory, and gives the exit status: that of a failed write where it isn't written.
+    fn end_without_memory(&mut self) -> u8
+        ensures { (result ≡ fault_status Fault.OutOfMemory) ⊎ (result ≡ FAILED) }
+    {
+        let fault = Fault::OutOfMemory;
+        match self.out.writeln(fault).and_then(|_| self.out.flush()) {
+            Ok(()) => fault.status(),
+            Err(_) => FAILED,
+        }
+    }
+}
+
+impl<W: Write> Output for ToldLines<'_, W> {
+    type Error = LineFault;
+
+    fn write_line(&mut self, shown: ShownLine<'_>) -> Result<(), LineFault> {
+        let text = self.text_of(shown)?;
+        Ok(self.out.writeln(text.as_str())?)
+    }
+
+    fn write_bytes(&mut self, bytes: &[u8]) -> Result<(), LineFault> {
+        Ok(self.out.write_all(bytes)?)
+    }
+
+    fn finish(&mut self) -> Result<(), LineFault> {
+        Ok(self.out.flush()?)
+    }
+}
+
+/// What came of telling lines.
+type LinesTold = Result<u8, Failed<LineFault, io::Error>>;
+
+/// The notes beside what was told of a source: that of a write that failed, or those of what was heard, with names; none
+/// where none are wanted.
+fn notes_beside<S: SearchingSource>(
+    alloc: Global,
+    command: &Command<'_>,
+    hearing: &NoteHearing,
+    source: &S,
+    told: &LinesTold,
+    telling: Telling<'_>,
+) -> Result<String, AllocError> {
+    if telling.is_quiet {
+        return Ok(String::new(alloc));
+    }
+    match told {
+        Err(Failed::File(error)) => write_note(alloc, command.out(), error),
+        Err(Failed::Out(LineFault::Write(error))) => write_note(alloc, None, error),
+        _ => {
+            let notes = hearing.notes(alloc, command, source, Form::Text)?;
+            with_names(alloc, telling.names, notes.text)
+        }
+    }
+}
+
+/// Writes those notes. Where a write fails, or memory is refused for them, they are left out.
+fn put_notes<N: Write>(notes: Result<String, AllocError>, out: &mut N) {
+    if let Ok(text) = notes {
+        let _ = out.write_all(text.as_bytes());
+    }
+}
+
+/// Ends the lines, with that of out of memory where the text of one wasn't made, and gives the exit status.
+fn end_lines<W: Write>(told: LinesTold, out: &mut ToldLines<'_, W>) -> u8
+    ensures { EndsAs told result }
+{
+    match told {
+        Ok(status) => status,
+        Err(Failed::Out(LineFault::OutOfMemory)) => out.end_without_memory(),
+        Err(_) => FAILED,
+    }
+}
+
+/// Has a source look back, where notes are wanted.
+fn look_back_if<S: SearchingSource>(is_wanted: bool, source: &mut S)
+    ensures { source.new ≡ source.old }
+{
+    if is_wanted {
+        let _ = source.look_back();
+    }
+}
+
+/// Runs a command as [`crate::run_with_notes`] does, with names and reasons where these are told. What is told of the answer
+/// is in no contract. The exit status is 3 where memory is refused for a line.
+pub fn run_telling<
+    R: Threads + Wait + Sync,
+    G: Watch + Sync,
+    S: SearchingSource,
+    W: Write,
+    F: Write,
+    N: Write,
+>(
+    rt: &R,
+    alloc: Global,
+    command: &Command<'_>,
+    noted: &mut NotedSource<'_, S, N, G>,
+    out: &mut ToldLines<'_, W>,
+    file: &mut F,
+) -> u8
+    requires { HasWorkers command.now }
+    ensures { CarriesOut S.read_gives command.now noted.old.source noted.new.source
+        (λ answers. Tells answers (Adds F.contents) file.old file.new result) }
+{
+    let mut hearing = NoteHearing::new();
+    let host = Host {
+        rt,
+        alloc,
+        watch: noted.watch,
+    };
+    let told = answer_heard(&host, command, &mut noted.source, &mut hearing, out, file);
+    look_back_if(!out.telling.is_quiet, &mut noted.source);
+    let notes = notes_beside(alloc, command, &hearing, &noted.source, &told, out.telling);
+    put_notes(notes, &mut noted.notes);
+    hearing.leave();
+    end_lines(told, out)
+}

@@ -10,7 +10,7 @@ use Rattle.decoded_records.specs.Past.{Past}
 use Rattle.agree.specs.Points.{GoesOn, AtEach}
 use Rattle.agree.specs.Streams.{passing, stream, IsCut, IsPassed}
 use Rattle.agree.specs.Agreeing.{AreLinked}
-use Rattle.agree.specs.Rows.{Row, of_vat, log_of_vat, received_stream, sent_stream, stream_of_others, AllBefore, FitsAt, IsTheirs, IsShared}
+use Rattle.agree.specs.Rows.{Row, record_of_vat, log_of_vat, received_stream, sent_stream, stream_of_others, AllBefore, FitsAt, IsTheirs, IsShared}
 use Rattle.agree.proofs.Points.{through, before_it, shorter, same_length, kept, lifted, nth_within, at_each_before}
 
 few_more : (o : Option RpcMessage) (n : ℕ) (str : List RpcMessage) → n ≤ length str → n ≤ length (cons_option o str)
@@ -61,7 +61,7 @@ turned k v w row s = record {
 -- of one direction: what was received by a point was sent by then
 sent_first : (k v w : ℕ) (row before : Row) → IsShared k v w row → GoesOn row before → GoesOn (sent_stream k w before) (received_stream k v before)
 sent_first k v w row before s p =
-    shorter (sent_stream k w row) _ _ (through _ _ _ s.to_one (kept (passing k false) _ _ (kept (of_vat v) row before p))) (kept (passing k true) _ _ (kept (of_vat w) row before p))
+    shorter (sent_stream k w row) _ _ (through _ _ _ s.to_one (kept (passing k false) _ _ (kept (record_of_vat v) row before p))) (kept (passing k true) _ _ (kept (record_of_vat w) row before p))
     (subst (λ l. length (received_stream k v before) ≤ length l) (others_are k v w before s.apart (at_each_before (IsTheirs k v w) row before p s.theirs))
     (received_few k v before (at_each_before (FitsAt k) row before p s.fits)))
 
@@ -79,9 +79,9 @@ pair_of v r e false f g = absurd (let no : ⊥ = cc in no)
 
 pub taken : (v : ℕ) (row : Row) (e : DecodedRecord) (past : Past) → GoesOn (log_of_vat v row) (e ∷ past) → Taken v row e past
 taken v row e past p =
-    let r = lifted (of_vat v) row e past p in (r.1, subst (λ x. GoesOn row (x ∷ r.1)) (pair_of v r.0 e (r.0.0 == v) refl r.3) r.2, r.4)
+    let r = lifted (record_of_vat v) row e past p in (r.1, subst (λ x. GoesOn row (x ∷ r.1)) (pair_of v r.0 e (r.0.0 == v) refl r.3) r.2, r.4)
 
-of_own : (v : ℕ) (e : DecodedRecord) → of_vat v (v, e) ≡ Some e
+of_own : (v : ℕ) (e : DecodedRecord) → record_of_vat v (v, e) ≡ Some e
 of_own v e = ap (λ b. if b then Some e else None) (eq-eqb v v refl)
 
 -- if each record of one vat up to a point is taken before a record of the other, what it received the other had sent
@@ -96,7 +96,7 @@ earlier_sent k v w row (e ∷ one) other f s p q before =
     (record { there = a.1; some = (e, of_own v e); number = ap length a.2 }) (record { there = b.1; some = (f, of_own w f); number = ap length b.2 }) in
     let g : GoesOn b.0 ((v, e) ∷ a.0) = shorter row _ _ a.1 (before_it row (w, f) b.0 b.1) lt in
     let there : log_of_vat v ((v, e) ∷ a.0) ≡ e ∷ one = ap₂ (λ o l. cons_option o l) (of_own v e) a.2 in
-    through _ _ _ (subst (λ l. GoesOn (stream k true l) (sent_stream k w ((v, e) ∷ a.0))) b.2 (kept (passing k true) _ _ (kept (of_vat w) _ _ g)))
+    through _ _ _ (subst (λ l. GoesOn (stream k true l) (sent_stream k w ((v, e) ∷ a.0))) b.2 (kept (passing k true) _ _ (kept (record_of_vat w) _ _ g)))
     (subst (λ l. GoesOn (sent_stream k w ((v, e) ∷ a.0)) (stream k false l)) there (sent_first k v w row ((v, e) ∷ a.0) s a.1))
 
 -- a consistent cut at which nothing is under way from one to the other
@@ -129,7 +129,7 @@ module _ (k v w : ℕ) (row : Row) (m : RpcMessage) (from to : Past) (sent recei
       let back : IsShared k w v row = turned k v w row s in
       let others = others_are k w v b.0 back.apart (at_each_before (IsTheirs k w v) row b.0 earlier back.theirs) in
       let there = nth_within (passing k true) (length (stream k false to)) (log_of_vat v row) (log_of_vat v b.0) from sent
-      (record { there = p.sent_there; some = (m, p.sends); number = p.same_number }) (kept (of_vat v) row b.0 earlier)
+      (record { there = p.sent_there; some = (m, p.sends); number = p.same_number }) (kept (record_of_vat v) row b.0 earlier)
       (omega (arith, s.fits b.0 (w, received) b.1 m p.receives, ap (λ l. length (stream k false l)) b.2, ap length others)) in
       let all = same_before k m (log_of_vat v row) (log_of_vat w row) from to sent received s.to_other p in
       let to_one = subst (λ x. GoesOn (stream k true x) (stream k false from)) b.2 (through _ _ _ (sent_first k v w row b.0 s earlier) (kept (passing k false) (log_of_vat v b.0) from there)) in

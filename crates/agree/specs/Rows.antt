@@ -11,12 +11,12 @@ abbrev pub Row : Type 0
 Row = List (ℕ × DecodedRecord)
 
 -- a record of this vat
-abbrev pub of_vat : ℕ → ℕ × DecodedRecord → Option DecodedRecord
-of_vat v r = if r.0 == v then Some r.1 else None
+abbrev pub record_of_vat : ℕ → ℕ × DecodedRecord → Option DecodedRecord
+record_of_vat v r = if r.0 == v then Some r.1 else None
 
 -- a vat's log, as far as the row goes
 abbrev pub log_of_vat : ℕ → Row → Past
-log_of_vat v row = filter_map (of_vat v) row
+log_of_vat v row = filter_map (record_of_vat v) row
 
 -- what a vat received on a connection, as far as the row goes, and what it sent
 abbrev pub received_stream : ℕ → ℕ → Row → List RpcMessage
@@ -47,4 +47,4 @@ pub record IsShared (k v w : ℕ) (row : Row) : Type 0 where
 
 -- each of the first i records of one vat is taken before record j of the other
 abbrev pub AllBefore : ℕ → ℕ → ℕ → ℕ → Row → Type 0
-AllBefore v i w j row = (u : ℕ) (a b : Row) (x y : ℕ × DecodedRecord) → u < i → IsNth (of_vat v) u row a x → IsNth (of_vat w) j row b y → length a < length b
+AllBefore v i w j row = (u : ℕ) (a b : Row) (x y : ℕ × DecodedRecord) → u < i → IsNth (record_of_vat v) u row a x → IsNth (record_of_vat w) j row b y → length a < length b

@@ -18,7 +18,7 @@ use Rattle.vat_rules.specs.declared.outcome.Outcome.{Outcome}
 use Rattle.vat_rules.specs.declared.outcome.Outcome.TheVariants.{Good}
 use Rattle.vat_rules.specs.declared.outcome.Why.{Why}
 use Rattle.call_trace.specs.Findings.{logs_of}
-use Rattle.audit_core.specs.Report.{delivers, count_all, records_in}
+use Rattle.audit_core.specs.Report.{records_delivery, count_all, records_in}
 
 -- ---- the deliveries of a good log
 
@@ -31,7 +31,7 @@ wired event other (Ok m) rest = kept (event m) false rest (other m)
 wired event other (Err why) rest = omega arith
 
 one_event : (read : Reader) (b : Body) (rest : List DecodedRecord)
-    → count_by is_delivery (cons_option (event_or_none (event_of read b)) rest) ≡ cond (delivers b) 1 0 + count_by is_delivery rest
+    → count_by is_delivery (cons_option (event_or_none (event_of read b)) rest) ≡ cond (records_delivery b) 1 0 + count_by is_delivery rest
 unfolding is_delivery
 one_event read (body.Host reference object) rest = kept (Host reference object) false rest refl
 one_event read (body.Vow reference) rest = kept (Vow reference) false rest refl
@@ -46,12 +46,12 @@ one_event read (body.Send connection call references frame) rest = wired (Wire t
 one_event read (body.Receive connection call references frame) rest = wired (Wire false connection call references) (λ m. refl) (read frame) rest
 one_event read (body.AnswerBy call by) rest = kept (AnswerBy call by) false rest refl
 
-deliveries : (read : Reader) (bs : List Body) → count_by is_delivery (filter_map (λ b. event_or_none (event_of read b)) bs) ≡ count_by delivers bs
+deliveries : (read : Reader) (bs : List Body) → count_by is_delivery (filter_map (λ b. event_or_none (event_of read b)) bs) ≡ count_by records_delivery bs
 deliveries read [] = refl
 deliveries read (b ∷ bs) =
-    omega (arith, one_event read b (filter_map (λ x. event_or_none (event_of read x)) bs), deliveries read bs, sum_by-cons (λ (x : Body). cond (delivers x) 1 0) b bs)
+    omega (arith, one_event read b (filter_map (λ x. event_or_none (event_of read x)) bs), deliveries read bs, sum_by-cons (λ (x : Body). cond (records_delivery x) 1 0) b bs)
 
-pub delivered_is : (log : Log) (limits : Limits) (outcome : Outcome) (story : Told) → IsTrueOf log limits outcome → outcome ≡ Good story → story.delivered ≡ count_by delivers log.records
+pub delivered_is : (log : Log) (limits : Limits) (outcome : Outcome) (story : Told) → IsTrueOf log limits outcome → outcome ≡ Good story → story.delivered ≡ count_by records_delivery log.records
 delivered_is log limits outcome story means is =
     let read = reads_by (edition_of log) limits in
     let told = (subst (IsTrueOf log limits) is means).1 in
@@ -62,11 +62,11 @@ delivered_is log limits outcome story means is =
 
 -- so many so far, and those of the next log
 pub delivered_so_far : (vats : List Found) (i : ℕ) (found : Found) → found ≡ get_or vats i found → i < length vats
-    → count_all delivers (logs_of (take i vats)) + count_by delivers found.log.records ≤ records_in (logs_of vats)
+    → count_all records_delivery (logs_of (take i vats)) + count_by records_delivery found.log.records ≤ records_in (logs_of vats)
 delivered_so_far vats i found is lt =
     let within = length-map vats (λ (f : Found). f.log) in
     let next : get_or (logs_of vats) i found.log ≡ found.log = get_or-map (λ (f : Found). f.log) vats i found found.log lt ∙ sym (ap (λ (f : Found). f.log) is) in
-    let few = sum_by_more_le_part (λ (log : Log). count_by delivers log.records) (λ (log : Log). length log.records) (logs_of vats) i found.log (omega (arith, within, lt))
-    (λ log. count_by-le-length delivers log.records) in
-    let so_far = ap (count_all delivers) (take-map (λ (f : Found). f.log) i vats) in
-    omega (arith, few, so_far, ap (λ (log : Log). length log.records) next, count_by-le-length delivers found.log.records)
+    let few = sum_by_more_le_part (λ (log : Log). count_by records_delivery log.records) (λ (log : Log). length log.records) (logs_of vats) i found.log (omega (arith, within, lt))
+    (λ log. count_by-le-length records_delivery log.records) in
+    let so_far = ap (count_all records_delivery) (take-map (λ (f : Found). f.log) i vats) in
+    omega (arith, few, so_far, ap (λ (log : Log). length log.records) next, count_by-le-length records_delivery found.log.records)

@@ -21,10 +21,10 @@ use Rattle.call_trace.specs.Named.{past_of, IsRunOf}
 use Rattle.call_trace.specs.Part.{IsPart}
 use Rattle.case_book.specs.Books.{AllFound, AreAll}
 use Rattle.audit_core.specs.Headline.{records_of, taken_of, IsBalancedThroughout, Explains}
-use Rattle.audit_core.specs.Report.{records_in, count_all, delivers, IsGoodCase, IsOrderFor, IsEarlyAt, IsReport, AreGoodFindings, HoldsOfEach}
+use Rattle.audit_core.specs.Report.{records_in, count_all, records_delivery, IsGoodCase, IsOrderFor, IsEarlyAt, IsReport, AreGoodFindings, HoldsOfEach}
 use Rattle.vat_log.specs.Passages.{sends, receives}
-use Rattle.audit_core.specs.declared.report.Report.{Report}
-use Rattle.audit_core.specs.declared.report.Report.TheVariants as report
+use Rattle.case_report.specs.declared.report.Report.{Report}
+use Rattle.case_report.specs.declared.report.Report.TheVariants as report
 use Rattle.audit_core.proofs.FirstLine.{good_case}
 use Rattle.run_model.specs.Early.{IsOrderFault}
 use Rattle.audit_core.proofs.Places.{each_at, each_so, contained}
@@ -193,7 +193,7 @@ module _ (all : AllFound) (good : AreGoodFindings all) (vats : List Found) (same
   )
 
   pub yes_report : (fault : Option (ℕ × ℕ)) (answer : Report) → IsOrderFault run fault → fault ≡ None
-      → answer ≡ report.Yes (length all.case.logs) (records_in all.case.logs) (count_all delivers all.case.logs) (count_all sends all.case.logs - count_all receives all.case.logs) run
+      → answer ≡ report.Yes (length all.case.logs) (records_in all.case.logs) (count_all records_delivery all.case.logs) (count_all sends all.case.logs - count_all receives all.case.logs) run
       → IsReport all.case given answer
   yes_report fault answer ordered none is_yes =
       subst (IsReport all.case given) (sym is_yes) (

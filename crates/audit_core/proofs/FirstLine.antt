@@ -16,9 +16,9 @@ use Rattle.case_book.specs.Books.{AllFound, AreAll}
 use Rattle.case_book.specs.declared.link.Link.{Link}
 use Rattle.audit_core.specs.Report.{AreGoodEnds, IsGoodLog, IsFirstBad, IsFirstBroken, AreGoodLogs, AreGoodLinks, IsGoodCase, IsReport, HoldsOfEach, IsGoodFinding, AreGoodFindings}
 use Rattle.audit_core.specs.Glue.{HoldsBefore, IsFirstNot, line_of, IsBadFinding, AreBadEnds}
-use Rattle.audit_core.specs.declared.report.Breach.TheVariants.{Rule}
-use Rattle.audit_core.specs.declared.report.Report.{Report}
-use Rattle.audit_core.specs.declared.report.Report.TheVariants as report
+use Rattle.case_report.specs.declared.report.Breach.TheVariants.{Rule}
+use Rattle.case_report.specs.declared.report.Report.{Report}
+use Rattle.case_report.specs.declared.report.Report.TheVariants as report
 use Rattle.audit_core.proofs.Places.{at_index, holds_more, place_of, contained, smaller_before}
 use Rattle.audit_core.proofs.Whole.{as_log, has_finding, finding_at, held_at, log_held, ends_at, link_own}
 
@@ -55,17 +55,6 @@ pub link_next : (links : List Ends) (n : ℕ) (ends : Ends) (outcome : LinkOutco
     → IsOutcome ends outcome → outcome ≡ GoodLink delivered in_flight → HoldsBefore AreGoodEnds links n → HoldsBefore AreGoodEnds links (n + 1)
 link_next links n ends outcome delivered in_flight item lt means is before =
     holds_more AreGoodEnds links n ends (at_index links n ends item lt) (good_ends ends delivered in_flight (subst (IsOutcome ends) is means)) before
-
-pub first_broken : (links : List Ends) (n : ℕ) (ends : Ends) (outcome : LinkOutcome) (connection end message : ℕ) → ends ≡ get_or links n ends → n < length links
-    → IsOutcome ends outcome → outcome ≡ BrokenAt end message → connection ≡ ends.connection → HoldsBefore AreGoodEnds links n
-    → IsFirstNot AreGoodEnds (AreBadEnds (report.Link connection end message)) links
-first_broken links n ends outcome connection end message item lt means is number before = record {
-  place = n;
-  one = ends;
-  there = at_index links n ends item lt;
-  before = before;
-  so = record { end = end; message = message; line = ap (λ (k : ℕ). report.Link k end message) number; means = subst (IsOutcome ends) is means };
-}
 
 -- ---- the report that they make
 

@@ -16,7 +16,3 @@ pub mod Meaning
 pub mod Merging
 pub mod Versions
 pub mod Raising
-pub mod FoundLines
-pub mod FoundWhole
-pub mod FoundSums
-pub mod FoundOrder

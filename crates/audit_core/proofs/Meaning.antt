@@ -5,9 +5,9 @@ use Rattle.std.proofs.lemmas.Result.{IfOk-weaker}
 use Rattle.case_book.specs.Case.{Contents}
 use Rattle.audit_core.specs.Headline.{YesMeansHeadline}
 use Rattle.audit_core.specs.Report.{IsOrderFor, IsReport}
-use Rattle.audit_core.specs.declared.report.Breach.TheVariants.{Rule, Order}
-use Rattle.audit_core.specs.declared.report.Report.{Report}
-use Rattle.audit_core.specs.declared.report.Report.TheVariants as report
+use Rattle.case_report.specs.declared.report.Breach.TheVariants.{Rule, Order}
+use Rattle.case_report.specs.declared.report.Report.{Report}
+use Rattle.case_report.specs.declared.report.Report.TheVariants as report
 
 pub yes_means : (held : Contents) (given : Option (List ℕ)) (answer : Report) → IsReport held given answer → YesMeansHeadline held.logs answer
 yes_means held given (report.Vat vat at (Rule rule)) is = tt

@@ -7,7 +7,7 @@ use Rattle.vat_log.specs.declared.body.Body.{Body}
 use Rattle.vat_log.specs.declared.body.Body.TheVariants.{Host, Vow, Fulfil, Break, Make, Field, Deliver, Answer, Fault, Send, Receive, AnswerBy}
 use Rattle.vat_log.specs.Log.{Log}
 use Rattle.vat_log.specs.Migrated.{raised}
-use Rattle.merge_order.specs.Fits.{Part, sent_so_far, received_so_far, part_of, sent_by_the_others, may_follow, may_come_from, may_come, further, after, used_up, begin, FitsFrom, IsFitting, TakesLeastFrom, TakesLeast, fault_from, finding_at, finding_of_order}
+use Rattle.merge_order.specs.Fits.{Part, sent_so_far, received_so_far, part_of, sent_by_the_others, may_come_behind, may_come_from, may_come, further, after, used_up, begin, FitsFrom, IsFitting, TakesLeastFrom, TakesLeast, fault_from, finding_at, finding_of_order}
 
 -- a part of a log that is raised, as any log can be
 abbrev moved : Part → Part
@@ -35,7 +35,7 @@ others_moved v k (p ∷ ps) = go (others_moved v k ps) (p.log.vat == v)
         sum_by-cons (sent_so_far k) (moved p) (theirs (map moved ps)) ∙ ap (λ n. sent_so_far k p + n) rest
         ∙ sym (sum_by-cons (sent_so_far k) p (theirs ps))
 
-follow_moved : (v : ℕ) (ps : List Part) (own : Part) (next : Option Body) → may_follow v (map moved ps) (moved own) next ≡ may_follow v ps own next
+follow_moved : (v : ℕ) (ps : List Part) (own : Part) (next : Option Body) → may_come_behind v (map moved ps) (moved own) next ≡ may_come_behind v ps own next
 follow_moved v ps own None = refl
 follow_moved v ps own (Some (Host reference object)) = refl
 follow_moved v ps own (Some (Vow reference)) = refl

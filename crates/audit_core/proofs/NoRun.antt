@@ -8,9 +8,9 @@ use Rattle.merge_order.specs.Fits.{IsFitting, begin}
 use Rattle.case_book.specs.Case.{Contents, IsCase}
 use Rattle.audit_core.specs.Explained.{HasNoRun}
 use Rattle.audit_core.specs.Report.{IsReport, records_in}
-use Rattle.audit_core.specs.declared.report.Breach.TheVariants.{Rule, Order}
-use Rattle.audit_core.specs.declared.report.Report.{Report}
-use Rattle.audit_core.specs.declared.report.Report.TheVariants as report
+use Rattle.case_report.specs.declared.report.Breach.TheVariants.{Rule, Order}
+use Rattle.case_report.specs.declared.report.Report.{Report}
+use Rattle.case_report.specs.declared.report.Report.TheVariants as report
 use Rattle.audit_core.proofs.Explaining.{left_at_first, no_longer}
 use Rattle.audit_core.proofs.OneLine.{broken_is_bad, no_bad_link, no_bad_log, outside_is_bad}
 

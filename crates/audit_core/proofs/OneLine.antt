@@ -20,7 +20,7 @@ use Rattle.link_check.specs.Prefix.{Ends, IsOutcome, frames_received, frames_sen
 use Rattle.link_check.specs.declared.link_outcome.LinkOutcome.TheVariants.{Good as GoodLink, Broken as BrokenAt}
 use Rattle.link_check.proofs.Faults.{one_outcome as one_link_outcome, length_prefix}
 use Rattle.merge_order.specs.Fits.{IsFitting}
-use Rattle.merge_order.specs.declared.checking.OrderFinding.TheVariants.{Fits, Fails}
+use Rattle.merge_order.specs.declared.order_check.OrderFinding.TheVariants.{Fits, Fails}
 use Rattle.merge_order.proofs.Steps.{finding_fits}
 use Rattle.run_model.specs.Steps.{vat_of}
 use Rattle.run_model.specs.declared.step.Step.{Step}
@@ -40,9 +40,9 @@ use Rattle.case_book.specs.declared.link.Link.{Link}
 use Rattle.audit_core.specs.Headline.{Explains}
 use Rattle.audit_core.specs.Report.{IsGoodLog, AreGoodEnds, IsFirstBad, IsFirstBroken, IsGoodLink, AreGoodLogs, IsGoodCase, IsEarlyAt, IsYes, FailsAt, HasNoOrder, IsReport, line_in, IsFittingIfGiven, HoldsOfEach, IsGoodFinding}
 use Rattle.audit_core.specs.Glue.{line_of}
-use Rattle.audit_core.specs.declared.report.Breach.TheVariants.{Rule, Order}
-use Rattle.audit_core.specs.declared.report.Report.{Report}
-use Rattle.audit_core.specs.declared.report.Report.TheVariants as report
+use Rattle.case_report.specs.declared.report.Breach.TheVariants.{Rule, Order}
+use Rattle.case_report.specs.declared.report.Report.{Report}
+use Rattle.case_report.specs.declared.report.Report.TheVariants as report
 use Rattle.audit_core.proofs.Places.{from_map, each_so, place_of, contained, one_contained}
 use Rattle.audit_core.proofs.Explaining.{or_later}
 use Rattle.audit_core.proofs.Naming.{named_of}

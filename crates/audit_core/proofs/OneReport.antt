@@ -4,16 +4,16 @@ use Rattle.std.proofs.lemmas.Bool.{cases_lt, false≢true}
 use Rattle.vat_log.specs.Log.{Log}
 use Rattle.vat_rules.specs.declared.outcome.Outcome.TheVariants.{Broken, Outside}
 use Rattle.merge_order.specs.Fits.{Part, after, begin, IsFitting, TakesLeastFrom}
-use Rattle.merge_order.specs.declared.checking.OrderFinding.TheVariants.{Fails}
+use Rattle.merge_order.specs.declared.order_check.OrderFinding.TheVariants.{Fails}
 use Rattle.merge_order.proofs.Greedy.{none_left}
 use Rattle.run_model.specs.declared.step.Step.{Step}
 use Rattle.case_book.specs.Case.{Contents, IsCase}
 use Rattle.case_book.specs.Ties.{tie_fault_of}
 use Rattle.audit_core.specs.Headline.{Explains}
 use Rattle.audit_core.specs.Report.{IsGoodCase, IsOrderFor, FailsAt, HasNoOrder, IsReport, line_in, IsFittingIfGiven}
-use Rattle.audit_core.specs.declared.report.Breach.TheVariants.{Rule, Order}
-use Rattle.audit_core.specs.declared.report.Report.{Report}
-use Rattle.audit_core.specs.declared.report.Report.TheVariants as report
+use Rattle.case_report.specs.declared.report.Breach.TheVariants.{Rule, Order}
+use Rattle.case_report.specs.declared.report.Report.{Report}
+use Rattle.case_report.specs.declared.report.Report.TheVariants as report
 use Rattle.audit_core.proofs.OneLine.{no_bad_log, no_bad_link, broken_is_bad, outside_is_bad, fails_not, bad_line, broken_line, early_line, yes_line, none_line, one_run_of}
 
 -- ---- the order by which a case is judged is one

@@ -14,8 +14,8 @@ use Rattle.case_book.specs.Case.{Contents, IsCase, vat_limit, vats_of}
 use Rattle.case_book.specs.Ties.{tie_fault_of}
 use Rattle.audit_core.specs.Report.{IsGoodLog, IsReport}
 use Rattle.audit_core.specs.Versions.{with_raised}
-use Rattle.audit_core.specs.declared.report.Report.{Report}
-use Rattle.audit_core.specs.declared.report.Report.TheVariants as report
+use Rattle.case_report.specs.declared.report.Report.{Report}
+use Rattle.case_report.specs.declared.report.Report.TheVariants as report
 use Rattle.audit_core.proofs.Places.{from_map, place_of, contained}
 use Rattle.audit_core.proofs.OneLine.{one_graph}
 use Rattle.audit_core.proofs.OneReport.{same_report}

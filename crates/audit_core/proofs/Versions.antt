@@ -35,12 +35,12 @@ use Rattle.case_book.specs.declared.ties.TieFault.TheVariants.{MissingLog, SameE
 use Rattle.case_book.specs.Pieces.{IsComparisonOf}
 use Rattle.case_book.specs.declared.link.Link.{Link}
 use Rattle.audit_core.specs.Headline.{Explains, IsBalancedThroughout, records_of, taken_of}
-use Rattle.audit_core.specs.Report.{IsGoodLog, AreGoodEnds, IsFirstBad, IsFirstBroken, IsGoodLink, AreGoodLogs, AreGoodLinks, IsGoodCase, IsOrderFor, IsEarlyAt, IsYes, FailsAt, HasNoOrder, IsReport, delivers}
+use Rattle.audit_core.specs.Report.{IsGoodLog, AreGoodEnds, IsFirstBad, IsFirstBroken, IsGoodLink, AreGoodLogs, AreGoodLinks, IsGoodCase, IsOrderFor, IsEarlyAt, IsYes, FailsAt, HasNoOrder, IsReport, records_delivery}
 use Rattle.vat_log.specs.Passages.{sends, receives}
 use Rattle.audit_core.specs.Versions.{AreSameButVersions}
-use Rattle.audit_core.specs.declared.report.Breach.TheVariants.{Rule, Order}
-use Rattle.audit_core.specs.declared.report.Report.{Report}
-use Rattle.audit_core.specs.declared.report.Report.TheVariants as report
+use Rattle.case_report.specs.declared.report.Breach.TheVariants.{Rule, Order}
+use Rattle.case_report.specs.declared.report.Report.{Report}
+use Rattle.case_report.specs.declared.report.Report.TheVariants as report
 use Rattle.audit_core.proofs.Places.{from_map, place_of, contained}
 use Rattle.audit_core.proofs.Merging.{fits_same, least_same, finding_same}
 use Rattle.audit_core.proofs.OneLine.{one_graph}
@@ -247,7 +247,7 @@ module _ (logs others : List Log) (same : map raised logs ≡ map raised others)
     headline = record { explained = explains h.order run h.headline.explained; ordered = h.headline.ordered };
     vats_are = h.vats_are ∙ lengths_same;
     records_are = h.records_are ∙ sums_same length;
-    delivered_are = h.delivered_are ∙ sums_same (count_by delivers);
+    delivered_are = h.delivered_are ∙ sums_same (count_by records_delivery);
     under_way_are = h.under_way_are ∙ ap₂ (λ a b. a - b) (sums_same (count_by sends)) (sums_same (count_by receives));
   }
 

@@ -1,14 +1,15 @@
 -- For the code's contracts, and no part of the meaning: what is so of findings that stand at places of a list.
-use Rattle.std.specs.Prelude.{◌≡◌, ℕ, ◌+◌, ◌-◌, ◌*◌, ◌<◌, List, Option, Some, None, length, slice_get}
+use Rattle.std.specs.Prelude.{◌≡◌, ℕ, ◌+◌, ◌-◌, ◌*◌, ◌<◌, List, Option, Some, None, length, count_by, slice_get}
 use Rattle.vat_rules.specs.Audit.{Found, IsTrueOf}
 use Rattle.vat_rules.specs.declared.outcome.Outcome.{Outcome}
 use Rattle.vat_rules.specs.declared.outcome.Outcome.TheVariants.{Good, Broken, Outside}
 use Rattle.link_check.specs.Prefix.{Ends, IsOutcome, frames_sent, frames_received}
 use Rattle.link_check.specs.declared.link_outcome.LinkOutcome.TheVariants.{Broken as BrokenAt}
 use Rattle.case_book.specs.Case.{vat_limit}
-use Rattle.audit_core.specs.declared.report.Breach.TheVariants.{Rule}
-use Rattle.audit_core.specs.declared.report.Report.{Report}
-use Rattle.audit_core.specs.declared.report.Report.TheVariants as report
+use Rattle.audit_core.specs.Report.{records_delivery}
+use Rattle.case_report.specs.declared.report.Breach.TheVariants.{Rule}
+use Rattle.case_report.specs.declared.report.Report.{Report}
+use Rattle.case_report.specs.declared.report.Report.TheVariants as report
 
 -- how many records all logs of a case may have: each has 4,294,967,295 at most
 abbrev pub case_record_limit : ℕ
@@ -55,3 +56,7 @@ received_on ends = length (frames_received ends.connection ends.first) + length 
 -- how many were sent there and not received
 abbrev pub under_way_on : Ends → ℕ
 under_way_on ends = sent_on ends - received_on ends
+
+-- how many records of a log deliver a call
+abbrev pub delivered_by : Found → ℕ
+delivered_by found = count_by records_delivery found.log.records

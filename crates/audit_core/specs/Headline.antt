@@ -18,8 +18,8 @@ use Rattle.call_trace.specs.Balance.{IsBalanced}
 use Rattle.call_trace.specs.Findings.{AreEnds}
 use Rattle.call_trace.specs.InLife.{UsesLives}
 use Rattle.call_trace.specs.Part.{IsPart}
-use Rattle.audit_core.specs.declared.report.Report.{Report}
-use Rattle.audit_core.specs.declared.report.Report.TheVariants as report
+use Rattle.case_report.specs.declared.report.Report.{Report}
+use Rattle.case_report.specs.declared.report.Report.TheVariants as report
 
 -- the records of a log before number i, with their messages read within the default limits, the newest first
 abbrev pub records_before : Log → ℕ → Past

@@ -4,5 +4,4 @@ pub mod Lines
 pub mod Explained
 pub mod Refusals
 pub mod Glue
-pub mod Checking
 pub mod Versions

@@ -6,8 +6,8 @@ use Rattle.run_model.specs.declared.step.Step.{Step}
 use Rattle.case_book.specs.Case.{Contents}
 use Rattle.audit_core.specs.Headline.{IsHeadline}
 use Rattle.audit_core.specs.Report.{IsReport, line_in}
-use Rattle.audit_core.specs.declared.report.Report.{Report}
-use Rattle.audit_core.specs.declared.report.Report.TheVariants as report
+use Rattle.case_report.specs.declared.report.Report.{Report}
+use Rattle.case_report.specs.declared.report.Report.TheVariants as report
 
 -- it is the report of the case, and of an order or none, without the run
 pub record IsLineOf (held : Contents) (given : Option (List ℕ)) (answer : Report) : Type 0 where

@@ -13,7 +13,7 @@ use Rattle.vat_rules.specs.declared.outcome.Outcome.TheVariants.{Broken, Outside
 use Rattle.link_check.specs.Prefix.{Ends, IsPrefix, IsOutcome, frames_sent, frames_received}
 use Rattle.link_check.specs.declared.link_outcome.LinkOutcome.TheVariants.{Broken as BrokenAt}
 use Rattle.merge_order.specs.Fits.{IsFitting, TakesLeast, finding_of_order}
-use Rattle.merge_order.specs.declared.checking.OrderFinding.TheVariants.{Fails}
+use Rattle.merge_order.specs.declared.order_check.OrderFinding.TheVariants.{Fails}
 use Rattle.run_model.specs.declared.step.Step.{Step}
 use Rattle.run_model.specs.Early.{IsOrderFault}
 use Rattle.call_trace.specs.Findings.{is_good}
@@ -22,9 +22,9 @@ use Rattle.case_book.specs.Case.{Contents}
 use Rattle.case_book.specs.Pieces.{IsComparisonOf}
 use Rattle.case_book.specs.declared.link.Link.{Link}
 use Rattle.audit_core.specs.Headline.{Explains, IsHeadline}
-use Rattle.audit_core.specs.declared.report.Breach.TheVariants.{Rule, Order}
-use Rattle.audit_core.specs.declared.report.Report.{Report}
-use Rattle.audit_core.specs.declared.report.Report.TheVariants as report
+use Rattle.case_report.specs.declared.report.Breach.TheVariants.{Rule, Order}
+use Rattle.case_report.specs.declared.report.Report.{Report}
+use Rattle.case_report.specs.declared.report.Report.TheVariants as report
 
 -- every record of a log is good by the log's edition, within the default limits
 abbrev pub IsGoodLog : Log → Type 0
@@ -79,9 +79,9 @@ IsOrderFor logs (Some given) order = order ≡ given
 IsOrderFor logs None order = TakesLeast logs order
 
 -- a record delivers a call
-abbrev pub delivers : Body → Bool
-delivers (body.Deliver call object) = true
-delivers _ = false
+abbrev pub records_delivery : Body → Bool
+records_delivery (body.Deliver call object) = true
+records_delivery _ = false
 
 -- how many records of all logs pass a test
 abbrev pub count_all : (Body → Bool) → List Log → ℕ
@@ -108,7 +108,7 @@ pub record IsYes (logs : List Log) (given : Option (List ℕ)) (vats records del
   pub headline : IsHeadline logs order run
   pub vats_are : vats ≡ length logs
   pub records_are : records ≡ records_in logs
-  pub delivered_are : delivered ≡ count_all delivers logs
+  pub delivered_are : delivered ≡ count_all records_delivery logs
   pub under_way_are : under_way ≡ count_all sends logs - count_all receives logs
 
 -- the order that was given fails at this step

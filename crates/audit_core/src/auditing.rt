@@ -9,16 +9,16 @@ ghost use Rattle.audit_core.specs.Report.{IsReport};
 use crate::error::AuditError;
 use crate::gate::Gate;
 use crate::judging::{judge, judge_unordered};
-use crate::report::Report;
 use crate::working::work_together;
 use case_book::{Book, Case, Findings, TieFault};
+use case_report::Report;
 use merge_order::Order;
 use std::alloc::{AllocError, Global};
 use std::sync::{Mutex, Wait};
 use std::thread::Threads;
 
 /// How many workers there may be.
-const MAX_WORKERS: u32 = 64;
+pub const MAX_WORKERS: u32 = 64;
 
 /// Why a case isn't audited, but for running out of memory.
 pub(crate) fn refused(case: &Case, workers: u32) -> Option<AuditError>

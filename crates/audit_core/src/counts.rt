@@ -4,7 +4,7 @@
 ghost use Rattle.std.specs.Prelude.{◌≡◌, ◌≤◌, length, map, count_by, sum_by};
 ghost use Rattle.std.specs.Arc.{arc_value};
 ghost use Rattle.call_trace.specs.Findings.{logs_of};
-ghost use Rattle.audit_core.specs.Report.{AreGoodEnds, HoldsOfEach, IsGoodFinding, count_all, delivers, records_in};
+ghost use Rattle.audit_core.specs.Report.{AreGoodEnds, HoldsOfEach, IsGoodFinding, count_all, records_delivery, records_in};
 ghost use Rattle.audit_core.specs.Glue.{case_record_limit, under_way_on};
 ghost use Rattle.case_book.specs.Case.{vat_limit};
 
@@ -30,7 +30,7 @@ pub fn count_records(logs: &[Arc<VatLog>]) -> u64
 /// How many calls a good log delivers, as its audit counted them.
 fn delivered_in(found: &VatFinding) -> u64
     requires { IsGoodFinding found.now }
-    ensures { result ≡ count_by delivers found.now.log.records }
+    ensures { result ≡ count_by records_delivery found.now.log.records }
 {
     match found.outcome() {
         Outcome::Good(story) => story.delivered(),
@@ -42,7 +42,7 @@ fn delivered_in(found: &VatFinding) -> u64
 pub fn count_delivered(vats: &[VatFinding]) -> u64
     requires good { HoldsOfEach IsGoodFinding vats.now }
     requires few { records_in (logs_of vats.now) ≤ case_record_limit }
-    ensures { result ≡ count_all delivers (logs_of vats.now) }
+    ensures { result ≡ count_all records_delivery (logs_of vats.now) }
 {
     let mut count = 0;
     for found in vats {

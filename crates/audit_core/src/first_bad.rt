@@ -4,7 +4,7 @@ ghost use Rattle.std.specs.Prelude.{MatchOption};
 ghost use Rattle.audit_core.specs.Report.{AreGoodEnds, HoldsOfEach, IsGoodFinding};
 ghost use Rattle.audit_core.specs.Glue.{IsFirstNot, IsBadFinding, AreBadEnds};
 
-use crate::report::{Breach, Report};
+use case_report::{Breach, Report};
 use link_check::{LinkFinding, LinkOutcome};
 use vat_rules::{Outcome, VatFinding};
 

@@ -4,14 +4,14 @@ ghost use Rattle.std.specs.Prelude.{◌≡◌, ◌≤◌, ◌-◌, List, ℕ, Op
 ghost use Rattle.merge_order.specs.Fits.{IsFitting};
 ghost use Rattle.audit_core.specs.Glue.{case_record_limit};
 ghost use Rattle.audit_core.specs.Headline.{YesMeansHeadline};
-ghost use Rattle.audit_core.specs.Report.{IsReport, IsOrderFor, delivers, count_all, records_in, AreGoodFindings};
+ghost use Rattle.audit_core.specs.Report.{IsReport, IsOrderFor, records_delivery, count_all, records_in, AreGoodFindings};
 ghost use Rattle.vat_log.specs.Passages.{sends, receives};
 
 use crate::counts::{count_delivered, count_records, count_under_way};
 use crate::first_bad::{link_line, vat_line};
-use crate::report::{Breach, Report};
 use call_trace::{name_run, order_fault};
 use case_book::Findings;
+use case_report::{Breach, Report};
 use merge_order::{Order, OrderFinding, check_order, make_order};
 use run_model::Run;
 use std::alloc::{AllocError, Global};
@@ -33,7 +33,7 @@ fn yes(findings: &Findings, records: u64, run: Run) -> Report
     requires all { records ≡ records_in findings.now.case.logs }
     requires few { records ≤ case_record_limit }
     ensures { result ≡ Report.Yes (length findings.now.case.logs) (records_in findings.now.case.logs)
-        (count_all delivers findings.now.case.logs)
+        (count_all records_delivery findings.now.case.logs)
         (count_all sends findings.now.case.logs - count_all receives findings.now.case.logs) run }
 {
     Report::Yes {

@@ -13,8 +13,8 @@ ghost use Rattle.audit_core.specs.Report.{IsReport, IsGoodCase, IsFittingIfGiven
 ghost use Rattle.audit_core.specs.Versions.{AreSameButVersions, with_raised};
 ghost use Rattle.vat_log.specs.Log.{Log};
 ghost use Rattle.vat_log.specs.Migrated.{migrated};
-ghost use Rattle.audit_core.specs.declared.report.Report.{Report};
-ghost use Rattle.audit_core.specs.declared.report.Report.TheVariants.{Yes};
+ghost use Rattle.case_report.specs.declared.report.Report.{Report};
+ghost use Rattle.case_report.specs.declared.report.Report.TheVariants.{Yes};
 
 /// Which order it is doesn't matter: a case that ties up has one line, by whatever order that fits, and where none is given.
 /// A yes by another order has a run with the steps in another order.

@@ -4,8 +4,8 @@
 //! which names the run of good logs. Which report a case has, with an order or without one, is said in `specs/Report.antt`;
 //! [`audit`], [`judge`] and [`judge_unordered`] answer just that. What a yes means stands in `specs/Headline.antt`, clause by
 //! clause, and each of the three cites it (clause `headline`), as does [`audit_with_findings`], which also answers what was found of
-//! each log and each link; when a case isn't audited, in `specs/Refusals.antt`. [`check_case`] answers the report's line alone,
-//! and keeps no step of the run: what it answers stands in `specs/Lines.antt`. Laws: good
+//! each log and each link; when a case isn't audited, in `specs/Refusals.antt`. What is answered of a case whose run isn't kept, its
+//! line alone, stands in `specs/Lines.antt`, for those who read its logs in step. Laws: good
 //! findings of a case and an order that fits are such as name a run ([`good_findings_name_a_run`]), a case has one report by
 //! an order ([`a_case_has_one_report`]), also with logs migrated ([`versions_change_nothing`]), and one line, whichever order fits
 //! ([`a_case_has_one_line`]), and one graph ([`a_case_has_one_graph`]); and where it says yes, it says the same yes with logs
@@ -13,7 +13,6 @@
 #![tactic(auto)]
 
 mod auditing;
-mod checking;
 mod counts;
 mod error;
 mod first_bad;
@@ -21,12 +20,12 @@ mod found_run;
 mod gate;
 mod judging;
 mod laws;
-mod report;
+mod log_count;
 mod with_findings;
 mod working;
 
-pub use auditing::{audit, find_alone};
-pub use checking::{check_case, count_in_log};
+pub use auditing::{MAX_WORKERS, audit, find_alone};
+pub use case_report::{Breach, Report};
 pub use error::AuditError;
 pub use found_run::run_of_findings;
 pub use gate::Gate;
@@ -35,5 +34,5 @@ pub use laws::{
     a_case_has_one_graph, a_case_has_one_line, a_case_has_one_report, good_findings_name_a_run,
     raising_keeps_a_yes, versions_change_nothing,
 };
-pub use report::{Breach, Report};
+pub use log_count::count_in_log;
 pub use with_findings::audit_with_findings;

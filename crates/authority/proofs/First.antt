@@ -2,7 +2,7 @@
 use Rattle.std.proofs.Common.{◌≡◌, ◌∙◌, ◌⊎◌, inl, inr, refl, sym, ap, subst, List, [], ◌∷◌, ◌++◌, arith}
 use Rattle.run_model.specs.Edges.{Edge, IsForeign}
 use Rattle.run_model.specs.Steps.{OneOf}
-use Rattle.authority.specs.Glue.EdgeTables.{AddsFirst, ComesBefore, IsAlike, IsFound}
+use Rattle.authority.specs.Glue.EdgeTables.{AddsFirst, EdgeComesBefore, IsAlike, IsFound}
 
 -- ---- one of a list
 
@@ -33,13 +33,13 @@ one_from P x (y ∷ ys) (inr h) p = inr (one_from P x ys h p)
 
 -- ---- before
 
-never_both : (e f : Edge) → ComesBefore e f → ComesBefore f e → ⊥
+never_both : (e f : Edge) → EdgeComesBefore e f → EdgeComesBefore f e → ⊥
 never_both e f (inl l) (inl m) = omega (arith, l, m)
 never_both e f (inl l) (inr m) = omega (arith, l, m.0)
 never_both e f (inr l) (inl m) = omega (arith, l.0, m)
 never_both e f (inr l) (inr m) = omega (arith, l.1, m.1)
 
-pub never_itself : (e : Edge) → ComesBefore e e → ⊥
+pub never_itself : (e : Edge) → EdgeComesBefore e e → ⊥
 never_itself e l = never_both e e l l
 
 -- ---- one more
@@ -48,15 +48,15 @@ foreign_too : (e f : Edge) → IsAlike e f → IsForeign e.vat e.cap → IsForei
 foreign_too e f like h = subst (λ v. IsForeign v f.cap) (sym like.0) (subst (λ a. IsForeign e.vat a) (sym like.1) h)
 
 -- what is the first stays so, where only a later one comes
-stays_first : (old new : Edge → Type 0) (b : Edge) (edges : List Edge) → IsFound old edges → ((f : Edge) → new f → old f ⊎ (f ≡ b)) → ((f : Edge) → old f → f.vat ≡ b.vat → ComesBefore f b)
-    → (e : Edge) → OneOf (λ x. x ≡ e) edges → (f : Edge) → new f → IsAlike e f → ComesBefore f e → ⊥
+stays_first : (old new : Edge → Type 0) (b : Edge) (edges : List Edge) → IsFound old edges → ((f : Edge) → new f → old f ⊎ (f ≡ b)) → ((f : Edge) → old f → f.vat ≡ b.vat → EdgeComesBefore f b)
+    → (e : Edge) → OneOf (λ x. x ≡ e) edges → (f : Edge) → new f → IsAlike e f → EdgeComesBefore f e → ⊥
 stays_first old new b edges found only later e there f is like before = elim (only f is) [
   | inl was ↦ (found.sound e there).2 f was like before
-  | inr now ↦ never_both f e before (subst (λ x. ComesBefore e x) (sym now) (later e (found.sound e there).1 (sym like.0 ∙ ap (λ (x : Edge). x.vat) now)))
+  | inr now ↦ never_both f e before (subst (λ x. EdgeComesBefore e x) (sym now) (later e (found.sound e there).1 (sym like.0 ∙ ap (λ (x : Edge). x.vat) now)))
 ]
 
 pub found_more : (old new : Edge → Type 0) (b : Edge) (edges more : List Edge) → IsFound old edges → ((f : Edge) → new f → old f ⊎ (f ≡ b)) → ((f : Edge) → old f → new f) → new b
-    → ((f : Edge) → old f → f.vat ≡ b.vat → ComesBefore f b) → IsForeign b.vat b.cap → AddsFirst b edges more → IsFound new more
+    → ((f : Edge) → old f → f.vat ≡ b.vat → EdgeComesBefore f b) → IsForeign b.vat b.cap → AddsFirst b edges more → IsFound new more
 found_more old new b edges more found only kept here later foreign (inl same) =
     let one = one_found (IsAlike b) edges same.0 in
     subst (IsFound new) (sym same.1) (record {
@@ -64,7 +64,7 @@ found_more old new b edges more found only kept here later foreign (inl same) =
       covers = λ f is_foreign is. elim (only f is) [
         | inl was ↦ found.covers f is_foreign was
         | inr now ↦
-            subst (λ x. (e : Edge) × OneOf (λ y. y ≡ e) edges × IsAlike x e × (ComesBefore e x ⊎ (e ≡ x))) (sym now)
+            subst (λ x. (e : Edge) × OneOf (λ y. y ≡ e) edges × IsAlike x e × (EdgeComesBefore e x ⊎ (e ≡ x))) (sym now)
             (one.0, one.1, one.2, inl (later one.0 (found.sound one.0 one.1).1 one.2.0))
       ];
     })
@@ -74,14 +74,14 @@ found_more old new b edges more found only kept here later foreign (inr other) =
         | inl front ↦ ((found.sound e front).0, kept e (found.sound e front).1, stays_first old new b edges found only later e front)
         | inr back ↦ elim back [
           | inl is ↦
-              subst (λ x. IsForeign x.vat x.cap × new x × ((f : Edge) → new f → IsAlike x f → ComesBefore f x → ⊥)) is (
+              subst (λ x. IsForeign x.vat x.cap × new x × ((f : Edge) → new f → IsAlike x f → EdgeComesBefore f x → ⊥)) is (
                 foreign,
                 here,
                 λ f now like before. elim (only f now) [
                   | inl was ↦
                       let r = found.covers f (foreign_too b f like foreign) was in
                       other.0 (one_from (IsAlike b) r.0 edges r.1 (r.2.0 ∙ like.0, r.2.1 ∙ like.1))
-                  | inr same ↦ never_itself b (subst (λ x. ComesBefore x b) same before)
+                  | inr same ↦ never_itself b (subst (λ x. EdgeComesBefore x b) same before)
                 ],
               )
           | inr none ↦ absurd none
@@ -89,7 +89,7 @@ found_more old new b edges more found only kept here later foreign (inr other) =
       ];
       covers = λ f is_foreign is. elim (only f is) [
         | inl was ↦ let r = found.covers f is_foreign was in (r.0, one_front (λ x. x ≡ r.0) edges (b ∷ []) r.1, r.2, r.3)
-        | inr now ↦ subst (λ x. (e : Edge) × OneOf (λ y. y ≡ e) (edges ++ b ∷ []) × IsAlike x e × (ComesBefore e x ⊎ (e ≡ x))) (sym now) (b, one_back (λ y. y ≡ b) edges (b ∷ []) (inl refl), (refl, refl), inr refl)
+        | inr now ↦ subst (λ x. (e : Edge) × OneOf (λ y. y ≡ e) (edges ++ b ∷ []) × IsAlike x e × (EdgeComesBefore e x ⊎ (e ≡ x))) (sym now) (b, one_back (λ y. y ≡ b) edges (b ∷ []) (inl refl), (refl, refl), inr refl)
       ];
     })
 

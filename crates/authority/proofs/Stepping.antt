@@ -12,7 +12,7 @@ use Rattle.run_model.specs.declared.message.Message.{Message}
 use Rattle.run_model.specs.declared.step.Step.{Step}
 use Rattle.run_model.specs.declared.step.Step.TheVariants.{Host, Receive}
 use Rattle.run_model.proofs.Numbers.{IsNumbered, past_more}
-use Rattle.authority.specs.Glue.EdgeTables.{AddsFirst, ComesBefore, IsBoundIn, IsFound, IsFoundBefore, IsStepNumber, edge_at, foreign}
+use Rattle.authority.specs.Glue.EdgeTables.{AddsFirst, EdgeComesBefore, IsBoundIn, IsFound, IsFoundBefore, IsStepNumber, edge_at, foreign}
 use Rattle.authority.proofs.First.{found_more, found_own, found_same}
 use Rattle.authority.proofs.Bound.{came_before}
 
@@ -54,7 +54,7 @@ module _ (past : PastSteps) (v i : ℕ) (caps : List Cap) (p : ℕ) (a : Cap) (a
   kept f (inr was) = inr was
   kept f (inl h) = inl (h.0, h.1, omega (arith, h.2), h.3)
 
-  later : i ≡ count_steps (λ t. vat_of t == v) past → (f : Edge) → IsPartly past v i caps p f → f.vat ≡ v → ComesBefore f (edge_at v a i p)
+  later : i ≡ count_steps (λ t. vat_of t == v) past → (f : Edge) → IsPartly past v i caps p f → f.vat ≡ v → EdgeComesBefore f (edge_at v a i p)
   later number f (inl h) same = inr (h.1, h.2)
   later number f (inr was) same = inl (subst (λ n. f.at_record < n) (ap (λ w. count_steps (λ t. vat_of t == w) past) same ∙ sym number) (came_before past f was))
 

@@ -3,7 +3,7 @@
 use run_model::Cap;
 
 /// A vat came to have a capability of another vat by one of its steps.
-#[derive(Debug, Drop)]
+#[derive(Drop)]
 pub struct Edge {
     /// Which vat.
     pub vat: u32,

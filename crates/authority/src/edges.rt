@@ -11,7 +11,7 @@ use std::marker::Model;
 
 /// Which vat came to have which capability of another, and by which of its records first: by vat, then by record, then by
 /// index among the capabilities that the record binds. Contracts see it as the list of run_model's edges.
-#[derive(Debug, Drop)]
+#[derive(Drop)]
 pub struct Graph {
     edges: Vec<Edge>,
 }

@@ -21,7 +21,7 @@ use Rattle.vat_view.specs.Sound.{IsSound}
 use Rattle.decoded_records.specs.Views.{view_of_reference, view_of_target}
 use Rattle.decoded_records.specs.declared.request.Request.{Request}
 use Rattle.call_order.specs.Glue.Names.{name_come, name_in, IsCome, IsLeft, AreNamed}
-use Rattle.call_order.specs.declared.names.Names.{Names}
+use Rattle.call_order.specs.declared.names_of_calls.Names.{Names}
 
 -- ---- a record that doesn't bind a call neither names it nor brings it
 

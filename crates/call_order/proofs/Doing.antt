@@ -25,33 +25,33 @@ use Rattle.decoded_records.specs.Past.{Past, Each, last_answer}
 use Rattle.decoded_records.specs.Views.{view_of_reference}
 use Rattle.call_order.specs.Glue.Names.{name_come, name_in, IsCome, IsLeft, AreNamed}
 use Rattle.call_order.specs.Glue.UnderWay.{one_with, IsSent, AreUnderWay}
-use Rattle.call_order.specs.Glue.Told.{told_of}
+use Rattle.call_order.specs.Glue.Told.{calls_told}
 use Rattle.call_order.specs.Glue.Tables.{IsComeBy, IsDone}
 use Rattle.call_order.specs.declared.deeds.Deed.TheVariants as deed
-use Rattle.call_order.specs.declared.names.Names.{Names}
-use Rattle.call_order.specs.declared.tables.Tables.{Tables}
+use Rattle.call_order.specs.declared.names_of_calls.Names.{Names}
+use Rattle.call_order.specs.declared.order_tables.OrderTables.{OrderTables}
 use Rattle.call_order.proofs.Calling.{fresh, served_away, named_same, named_made, named_left, named_come}
 use Rattle.call_order.proofs.Flowing.{call_with, under_way_same, under_way_sent, under_way_received, got_it}
 use Rattle.call_order.proofs.Saying.{deed_in, has_no_call, said_none, said_call, heard_so}
 
 -- a record of a vat comes, says its step, and does what it does, where the tables are those of the steps before
-pub record IsTurn (v number : ℕ) (es : Past) (own before : List Step) (e : DecodedRecord) (s : Step) (old new : Tables) : Type 0 where
+pub record IsTurn (v number : ℕ) (es : Past) (own before : List Step) (e : DecodedRecord) (s : Step) (old new : OrderTables) : Type 0 where
   pub good : IsGood es e
   pub past : Each IsGood es
   pub says : Says v es own e s
   pub linked : EachStep IsLinked (s ∷ before)
   pub named : AreNamed v es own old.names
   pub under_way : AreUnderWay before old.under_way
-  pub told : (w : ℕ) → told_of old.told w ≡ moments_of w before
+  pub told : (w : ℕ) → calls_told old.told w ≡ moments_of w before
   pub counted : number ≡ count_steps (λ t. vat_of t == v) before
   pub done : IsDone v number (deed_in e) old new
 
 -- then they are those of its step too
-pub record IsTurned (v : ℕ) (es : Past) (own before : List Step) (e : DecodedRecord) (s : Step) (old new : Tables) : Type 0 where
+pub record IsTurned (v : ℕ) (es : Past) (own before : List Step) (e : DecodedRecord) (s : Step) (old new : OrderTables) : Type 0 where
   pub named : AreNamed v (e ∷ es) (s ∷ own) new.names
   pub others : (w d : ℕ) → (v == w) ≡ false → name_come new.names w d ≡ name_come old.names w d
   pub under_way : AreUnderWay (s ∷ before) new.under_way
-  pub told : (w : ℕ) → told_of new.told w ≡ moments_of w (s ∷ before)
+  pub told : (w : ℕ) → calls_told new.told w ≡ moments_of w (s ∷ before)
 
 only : {A : Type 0} (x y : A) (o : Option A) → o ≡ Some x → o ≡ Some y → x ≡ y
 only x y o h g = let same : Some x ≡ Some y = sym h ∙ g in cc
@@ -68,7 +68,7 @@ left_beside v c old new left w d apart = left w d ∙ ap (λ b. if b && (c == d)
 come_beside : (v c : ℕ) (name : Name) (old new : Names) → IsCome v c name old new → (w d : ℕ) → (v == w) ≡ false → name_come new w d ≡ name_come old w d
 come_beside v c name old new come w d apart = come w d ∙ ap (λ b. if b && (c == d) then Some name else name_come old w d) apart
 
-module _ (v number : ℕ) (es : Past) (own before : List Step) (old new : Tables) where
+module _ (v number : ℕ) (es : Past) (own before : List Step) (old new : OrderTables) where
   abbrev Turn : DecodedRecord → Step → Type 0
   Turn e s = IsTurn v number es own before e s old new
 
@@ -106,7 +106,7 @@ module _ (v number : ℕ) (es : Past) (own before : List Step) (old new : Tables
         under_way = subst (AreUnderWay (a ∷ before)) (sym t.done.2) (under_way_same before a (linked_at e s a name.2 t) old.under_way t.under_way refl);
         told = λ w.
             t.done.0 w
-            ∙ ap₂ (λ (n : Name) (p : ℕ). if n.maker == w then moment.Delivered n.number (v, p) ∷ told_of old.told w else told_of old.told w) same t.counted
+            ∙ ap₂ (λ (n : Name) (p : ℕ). if n.maker == w then moment.Delivered n.number (v, p) ∷ calls_told old.told w else calls_told old.told w) same t.counted
             ∙ ap (λ l. if name.0.maker == w then moment.Delivered name.0.number (v, count_steps (λ t. vat_of t == v) before) ∷ l else l) (t.told w);
       })
 
@@ -120,7 +120,7 @@ module _ (v number : ℕ) (es : Past) (own before : List Step) (old new : Tables
         named = named;
         others = left_beside v c old.names new.names left;
         under_way = under_way_sent before v k m (name_in old.names v c) (linked_at e s (step.Send v k m) is t) (call ∙ ap (λ n. Some n) (sym same)) old.under_way new.under_way t.under_way sent;
-        told = λ w. ap (λ x. told_of x w) untold ∙ t.told w;
+        told = λ w. ap (λ x. calls_told x w) untold ∙ t.told w;
       })
 
   booted : (k c : ℕ) (rs : List ℕ) (q : ℕ) (s : Step) → Turn (Wire true k c rs (Bootstrap q)) s → Turned (Wire true k c rs (Bootstrap q)) s
@@ -166,7 +166,7 @@ module _ (v number : ℕ) (es : Past) (own before : List Step) (old new : Tables
         named = named_come v es own e a old.names new.names (t.good rule.Ref) t.named c said.0 come binds (λ d here. ap (λ o. option_or o (call_named v es own d)) (names_it d a here ∙ is));
         others = come_beside v c said.0 old.names new.names come;
         under_way = under_way_received before v k h.message h.bound said.0 linked is old.under_way new.under_way t.under_way done.0.0 done.0.1;
-        told = λ w. ap (λ x. told_of x w) done.1 ∙ t.told w;
+        told = λ w. ap (λ x. calls_told x w) done.1 ∙ t.told w;
       })
 
   -- ---- a call ends
@@ -178,7 +178,7 @@ module _ (v number : ℕ) (es : Past) (own before : List Step) (old new : Tables
         named = named_left v es own e a old.names new.names (t.good rule.Ref) t.named c done.0 (λ d here h. absurd (away d here h)) (λ d apart. ap (contains d) binds);
         others = left_beside v c old.names new.names done.0;
         under_way = subst (AreUnderWay (a ∷ before)) (sym done.1) (under_way_same before a (linked_at e s a is t) old.under_way t.under_way none);
-        told = λ w. ap (λ x. told_of x w) done.2 ∙ t.told w ∙ sym (untold w);
+        told = λ w. ap (λ x. calls_told x w) done.2 ∙ t.told w ∙ sym (untold w);
       })
 
   not_served : (c d : ℕ) → Each IsGood es → is_served c es ≡ true → (c == d) ≡ true → is_at_vat d es ≡ true → ⊥
@@ -218,7 +218,7 @@ module _ (v number : ℕ) (es : Past) (own before : List Step) (old new : Tables
         named = named_same v es own e a old.names new.names (t.good rule.Ref) t.named (ap (λ x. x.names) same) binds;
         others = λ w d apart. ap (λ x. name_come x.names w d) same;
         under_way = subst (AreUnderWay (a ∷ before)) (ap (λ x. x.under_way) (sym same)) (under_way_same before a (linked_at e s a is t) old.under_way t.under_way none);
-        told = λ w. ap (λ x. told_of x.told w) same ∙ t.told w ∙ sym (untold w);
+        told = λ w. ap (λ x. calls_told x.told w) same ∙ t.told w ∙ sym (untold w);
       })
 
   sent_quietly : (k c : ℕ) (rs : List ℕ) (m : RpcMessage) (s : Step) → has_no_call m ≡ true → new_calls (Wire true k c rs m) ≡ [] → new ≡ old → Turn (Wire true k c rs m) s → Turned (Wire true k c rs m) s

@@ -17,12 +17,12 @@ use Rattle.run_model.specs.Steps.{EachStep}
 use Rattle.undelivered.proofs.OfRuns.{told_once, told_early}
 use Rattle.undelivered.specs.OfRuns.{moments_of}
 use Rattle.undelivered.specs.Order.{AreOnce, early}
-use Rattle.turn_taking.specs.Turns.{Turns, records_of, order_of, AreAll}
+use Rattle.turn_taking.specs.Turns.{Turns, records_taken, order_of, AreAll}
 use Rattle.vat_log.specs.declared.body.Body.{Body}
 use Rattle.vat_rules.specs.Audit.{Found}
 use Rattle.call_order.specs.Glue.Reached.{turns_unless, AreRead, AreKept, AreTablesOf}
-use Rattle.call_order.specs.Glue.Told.{told_of, AreAllOnce, IsEarlyIn, IsFaultIn}
-use Rattle.call_order.specs.declared.tables.Tables.{Tables}
+use Rattle.call_order.specs.Glue.Told.{calls_told, AreAllOnce, IsEarlyIn, IsFaultIn}
+use Rattle.call_order.specs.declared.order_tables.OrderTables.{OrderTables}
 use Rattle.call_order.specs.declared.told.Told.{Told}
 use Rattle.call_order.proofs.Least.{Place, In}
 use Rattle.call_order.proofs.Reading.{are_read}
@@ -36,7 +36,7 @@ all_in : (P : Place → Type 0) (xs : List Place) → ((q : Place) → In q xs �
 all_in P [] h = tt
 all_in P (x ∷ xs) h = (h x (inl refl), all_in P xs (λ q there. h q (inr there)))
 
-module _ (run : List Step) (told : Told) (legal : EachStep IsLegal (reverse run)) (linked : EachStep IsLinked (reverse run)) (is : (v : ℕ) → told_of told v ≡ moments_of v (reverse run)) where
+module _ (run : List Step) (told : Told) (legal : EachStep IsLegal (reverse run)) (linked : EachStep IsLinked (reverse run)) (is : (v : ℕ) → calls_told told v ≡ moments_of v (reverse run)) where
   all_once : AreAllOnce told
   all_once v = subst AreOnce (sym (is v)) (told_once (reverse run) legal linked v)
 
@@ -57,7 +57,7 @@ pub turns_held : (refused : Bool) (vats : List ℕ) (records : List Body) (turns
 turns_held true vats records turns h = absurd (let no : ⊥ = cc in no)
 turns_held false vats records turns h = (refl, cc)
 
-module _ (findings : List Found) (turns : Turns) (run : List Step) (tables : Tables) (all : AreAll (logs_of findings) turns) (true_all : AreTrue findings) (asked : MayBeNamed findings (order_of turns))
+module _ (findings : List Found) (turns : Turns) (run : List Step) (tables : OrderTables) (all : AreAll (logs_of findings) turns) (true_all : AreTrue findings) (asked : MayBeNamed findings (order_of turns))
     (is : IsRunOf findings (order_of turns) run) (reached : AreTablesOf turns tables) where
   steps : reverse (order_of turns) ≡ vats_of turns
   steps = reverse-reverse (vats_of turns)
@@ -65,7 +65,7 @@ module _ (findings : List Found) (turns : Turns) (run : List Step) (tables : Tab
   read : AreRead (row_of findings (order_of turns)) turns
   read =
       subst (λ l. AreRead (taken_by findings l) turns) (sym steps)
-      (are_read findings turns (λ log there. ([], all.taken log there ∙ sym (append-nil (records_of log.vat turns))))
+      (are_read findings turns (λ log there. ([], all.taken log there ∙ sym (append-nil (records_taken log.vat turns))))
       (subst (λ l. map (λ r. r.0) (taken_by findings l) ≡ l) steps (vats_taken findings (order_of turns) true_all asked (reverse (order_of turns)) ([], refl))))
 
   kept : AreKept (row_of findings (order_of turns)) (reverse run) tables

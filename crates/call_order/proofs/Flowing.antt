@@ -14,7 +14,7 @@ use Rattle.run_model.specs.Links.{IsEnd, IsLinked, CarriesNext, are_one, other_u
 use Rattle.run_model.specs.Steps.{EachStep, count_steps}
 use Rattle.run_model.specs.declared.step.Step.TheVariants as step
 use Rattle.call_order.specs.Glue.UnderWay.{calls_under_way, one_of, one_with, are_ends, are_alike, calls_to, IsSent, IsReceived, AreUnderWay}
-use Rattle.call_order.specs.declared.under_way.CallsUnderWay.{CallsUnderWay}
+use Rattle.call_order.specs.declared.calls_under_way.CallsUnderWay.{CallsUnderWay}
 use Rattle.call_order.proofs.Lists.{drop_some, drop_with, kept_last, are_one_less, is_that, any_more}
 
 -- the messages that were sent to a vat on a connection, and how many it received there

@@ -14,7 +14,7 @@ use Rattle.run_model.specs.Early.{IsAtMost, IsLeastOf}
 use Rattle.run_model.specs.Steps.{OneOf}
 use Rattle.undelivered.specs.Places.{is_at_most, lesser}
 use Rattle.undelivered.specs.Order.{PastCalls, AreOnce, IsFault, early}
-use Rattle.call_order.specs.Glue.Told.{told_of, AreAllOnce, IsEarlyIn, IsFaultIn}
+use Rattle.call_order.specs.Glue.Told.{calls_told, AreAllOnce, IsEarlyIn, IsFaultIn}
 use Rattle.call_order.specs.declared.told.Told.{Told}
 
 abbrev pub Place : Type 0
@@ -121,7 +121,7 @@ abbrev AreFound : Told → List (ℕ × PastCalls) → Type 0
 AreFound told entries = AllByRecursion (λ e. get nat_cmp told.vats e.0 ≡ Some e.1) entries
 
 module _ (told : Told) where
-  told_is : (e : ℕ × PastCalls) → get nat_cmp told.vats e.0 ≡ Some e.1 → told_of told e.0 ≡ e.1
+  told_is : (e : ℕ × PastCalls) → get nat_cmp told.vats e.0 ≡ Some e.1 → calls_told told e.0 ≡ e.1
   told_is e found = ap (λ o. unwrap_or o []) found
 
   all_once : (entries : List (ℕ × PastCalls)) → AreFound told entries → AreAllOnce told → AllByRecursion AreOnce (values_of entries)

@@ -9,6 +9,4 @@ mod Reading
 mod Least
 mod Finding
 mod Keys
-mod Logs
 mod OneFault
-mod Following

@@ -1,9 +1,9 @@
 -- The order fault of logs by one order that fits is theirs by any order.
-use Rattle.std.proofs.Common.{◌≡◌, ℕ, List, Option, reverse, sym, subst}
+use Rattle.std.proofs.Common.{ℕ, List, Option, reverse, sym, subst}
 use Rattle.call_order.specs.Fault.{IsFaultBy}
 use Rattle.call_trace.proofs.Good.{good_run}
 use Rattle.call_trace.proofs.Orders.{have_same_steps, references_kept}
-use Rattle.call_trace.specs.Findings.{AreTrue, MayBeNamed, logs_of}
+use Rattle.call_trace.specs.Findings.{MayBeNamed, logs_of}
 use Rattle.call_trace.specs.Named.{IsRunOf}
 use Rattle.call_trace.specs.Types.{Step}
 use Rattle.merge_order.specs.Fits.{IsFitting}

@@ -14,15 +14,15 @@ use Rattle.vat_log.specs.declared.body.Body.{Body}
 use Rattle.vat_rules.specs.Judged.{IsGood}
 use Rattle.vat_rules.specs.declared.rule.Rule.TheVariants as rule
 use Rattle.decoded_records.specs.Past.{Each}
-use Rattle.call_order.specs.Glue.Counts.{count_of, turns_counted}
+use Rattle.call_order.specs.Glue.Counts.{taken_count, turns_counted}
 use Rattle.call_order.specs.Glue.Deeds.{deed_of}
 use Rattle.call_order.specs.Glue.Names.{name_come, AreNamed}
 use Rattle.call_order.specs.Glue.UnderWay.{one_of, calls_to}
-use Rattle.call_order.specs.Glue.Told.{told_of}
+use Rattle.call_order.specs.Glue.Told.{calls_told}
 use Rattle.call_order.specs.Glue.Tables.{IsDone}
 use Rattle.call_order.specs.Glue.Reached.{AreRead, AreKept, AreTablesOf, IsReached}
-use Rattle.call_order.specs.declared.counts.Counts.{Counts}
-use Rattle.call_order.specs.declared.tables.Tables.{Tables}
+use Rattle.call_order.specs.declared.taken_counts.TakenCounts.{TakenCounts}
+use Rattle.call_order.specs.declared.order_tables.OrderTables.{OrderTables}
 use Rattle.call_order.proofs.Calling.{named_beside}
 use Rattle.call_order.proofs.Doing.{IsTurn, IsTurned, turned}
 use Rattle.call_order.proofs.Saying.{deed_is}
@@ -50,7 +50,7 @@ as_many_steps v (s ∷ before) (r ∷ row) (turn ∷ turns) by read =
 
 -- ---- one turn more
 
-module _ (turns : Turns) (v : ℕ) (body : Body) (tables new : Tables) (number : ℕ) (reached : AreTablesOf turns tables) (taken : number ≡ turns_counted v turns) (done : IsDone v number (deed_of body) tables new) where
+module _ (turns : Turns) (v : ℕ) (body : Body) (tables new : OrderTables) (number : ℕ) (reached : AreTablesOf turns tables) (taken : number ≡ turns_counted v turns) (done : IsDone v number (deed_of body) tables new) where
   module _ (e : DecodedRecord) (row : Row) (more : List Step) (read : AreRead ((v, e) ∷ row) ((v, body) ∷ turns)) (runs : MayRun ((v, e) ∷ row)) (named : IsNamedRow ((v, e) ∷ row) more) where
     next : IsNext v e row more
     next = named_next v e row more named
@@ -99,13 +99,13 @@ module _ (turns : Turns) (v : ℕ) (body : Body) (tables new : Tables) (number :
       subst (λ w. AreRead ((w, e) ∷ row) ((v, body) ∷ turns) → MayRun ((w, e) ∷ row) → IsNamedRow ((w, e) ∷ row) more → AreKept ((w, e) ∷ row) more new) (sym read.0) (kept_now e row more) read runs named
 
 -- a vat takes its turn, and its record does what it does
-pub reached_more : (turns : Turns) (v : ℕ) (body : Body) (tables new_tables : Tables) (counts new_counts : Counts) (number : ℕ) → IsReached turns tables counts → number ≡ count_of counts v →
-    ((w : ℕ) → count_of new_counts w ≡ (if v == w then count_of counts w + 1 else count_of counts w)) → IsDone v number (deed_of body) tables new_tables → IsReached ((v, body) ∷ turns) new_tables new_counts
+pub reached_more : (turns : Turns) (v : ℕ) (body : Body) (tables new_tables : OrderTables) (counts new_counts : TakenCounts) (number : ℕ) → IsReached turns tables counts → number ≡ taken_count counts v →
+    ((w : ℕ) → taken_count new_counts w ≡ (if v == w then taken_count counts w + 1 else taken_count counts w)) → IsDone v number (deed_of body) tables new_tables → IsReached ((v, body) ∷ turns) new_tables new_counts
 reached_more turns v body tables new_tables counts new_counts number reached taken further done = record {
   steps = tables_more turns v body tables new_tables number reached.steps (taken ∙ reached.numbers v) done;
   numbers = λ w. elim (cases_Bool (v == w)) [
-    | inl own ↦ further w ∙ ap (λ b. if b then count_of counts w + 1 else count_of counts w) own ∙ ap (λ n. n + 1) (reached.numbers w) ∙ sym (counted_own w (v, body) turns own)
-    | inr apart ↦ further w ∙ ap (λ b. if b then count_of counts w + 1 else count_of counts w) apart ∙ reached.numbers w ∙ sym (counted_other w (v, body) turns apart)
+    | inl own ↦ further w ∙ ap (λ b. if b then taken_count counts w + 1 else taken_count counts w) own ∙ ap (λ n. n + 1) (reached.numbers w) ∙ sym (counted_own w (v, body) turns own)
+    | inr apart ↦ further w ∙ ap (λ b. if b then taken_count counts w + 1 else taken_count counts w) apart ∙ reached.numbers w ∙ sym (counted_other w (v, body) turns apart)
   ];
 }
 
@@ -115,7 +115,7 @@ empty_steps : (before : List Step) → map vat_of before ≡ [] → before ≡ [
 empty_steps [] h = refl
 empty_steps (s ∷ before) h = absurd (let no : ⊥ = cc in no)
 
-module _ (tables : Tables) (names : (v c : ℕ) → name_come tables.names v c ≡ None) (ones : (k : ℕ) → one_of tables.under_way k ≡ None) (calls : (v k : ℕ) → calls_to tables.under_way v k ≡ []) (told : (v : ℕ) → told_of tables.told v ≡ []) where
+module _ (tables : OrderTables) (names : (v c : ℕ) → name_come tables.names v c ≡ None) (ones : (k : ℕ) → one_of tables.under_way k ≡ None) (calls : (v k : ℕ) → calls_to tables.under_way v k ≡ []) (told : (v : ℕ) → calls_told tables.told v ≡ []) where
   tables_begin : AreTablesOf [] tables
   tables_begin (r ∷ row) before read runs named = absurd read
   tables_begin [] before read runs named =
@@ -125,5 +125,5 @@ module _ (tables : Tables) (names : (v c : ℕ) → name_come tables.names v c �
         told = told;
       })
 
-  pub reached_begin : (counts : Counts) → ((v : ℕ) → count_of counts v ≡ 0) → IsReached [] tables counts
+  pub reached_begin : (counts : TakenCounts) → ((v : ℕ) → taken_count counts v ≡ 0) → IsReached [] tables counts
   reached_begin counts none = record { steps = tables_begin; numbers = none }

@@ -6,4 +6,3 @@ pub mod Told
 pub mod Tables
 pub mod Counts
 pub mod Reached
-pub mod Cursors

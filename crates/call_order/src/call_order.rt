@@ -5,9 +5,9 @@ ghost use Rattle.call_order.specs.Fault.{IsFaultBy};
 ghost use Rattle.turn_taking.specs.Turns.{Turns, AreAll, order_of};
 ghost use Rattle.vat_log.specs.Log.{Log};
 
-use crate::counts::Counts;
 use crate::deeds::deed_of;
-use crate::tables::Tables;
+use crate::order_tables::OrderTables;
+use crate::taken_counts::TakenCounts;
 use erased::Erased;
 use std::alloc::{AllocError, Global};
 use std::marker::Model;
@@ -16,8 +16,8 @@ use vat_log::Body;
 /// The order of calls, as vats take turns, each with the next record of its log. It keeps what is under way, and no record.
 /// Contracts see it as the turns so far, the newest first; as none, once memory was refused.
 pub struct CallOrder {
-    tables: Tables,
-    counts: Counts,
+    tables: OrderTables,
+    counts: TakenCounts,
     vats: Erased<u32>,
     records: Erased<Body>,
     is_refused: bool,
@@ -55,8 +55,8 @@ impl CallOrder {
         ensures { result ≡ Some [] }
     {
         CallOrder {
-            tables: Tables::new(alloc),
-            counts: Counts::new(alloc),
+            tables: OrderTables::new(alloc),
+            counts: TakenCounts::new(alloc),
             vats: Erased::new(),
             records: Erased::new(),
             is_refused: false,

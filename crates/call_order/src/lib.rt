@@ -5,21 +5,18 @@
 //! which finds where the calls of one vat are delivered out of their order. A [`CallOrder`] takes one turn after another. What
 //! it keeps is what is under way: the names of calls that came to a vat and haven't left it, those that were sent and not
 //! received, and those that were made and not delivered. No message is read, since the record that passes a call notes it.
-//! [`CallOrder::fault`] answers the order fault of the run (`specs/Fault.antt`), and so does [`call_order_fault`] where all
-//! logs are in memory. `specs/Glue` describes the tables, for the code's contracts alone.
+//! [`CallOrder::fault`] answers the order fault of the run (`specs/Fault.antt`), which doesn't depend on the order
+//! ([`orders_have_one_fault`]). `specs/Glue` describes the tables, for the code's contracts alone.
 #![tactic(auto)]
 
 mod call_order;
-mod counts;
-mod cursors;
+mod calls_under_way;
 mod deeds;
-mod fault;
 mod laws;
-mod names;
-mod tables;
+mod names_of_calls;
+mod order_tables;
+mod taken_counts;
 mod told;
-mod under_way;
 
 pub use call_order::CallOrder;
-pub use fault::call_order_fault;
 pub use laws::orders_have_one_fault;

@@ -1,7 +1,7 @@
 //! What was told of the calls of each vat.
 
 ghost use Rattle.std.specs.Prelude.{◌≡◌, ℕ, [], OnOk};
-ghost use Rattle.call_order.specs.Glue.Told.{told_of, IsTold, AreAllOnce, IsFaultIn};
+ghost use Rattle.call_order.specs.Glue.Told.{calls_told, IsToldMore, AreAllOnce, IsFaultIn};
 
 use std::alloc::{AllocError, Global};
 use std::collections::BTreeMap;
@@ -17,7 +17,7 @@ pub(crate) struct Told {
 impl Told {
     /// Before anything is told.
     pub(crate) fn new(alloc: Global) -> Told
-        ensures { (v : ℕ) → told_of result v ≡ [] }
+        ensures { (v : ℕ) → calls_told result v ≡ [] }
     {
         Told {
             alloc,
@@ -27,7 +27,7 @@ impl Told {
 
     /// Tells what becomes of a call of a vat.
     pub(crate) fn tell(&mut self, vat: u32, moment: &Moment) -> Result<(), AllocError>
-        ensures { OnOk result (IsTold vat moment.now self.old self.new) }
+        ensures { OnOk result (IsToldMore vat moment.now self.old self.new) }
     {
         match self.vats.get_mut(&vat) {
             Some(calls) => calls.take(moment),

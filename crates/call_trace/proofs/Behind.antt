@@ -11,7 +11,7 @@ use Rattle.run_model.specs.Right.{is_made_before, makes_through}
 use Rattle.run_model.specs.Steps.{PastSteps, call, is_same_call}
 use Rattle.run_model.specs.declared.step.Step.TheVariants.{Host, Make, Deliver}
 use Rattle.run_model.proofs.Numbers.{past_more}
-use Rattle.call_trace.specs.Glue.Overtaking.{latest_of, IsRaised, AreDeliveries, AreOvertaken}
+use Rattle.call_trace.specs.Glue.Overtaking.{latest_of, IsPlaceNoted, AreDeliveries, AreOvertaken}
 use Rattle.call_trace.specs.Types.{Name, Cap, Step}
 use Rattle.call_trace.specs.declared.latest.Latest.{Latest}
 use Rattle.call_trace.proofs.Noting.{later_if}
@@ -204,7 +204,7 @@ abbrev pub IsDelivered : List Step → ℕ → Latest → Type 0
 IsDelivered run i table = (c : Name) (k : ℕ) → nat_lt k (latest_of table c.maker c.number) ≡ list_any (delivers_call c) (drop k (take i run))
 
 pub delivered_more : (run : List Step) (i : ℕ) (s : Step) (v : ℕ) (d : Name) (o : ℕ) (old new : Latest) → i < length run → s ≡ get_or run i s → s ≡ Deliver v d o
-    → IsRaised d.maker d.number (i + 1) old new → IsDelivered run i old → IsDelivered run (i + 1) new
+    → IsPlaceNoted d.maker d.number (i + 1) old new → IsDelivered run i old → IsDelivered run (i + 1) new
 delivered_more run i s v d o old new lt at is raise before c k =
     ap (λ n. nat_lt k n) (raise c.maker c.number)
     ∙ later_if (is_same_call d c) k (i + 1) (latest_of old c.maker c.number)
@@ -225,7 +225,7 @@ IsReached run i references calls =
     × ((c : Name) (k : ℕ) → nat_lt k (latest_of calls c.maker c.number) ≡ is_behind c (drop k run) (reverse (take i run)))
 
 pub reached_more : (run : List Step) (i : ℕ) (s : Step) (w n : ℕ) (cap : Cap) (q f m : ℕ) (delivered references calls later_references later_calls : Latest) → i < length run → s ≡ get_or run i s
-    → s ≡ Make w n cap q f m → AreDeliveries run delivered → IsRaised w n (latest_of references w q) calls later_calls → IsRaised w q (latest_of delivered w n) references later_references
+    → s ≡ Make w n cap q f m → AreDeliveries run delivered → IsPlaceNoted w n (latest_of references w q) calls later_calls → IsPlaceNoted w q (latest_of delivered w n) references later_references
     → IsReached run i references calls → IsReached run (i + 1) later_references later_calls
 reached_more run i s w n cap q f m delivered references calls later_references later_calls lt at is are raise_call raise_reference before =
     let past : reverse (take (i + 1) run) ≡ Make w n cap q f m ∷ reverse (take i run) = past_more run i s lt at ∙ ap (λ t. t ∷ reverse (take i run)) is in (

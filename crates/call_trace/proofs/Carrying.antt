@@ -5,7 +5,7 @@ use Rattle.std.proofs.lemmas.List.{reverse-append, length-reverse}
 use Rattle.std.proofs.lemmas.List.Elements.{filter-append, filter_map-append}
 use Rattle.std.proofs.lemmas.Bool.{eq-eqb, cases_Bool, cases_lt}
 use Rattle.agree.specs.Points.{GoesOn, IsNth, AtEach}
-use Rattle.agree.specs.Rows.{Row, of_vat, log_of_vat, IsTheirs, IsShared}
+use Rattle.agree.specs.Rows.{Row, record_of_vat, log_of_vat, IsTheirs, IsShared}
 use Rattle.agree.specs.Streams.{passing, stream, IsPassed}
 use Rattle.agree.proofs.Cuts.{taken, turned, others_are}
 use Rattle.agree.proofs.Dying.{eqb_turns}
@@ -364,7 +364,7 @@ module _ (k v w : ℕ) (row : Row) (whole : List Step) (shared : IsShared k v w 
       let theirs : AtEach (IsTheirs k w v) b.0 = at_each_before (IsTheirs k w v) row b.0 earlier back.theirs in
       let others = others_are k w v b.0 back.apart theirs in
       let there = nth_there (passing k true) (length (stream k false to)) (log_of_vat v row) (log_of_vat v b.0) from sent
-      (record { there = p.sent_there; some = (m, p.sends); number = p.same_number }) (kept (of_vat v) row b.0 earlier)
+      (record { there = p.sent_there; some = (m, p.sends); number = p.same_number }) (kept (record_of_vat v) row b.0 earlier)
       (omega (arith, shared.fits b.0 (w, received) b.1 m p.receives, ap (λ l. length (stream k false l)) b.2, ap length others)) in
       let point = named_before b.1.0 ((w, received) ∷ b.0) whole (subst (λ r. IsNamedRow r whole) b.1.1 named) in
       let n = named_next w received b.0 point.before point.named in

@@ -11,7 +11,7 @@ use Rattle.run_model.proofs.Numbers.{past_more}
 use Rattle.run_model.proofs.Order.{ordered_unless_early}
 use Rattle.call_trace.specs.Types.{Step}
 use Rattle.call_trace.specs.declared.latest.Latest.{Latest}
-use Rattle.call_trace.specs.Glue.Overtaking.{AreOvertaken, goes_before, lesser}
+use Rattle.call_trace.specs.Glue.Overtaking.{AreOvertaken, goes_before, least_place_with}
 
 -- ---- counting
 
@@ -92,7 +92,7 @@ lesser_at : (b : Bool) (known place : ℕ × ℕ) (places : List (ℕ × ℕ)) �
 lesser_at true known place places below above least = (inr least.0, (below refl, least.1))
 lesser_at false known place places below above least = (inl refl, (at_most_itself place, all_through place known places (above refl) least.1))
 
-least_more : (known : Option (ℕ × ℕ)) (place : ℕ × ℕ) (places : List (ℕ × ℕ)) → IsLeastOf places known → IsLeastOf (place ∷ places) (Some (lesser known place))
+least_more : (known : Option (ℕ × ℕ)) (place : ℕ × ℕ) (places : List (ℕ × ℕ)) → IsLeastOf places known → IsLeastOf (place ∷ places) (Some (least_place_with known place))
 least_more None place places none = (inl refl, (at_most_itself place, subst (AllByRecursion (IsAtMost place)) (sym none) tt))
 least_more (Some known) place places least =
     lesser_at (nat_lt known.0 place.0 || ((known.0 == place.0) && nat_le known.1 place.1)) known place places (known_least known place) (place_least known place) least
@@ -119,14 +119,14 @@ early_more run i s lt at =
     else early_from (reverse run) l (reverse (take i run))) back
 
 pub fault_more : (run : List Step) (i : ℕ) (s : Step) (until : Latest) (vat number : ℕ) (known : Option (ℕ × ℕ)) → i < length run → s ≡ get_or run i s → AreOvertaken run until → vat ≡ vat_of s
-    → number ≡ count_steps (λ t. vat_of t == vat) (reverse (take i run)) → goes_before until (i + 1) s ≡ true → IsFault run i known → IsFault run (i + 1) (Some (lesser known (vat, number)))
+    → number ≡ count_steps (λ t. vat_of t == vat) (reverse (take i run)) → goes_before until (i + 1) s ≡ true → IsFault run i known → IsFault run (i + 1) (Some (least_place_with known (vat, number)))
 fault_more run i s until vat number known lt at are is count_is goes before =
     let place : (vat, number) ≡ (vat_of s, count_steps (λ t. vat_of t == vat_of s) (reverse (take i run))) =
     ap₂ {C = ℕ × ℕ} (λ v n. (v, n)) is (count_is ∙ ap (λ v. count_steps (λ t. vat_of t == v) (reverse (take i run))) is) in
     let all = early_more run i s lt at ∙ ap (λ b. if b then (vat_of s, count_steps (λ t. vat_of t == vat_of s) (reverse (take i run))) ∷ early_from (reverse run) (drop i run) (reverse (take i run))
     else early_from (reverse run) (drop i run) (reverse (take i run))) (sym (early_is run until (i + 1) s are) ∙ goes) in
-    subst (λ places. IsLeastOf places (Some (lesser known (vat, number)))) (sym all)
-    (subst (λ p. IsLeastOf (p ∷ early_from (reverse run) (drop i run) (reverse (take i run))) (Some (lesser known (vat, number)))) place
+    subst (λ places. IsLeastOf places (Some (least_place_with known (vat, number)))) (sym all)
+    (subst (λ p. IsLeastOf (p ∷ early_from (reverse run) (drop i run) (reverse (take i run))) (Some (least_place_with known (vat, number)))) place
     (least_more known (vat, number) (early_from (reverse run) (drop i run) (reverse (take i run))) before))
 
 pub fault_same : (run : List Step) (i : ℕ) (s : Step) (until : Latest) (known : Option (ℕ × ℕ)) → i < length run → s ≡ get_or run i s → AreOvertaken run until → goes_before until (i + 1) s ≡ false

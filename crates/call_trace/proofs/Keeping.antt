@@ -16,7 +16,7 @@ use Rattle.call_trace.specs.Naming.{Naming, naming, cap_at, names_call, call_nam
 use Rattle.call_trace.specs.Part.{reference_named, step_said}
 use Rattle.call_trace.specs.Running.{step_received, step_of}
 use Rattle.call_trace.specs.Said.{all_there}
-use Rattle.call_trace.specs.Glue.Ledgers.{step_message_in, call_name_in, cap_in, names_in, call_bound_by, bound_call, named_said, with_bound, received_step, step_by, pushed, IsBound, IsNoted, IsKept, HasStep, IsTaken}
+use Rattle.call_trace.specs.Glue.Ledgers.{step_message_in, call_name_in, cap_in, naming_by_tables, call_bound_by, bound_call, named_said, with_bound, step_of_receipt, step_said_by, pushed, IsBound, IsNoted, IsKept, HasStep, IsTaken}
 use Rattle.call_trace.proofs.Naming.{message_within}
 use Rattle.call_trace.proofs.Viewing.{step_as}
 use Rattle.run_model.specs.Has.{call_in_message}
@@ -199,7 +199,7 @@ binding_own v (Wire true k d references Abort) m own = refl
 
 -- how the tables name is how the records with their steps do, once the call that the record binds is named
 pub names_are : (v : ℕ) (es : Past) (own run : List Step) (e : DecodedRecord) (s : Step) (old new : VatLedger) → IsKept v es own run old → is_received e ≡ false →
-    IsBound (call_bound_by v e None) old new → names_in run new ≡ naming v (e ∷ es) (step.Host v 0 ∷ own)
+    IsBound (call_bound_by v e None) old new → naming_by_tables run new ≡ naming v (e ∷ es) (step.Host v 0 ∷ own)
 names_are v es own run e s old new kept mine bound = λ i. record {
   vat = (bound.vat ∙ kept.vat) i;
   call = λ c. calls c i;
@@ -217,7 +217,7 @@ names_are v es own run e s old new kept mine bound = λ i. record {
         (ap (λ ns. step_message_in run ns i) bound.numbers ∙ message_as run old.numbers.items own i kept.numbers ∙ sym (message_hosted v own i))
 
 -- so they name after the record and its step
-pub names_after : (v : ℕ) (es : Past) (own run : List Step) (ledger : VatLedger) → IsKept v es own run ledger → names_in run ledger ≡ naming v es own
+pub names_after : (v : ℕ) (es : Past) (own run : List Step) (ledger : VatLedger) → IsKept v es own run ledger → naming_by_tables run ledger ≡ naming v es own
 names_after v es own run ledger kept = λ i. record {
   vat = kept.vat i;
   call = λ c. kept.calls c i;
@@ -265,9 +265,9 @@ own_step_of v es own before (Wire false k c references m) mine = absurd (let non
 
 -- what it says by the tables and by its facts is its step
 pub own_step_is : (v : ℕ) (es : Past) (own run before : List Step) (e : DecodedRecord) (facts : Facts) (old new : VatLedger) → IsKept v es own run old → is_received e ≡ false →
-    facts ≡ facts_of es e → IsBound (call_bound_by v e None) old new → step_by (names_in run new) facts e ≡ step_of v es own before e
+    facts ≡ facts_of es e → IsBound (call_bound_by v e None) old new → step_said_by (naming_by_tables run new) facts e ≡ step_of v es own before e
 own_step_is v es own run before e facts old new kept mine is bound =
-    ap₂ (λ names known. step_by names known e) (names_are v es own run e (step.Host v 0) old new kept mine bound) is
+    ap₂ (λ names known. step_said_by names known e) (names_are v es own run e (step.Host v 0) old new kept mine bound) is
     ∙ step_as (naming v (e ∷ es) (step.Host v 0 ∷ own)) es e mine ∙ own_step_of v es own before e mine
 
 -- ---- the step of a record that is received
@@ -279,7 +279,7 @@ named_map names es (r ∷ rs) = ap (λ os. reference_named names es r ∷ os) (n
 -- what the references noted beside it are bound to, by the tables and by its facts
 pub received_binds : (v : ℕ) (es : Past) (own run : List Step) (k c : ℕ) (references : List ℕ) (m : RpcMessage) (message : Message) (facts : Facts) (ledger : VatLedger) →
     let e = Wire false k c references m in IsKept v (e ∷ es) (step.Receive v k message [] ∷ own) run ledger → facts ≡ facts_of es e →
-    option_map (λ bound. step.Receive v k message bound) (named_said (names_in run ledger) facts.references) ≡ step_received v es own e k references message
+    option_map (λ bound. step.Receive v k message bound) (named_said (naming_by_tables run ledger) facts.references) ≡ step_received v es own e k references message
 received_binds v es own run k c references m message facts ledger kept is =
     let e = Wire false k c references m in
     let names = naming v (e ∷ es) (step.Receive v k message [] ∷ own) in
@@ -309,7 +309,7 @@ some_is e = cc
 -- a record that isn't received took its step
 pub own_taken : (v : ℕ) (es : Past) (own before run taken : List Step) (e : DecodedRecord) (facts : Facts) (number : ℕ) (old bound new : VatLedger) (s : Step) →
     IsKept v es own run old → is_received e ≡ false → facts ≡ facts_of es e → IsBound (call_bound_by old.vat e None) old bound →
-    Some s ≡ step_by (names_in run bound) facts e → IsNoted number bound new → number ≡ length run → taken ≡ run ++ s ∷ [] →
+    Some s ≡ step_said_by (naming_by_tables run bound) facts e → IsNoted number bound new → number ≡ length run → taken ≡ run ++ s ∷ [] →
     IsTaken v es e own (step_of v es own before e) run taken new
 own_taken v es own before run taken e facts number old bound new s kept mine is b says n at more =
     let named : IsBound (call_bound_by v e None) old bound = subst (λ w. IsBound (call_bound_by w e None) old bound) kept.vat b in
@@ -321,24 +321,24 @@ own_taken v es own before run taken e facts number old bound new s kept mine is 
 -- it has none
 pub own_none : (v : ℕ) (es : Past) (own before run : List Step) (e : DecodedRecord) (facts : Facts) (old bound : VatLedger) →
     IsKept v es own run old → is_received e ≡ false → facts ≡ facts_of es e → IsBound (call_bound_by old.vat e None) old bound →
-    None ≡ step_by (names_in run bound) facts e → step_of v es own before e ≡ None
+    None ≡ step_said_by (naming_by_tables run bound) facts e → step_of v es own before e ≡ None
 own_none v es own before run e facts old bound kept mine is b says =
     sym (says ∙ own_step_is v es own run before e facts old bound kept mine is (subst (λ w. IsBound (call_bound_by w e None) old bound) kept.vat b))
 
 -- it has one, by the tables
 pub own_some : (run : List Step) (e : DecodedRecord) (facts : Facts) (old bound : VatLedger) → HasStep (λ v es own before. step_of v es own before e) e facts run old →
-    is_received e ≡ false → IsBound (call_bound_by old.vat e None) old bound → IsSome (step_by (names_in run bound) facts e)
+    is_received e ≡ false → IsBound (call_bound_by old.vat e None) old bound → IsSome (step_said_by (naming_by_tables run bound) facts e)
 own_some run e facts old bound has mine is =
     some_if _ (λ none. not_none _ has.there (own_none has.vat has.past has.own has.before run e facts old bound has.kept mine has.known is (sym none)))
 
 -- it took its step, where that stands behind those before
 pub own_pushed : (v : ℕ) (es : Past) (own before run taken : List Step) (e : DecodedRecord) (facts : Facts) (number : ℕ) (old bound new : VatLedger) →
     IsKept v es own run old → is_received e ≡ false → facts ≡ facts_of es e → IsBound (call_bound_by old.vat e None) old bound →
-    IsSome (step_by (names_in run bound) facts e) → taken ≡ pushed (step_by (names_in run bound) facts e) run → IsNoted number bound new → number ≡ length run →
+    IsSome (step_said_by (naming_by_tables run bound) facts e) → taken ≡ pushed (step_said_by (naming_by_tables run bound) facts e) run → IsNoted number bound new → number ≡ length run →
     IsTaken v es e own (step_of v es own before e) run taken new
-own_pushed v es own before run taken e facts number old bound new kept mine is b there more n long = at (step_by (names_in run bound) facts e) refl there more
+own_pushed v es own before run taken e facts number old bound new kept mine is b there more n long = at (step_said_by (naming_by_tables run bound) facts e) refl there more
   where
-    at : (o : Option Step) → o ≡ step_by (names_in run bound) facts e → IsSome o → taken ≡ pushed o run → IsTaken v es e own (step_of v es own before e) run taken new
+    at : (o : Option Step) → o ≡ step_said_by (naming_by_tables run bound) facts e → IsSome o → taken ≡ pushed o run → IsTaken v es e own (step_of v es own before e) run taken new
     at (Some s) says some more = own_taken v es own before run taken e facts number old bound new s kept mine is b says n long more
     at None says some more = absurd (let no : ⊥ = cc in no)
 
@@ -348,7 +348,7 @@ received_said : (v : ℕ) (es : Past) (own run pushed : List Step) (k c : ℕ) (
     IsKept v es own run old → facts ≡ facts_of es e → IsBound (call_bound_by old.vat e (Some message)) old bound → IsNoted number bound new → number ≡ length run →
     w ≡ new.vat → pushed ≡ run ++ step.Receive w k message [] ∷ [] →
     (pushed ≡ run ++ step.Receive v k message [] ∷ [])
-    × (option_map (λ b. step.Receive v k message b) (named_said (names_in pushed new) facts.references) ≡ step_received v es own e k references message)
+    × (option_map (λ b. step.Receive v k message b) (named_said (naming_by_tables pushed new) facts.references) ≡ step_received v es own e k references message)
     × ((b : List Cap) → IsKept v (e ∷ es) (step.Receive v k message b ∷ own) (run ++ step.Receive v k message b ∷ []) new)
 received_said v es own run pushed k c references m message facts number old bound new w kept is b n at whose more =
     let e = Wire false k c references m in
@@ -364,7 +364,7 @@ received_said v es own run pushed k c references m message facts number old boun
 pub received_taken : (v : ℕ) (es : Past) (own run pushed taken : List Step) (k c : ℕ) (references : List ℕ) (m : RpcMessage) (message : Message) (facts : Facts)
     (number : ℕ) (old bound new : VatLedger) (w : ℕ) (caps : List Cap) → let e = Wire false k c references m in
     IsKept v es own run old → facts ≡ facts_of es e → IsBound (call_bound_by old.vat e (Some message)) old bound → IsNoted number bound new → number ≡ length run →
-    w ≡ new.vat → pushed ≡ run ++ step.Receive w k message [] ∷ [] → Some caps ≡ named_said (names_in pushed new) facts.references →
+    w ≡ new.vat → pushed ≡ run ++ step.Receive w k message [] ∷ [] → Some caps ≡ named_said (naming_by_tables pushed new) facts.references →
     taken ≡ run ++ step.Receive w k message caps ∷ [] →
     IsTaken v es e own (step_received v es own e k references message) run taken new
 received_taken v es own run pushed taken k c references m message facts number old bound new w caps kept is b n at whose more says again =
@@ -378,7 +378,7 @@ received_taken v es own run pushed taken k c references m message facts number o
 pub received_none : (v : ℕ) (es : Past) (own run pushed : List Step) (k c : ℕ) (references : List ℕ) (m : RpcMessage) (message : Message) (facts : Facts)
     (number : ℕ) (old bound new : VatLedger) (w : ℕ) → let e = Wire false k c references m in
     IsKept v es own run old → facts ≡ facts_of es e → IsBound (call_bound_by old.vat e (Some message)) old bound → IsNoted number bound new → number ≡ length run →
-    w ≡ new.vat → pushed ≡ run ++ step.Receive w k message [] ∷ [] → None ≡ named_said (names_in pushed new) facts.references →
+    w ≡ new.vat → pushed ≡ run ++ step.Receive w k message [] ∷ [] → None ≡ named_said (naming_by_tables pushed new) facts.references →
     step_received v es own e k references message ≡ None
 received_none v es own run pushed k c references m message facts number old bound new w kept is b n at whose more says =
     let said = received_said v es own run pushed k c references m message facts number old bound new w kept is b n at whose more in
@@ -388,8 +388,8 @@ received_none v es own run pushed k c references m message facts number old boun
 abbrev Takes : DecodedRecord → ℕ → Type 0
 Takes e k = (v : ℕ) (es : Past) (own run pushed taken : List Step) (message : Message) (facts : Facts) (number : ℕ) (old bound new : VatLedger) (w : ℕ) (caps : List Cap)
     → IsKept v es own run old → facts ≡ facts_of es e → IsBound (call_bound_by old.vat e (Some message)) old bound → IsNoted number bound new →
-    number ≡ length run → w ≡ new.vat → pushed ≡ run ++ step.Receive w k message [] ∷ [] → Some caps ≡ named_said (names_in pushed new) facts.references →
-    taken ≡ run ++ step.Receive w k message caps ∷ [] → IsTaken v es e own (received_step v es own e message) run taken new
+    number ≡ length run → w ≡ new.vat → pushed ≡ run ++ step.Receive w k message [] ∷ [] → Some caps ≡ named_said (naming_by_tables pushed new) facts.references →
+    taken ≡ run ++ step.Receive w k message caps ∷ [] → IsTaken v es e own (step_of_receipt v es own e message) run taken new
 
 pub takes : (e : DecodedRecord) → is_received e ≡ true → (sent : Bool) (k c : ℕ) (references : List ℕ) (m : RpcMessage) → Wire sent k c references m ≡ e → Takes e k
 takes e h sent k c references m is = subst (λ e. is_received e ≡ true → Takes e k) is (at sent) h
@@ -410,8 +410,8 @@ last_bound run pushed taken w k message caps number was new more at stood is all
 abbrev TakesNone : DecodedRecord → ℕ → Type 0
 TakesNone e k = (v : ℕ) (es : Past) (own run pushed : List Step) (message : Message) (facts : Facts) (number : ℕ) (old bound new : VatLedger) (w : ℕ) →
     IsKept v es own run old → facts ≡ facts_of es e → IsBound (call_bound_by old.vat e (Some message)) old bound → IsNoted number bound new →
-    number ≡ length run → w ≡ new.vat → pushed ≡ run ++ step.Receive w k message [] ∷ [] → None ≡ named_said (names_in pushed new) facts.references →
-    received_step v es own e message ≡ None
+    number ≡ length run → w ≡ new.vat → pushed ≡ run ++ step.Receive w k message [] ∷ [] → None ≡ named_said (naming_by_tables pushed new) facts.references →
+    step_of_receipt v es own e message ≡ None
 
 pub takes_none : (e : DecodedRecord) → is_received e ≡ true → (sent : Bool) (k c : ℕ) (references : List ℕ) (m : RpcMessage) → Wire sent k c references m ≡ e → TakesNone e k
 takes_none e h sent k c references m is = subst (λ e. is_received e ≡ true → TakesNone e k) is (at sent) h

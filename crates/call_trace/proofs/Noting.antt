@@ -2,10 +2,10 @@
 use Rattle.std.proofs.Common.{◌≡◌, ℕ, refl, ◌==◌, Bool, true, false, ◌&&◌, ◌||◌, if◌then◌else◌, arith, max, nat_lt}
 use Rattle.std.specs.Ordering.{is_eq}
 use Rattle.std.proofs.lemmas.Bool.Decides.{nat_tests}
-use Rattle.call_trace.specs.Glue.Overtaking.{key_cmp}
+use Rattle.call_trace.specs.Glue.Overtaking.{vat_number_cmp}
 
 -- keys are one where both parts are
-pub at_key : (vat number v n : ℕ) → is_eq (key_cmp (vat, number) (v, n)) ≡ ((vat == v) && (number == n))
+pub at_key : (vat number v n : ℕ) → is_eq (vat_number_cmp (vat, number) (v, n)) ≡ ((vat == v) && (number == n))
 at_key vat number v n = grind (arith, nat_tests)
 
 later_max : (k p old : ℕ) → nat_lt k (max p old) ≡ (nat_lt k p || nat_lt k old)

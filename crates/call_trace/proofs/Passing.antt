@@ -8,10 +8,10 @@ use Rattle.std.proofs.lemmas.Bool.{and_parts, eq-eqb, eqb-true, ne_eqb}
 use Rattle.std.proofs.lemmas.Bool.Decides.{nat_tests}
 use Rattle.std.proofs.lemmas.List.{take_more, length_push, reverse-append, length-reverse, append-nil, map-append}
 use Rattle.std.proofs.lemmas.List.Elements.{filter_map-append}
-use Rattle.call_trace.specs.Glue.Channels.{sends_on, passed_on, by_other, by_others, sends_of, message_by, AreLines}
+use Rattle.call_trace.specs.Glue.Channels.{noted_sends, sends_behind, by_other, by_others, sends_of, message_by, AreLines}
 use Rattle.call_trace.proofs.Noting.{at_key}
 use Rattle.call_trace.specs.Naming.{message_of_step, message_at}
-use Rattle.call_trace.specs.Glue.Overtaking.{key_cmp}
+use Rattle.call_trace.specs.Glue.Overtaking.{vat_number_cmp}
 use Rattle.call_trace.specs.Running.{coming_next}
 use Rattle.call_trace.specs.Types.{Message, Step, Cap}
 use Rattle.call_trace.specs.declared.steps.channels.Channels.{Channels}
@@ -169,67 +169,67 @@ by_numbers before (Some i) = sym (by_number before i)
 
 -- this is the place of the first of the others' sends that a vat has before it, or one behind them all
 pub record IsFirst (v k : ℕ) (table : Channels) (place : ℕ) : Type 0 where
-  pub none_between : by_others v (take place (sends_on table k)) ≡ by_others v (take (passed_on table v k) (sends_on table k))
-  pub other : place < length (sends_on table k) → (get_or (sends_on table k) place (0, 0)).0 ≢ v
+  pub none_between : by_others v (take place (noted_sends table k)) ≡ by_others v (take (sends_behind table v k) (noted_sends table k))
+  pub other : place < length (noted_sends table k) → (get_or (noted_sends table k) place (0, 0)).0 ≢ v
 
-pub is_first : (v k : ℕ) (table : Channels) (place from : ℕ) (sends : List (ℕ × ℕ)) → sends ≡ sends_on table k → from ≡ passed_on table v k → by_others v (take place sends) ≡ by_others v (take from sends)
+pub is_first : (v k : ℕ) (table : Channels) (place from : ℕ) (sends : List (ℕ × ℕ)) → sends ≡ noted_sends table k → from ≡ sends_behind table v k → by_others v (take place sends) ≡ by_others v (take from sends)
     → (place < length sends → (get_or sends place (0, 0)).0 ≢ v) → IsFirst v k table place
 is_first v k table place from sends is begins none_between other =
     record {
-      none_between = subst (λ l. by_others v (take place l) ≡ by_others v (take (passed_on table v k) l)) is (none_between ∙ ap (λ n. by_others v (take n sends)) begins);
+      none_between = subst (λ l. by_others v (take place l) ≡ by_others v (take (sends_behind table v k) l)) is (none_between ∙ ap (λ n. by_others v (take n sends)) begins);
       other = subst (λ l. place < length l → (get_or l place (0, 0)).0 ≢ v) is other;
     }
 
 comes_next : (v k : ℕ) (before : List Step) (table : Channels) (place : ℕ) → AreLines before table → IsFirst v k table place
-    → coming_next v k before ≡ option_and_then (message_by before) (option_map (λ x. x.1) (slice_get (sends_on table k) place))
+    → coming_next v k before ≡ option_and_then (message_by before) (option_map (λ x. x.1) (slice_get (noted_sends table k) place))
 comes_next v k before table place are first =
-    let so_many : count_steps (receives_on v k) before ≡ length (by_others v (take place (sends_on table k))) = sym (are.received v k) ∙ sym (ap (λ l. length l) first.none_between) in
+    let so_many : count_steps (receives_on v k) before ≡ length (by_others v (take place (noted_sends table k))) = sym (are.received v k) ∙ sym (ap (λ l. length l) first.none_between) in
     at_one (λ i. message_at i before) (filter_map (sent_to v k) (reverse before)) (by_others v (sends_of k before)) (count_steps (receives_on v k) before) (are_sent v k before)
     ∙ ap₂ (λ l n. option_and_then (λ i. message_at i before) (slice_get (by_others v l) n)) (sym (are.sends k)) so_many
-    ∙ ap (option_and_then (λ i. message_at i before)) (first_there v (sends_on table k) place first.other)
-    ∙ by_numbers before (option_map (λ x. x.1) (slice_get (sends_on table k) place))
+    ∙ ap (option_and_then (λ i. message_at i before)) (first_there v (noted_sends table k) place first.other)
+    ∙ by_numbers before (option_map (λ x. x.1) (slice_get (noted_sends table k) place))
 
-pub nothing_comes : (v k : ℕ) (before : List Step) (table : Channels) (place : ℕ) → AreLines before table → IsFirst v k table place → length (sends_on table k) ≤ place → coming_next v k before ≡ None
+pub nothing_comes : (v k : ℕ) (before : List Step) (table : Channels) (place : ℕ) → AreLines before table → IsFirst v k table place → length (noted_sends table k) ≤ place → coming_next v k before ≡ None
 nothing_comes v k before table place are first le =
-    comes_next v k before table place are first ∙ ap (λ o. option_and_then (message_by before) (option_map (λ x. x.1) o)) (slice_get_past (sends_on table k) place le)
+    comes_next v k before table place are first ∙ ap (λ o. option_and_then (message_by before) (option_map (λ x. x.1) o)) (slice_get_past (noted_sends table k) place le)
 
-pub one_comes : (v k : ℕ) (before : List Step) (table : Channels) (place : ℕ) (x : ℕ × ℕ) → AreLines before table → IsFirst v k table place → slice_get (sends_on table k) place ≡ Some x
+pub one_comes : (v k : ℕ) (before : List Step) (table : Channels) (place : ℕ) (x : ℕ × ℕ) → AreLines before table → IsFirst v k table place → slice_get (noted_sends table k) place ≡ Some x
     → coming_next v k before ≡ message_by before x.1
 one_comes v k before table place x are first there = comes_next v k before table place are first ∙ ap (λ o. option_and_then (message_by before) (option_map (λ x. x.1) o)) there
 
 -- ---- the table, one step further
 
 -- a receipt
-pub received_more : (v k : ℕ) (m : Message) (bound : List Cap) (before : List Step) (place : ℕ) (old new : Channels) → AreLines before old → IsFirst v k old place → place < length (sends_on old k)
-    → ((n : ℕ) → sends_on new n ≡ sends_on old n) → ((w n : ℕ) → passed_on new w n ≡ (if (v == w) && (k == n) then place + 1 else passed_on old w n))
+pub received_more : (v k : ℕ) (m : Message) (bound : List Cap) (before : List Step) (place : ℕ) (old new : Channels) → AreLines before old → IsFirst v k old place → place < length (noted_sends old k)
+    → ((n : ℕ) → noted_sends new n ≡ noted_sends old n) → ((w n : ℕ) → sends_behind new w n ≡ (if (v == w) && (k == n) then place + 1 else sends_behind old w n))
     → AreLines (Receive v k m bound ∷ before) new
 received_more v k m bound before place old new are first lt sends passed =
     record {
       sends = λ n. sends n ∙ are.sends n;
-      within = λ w n. subst (λ l. passed_on new w n ≤ length l) (sym (sends n)) (subst (λ p. p ≤ length (sends_on old n)) (sym (passed w n)) (far w n ((v == w) && (k == n)) refl));
+      within = λ w n. subst (λ l. sends_behind new w n ≤ length l) (sym (sends n)) (subst (λ p. p ≤ length (noted_sends old n)) (sym (passed w n)) (far w n ((v == w) && (k == n)) refl));
       received = λ w n. ap₂ (λ p l. length (by_others w (take p l))) (passed w n) (sends n) ∙ so_far w n ((v == w) && (k == n)) refl;
     }
   where
     same_place : (w n : ℕ) → ((v == w) && (k == n)) ≡ true → (v ≡ w) × (k ≡ n)
     same_place w n e = let parts = and_parts _ _ e in (eqb-true v w parts.0, eqb-true k n parts.1)
 
-    far : (w n : ℕ) (b : Bool) → ((v == w) && (k == n)) ≡ b → (if b then place + 1 else passed_on old w n) ≤ length (sends_on old n)
-    far w n true e = subst (λ n. place + 1 ≤ length (sends_on old n)) (same_place w n e).1 (omega (arith, lt))
+    far : (w n : ℕ) (b : Bool) → ((v == w) && (k == n)) ≡ b → (if b then place + 1 else sends_behind old w n) ≤ length (noted_sends old n)
+    far w n true e = subst (λ n. place + 1 ≤ length (noted_sends old n)) (same_place w n e).1 (omega (arith, lt))
     far w n false e = are.within w n
 
-    one_more : length (by_others v (take (place + 1) (sends_on old k))) ≡ suc (count_steps (receives_on v k) before)
+    one_more : length (by_others v (take (place + 1) (noted_sends old k))) ≡ suc (count_steps (receives_on v k) before)
     one_more =
-        let longer = ap (λ l. length l) (other_passed v (sends_on old k) place lt (ne_eqb _ v (first.other lt))) in
-        let pushed = length_push (by_others v (take place (sends_on old k))) (get_or (sends_on old k) place (0, 0)).1 in
+        let longer = ap (λ l. length l) (other_passed v (noted_sends old k) place lt (ne_eqb _ v (first.other lt))) in
+        let pushed = length_push (by_others v (take place (noted_sends old k))) (get_or (noted_sends old k) place (0, 0)).1 in
         let before_it = ap (λ l. length l) first.none_between ∙ are.received v k in
         omega (arith, longer, pushed, before_it)
 
     so_far : (w n : ℕ) (b : Bool) → ((v == w) && (k == n)) ≡ b
-        → length (by_others w (take (if b then place + 1 else passed_on old w n) (sends_on old n))) ≡ (if b then suc (count_steps (receives_on w n) before) else count_steps (receives_on w n) before)
+        → length (by_others w (take (if b then place + 1 else sends_behind old w n) (noted_sends old n))) ≡ (if b then suc (count_steps (receives_on w n) before) else count_steps (receives_on w n) before)
     so_far w n true e =
         let same = same_place w n e in
-        subst (λ w. length (by_others w (take (place + 1) (sends_on old n))) ≡ suc (count_steps (receives_on w n) before)) same.0
-        (subst (λ n. length (by_others v (take (place + 1) (sends_on old n))) ≡ suc (count_steps (receives_on v n) before)) same.1 one_more)
+        subst (λ w. length (by_others w (take (place + 1) (noted_sends old n))) ≡ suc (count_steps (receives_on w n) before)) same.0
+        (subst (λ n. length (by_others v (take (place + 1) (noted_sends old n))) ≡ suc (count_steps (receives_on v n) before)) same.1 one_more)
     so_far w n false e = are.received w n
 
 -- a step that neither sends nor receives
@@ -240,7 +240,7 @@ other_more (Host v o) before table none are = record { sends = are.sends; within
 other_more s before table none are = record { sends = are.sends; within = are.within; received = are.received }
 
 -- a number put into the table of what is passed
-pub put_number : (f g : ℕ × ℕ → Option ℕ) (v k place : ℕ) → ((q : ℕ × ℕ) → g q ≡ cond (is_eq (key_cmp (v, k) q)) (Some place) (f q))
+pub put_number : (f g : ℕ × ℕ → Option ℕ) (v k place : ℕ) → ((q : ℕ × ℕ) → g q ≡ cond (is_eq (vat_number_cmp (v, k) q)) (Some place) (f q))
     → (w n : ℕ) → unwrap_or (g (w, n)) 0 ≡ (if (v == w) && (k == n) then place else unwrap_or (f (w, n)) 0)
 put_number f g v k place put w n =
     ap (λ o. unwrap_or o 0) (put (w, n) ∙ ap (λ b. cond b (Some place) (f (w, n))) (at_key v k w n)) ∙ at ((v == w) && (k == n)) (f (w, n))

@@ -7,7 +7,7 @@ use Rattle.agree.specs.Rows.{Row}
 use Rattle.merge_order.proofs.Greedy.{eqb_apart}
 use Rattle.vat_rules.specs.Audit.{Found, IsTrueOf}
 use Rattle.call_trace.specs.declared.records.vat_ledger.VatLedger.{VatLedger}
-use Rattle.call_trace.specs.declared.steps.turns.Turns.{Turns}
+use Rattle.call_trace.specs.declared.steps.turns.TracedTurns.{TracedTurns}
 use Rattle.call_trace.specs.Findings.{AreTrue, MayBeNamed, is_good, logs_of}
 use Rattle.call_trace.specs.Glue.Ledgers.{IsKept}
 use Rattle.call_trace.specs.Named.{IsRunOf}
@@ -119,7 +119,7 @@ module _ (row longer : Row) (before more : List Step) (v : ℕ) (stays : (w : �
 -- ---- a turn
 
 -- of a vat that has no finding nothing is taken
-pub passes : (findings : List Found) (turns : List ℕ) (v : ℕ) (state : Turns) → MayTurn findings state.ledgers.items → list_any (λ (ledger : VatLedger). ledger.vat == v) state.ledgers.items ≡ false →
+pub passes : (findings : List Found) (turns : List ℕ) (v : ℕ) (state : TracedTurns) → MayTurn findings state.ledgers.items → list_any (λ (ledger : VatLedger). ledger.vat == v) state.ledgers.items ≡ false →
     IsReached findings turns state → IsReached findings (v ∷ turns) state
 passes findings turns v state may none reached =
     let no = no_finding v findings (ap (list_any (λ u. u == v)) (sym may.vats) ∙ sym (any_vat v state.ledgers.items) ∙ none) in
@@ -161,7 +161,7 @@ placed findings ledgers turns v before i f l may is one its kept =
     }
 
 -- its turn comes next
-pub turn_of : (findings : List Found) (turns : List ℕ) (v : ℕ) (f : Found) (l : VatLedger) (state : Turns) (reached : IsReached findings turns state) → IsPlaced findings turns v reached.before f l →
+pub turn_of : (findings : List Found) (turns : List ℕ) (v : ℕ) (f : Found) (l : VatLedger) (state : TracedTurns) (reached : IsReached findings turns state) → IsPlaced findings turns v reached.before f l →
     IsTurnOf findings turns v reached.before f state.trail l
 turn_of findings turns v f l state reached p = record {
   found = p.found;
@@ -170,7 +170,7 @@ turn_of findings turns v f l state reached p = record {
   kept = p.kept;
 }
 
-pub turned : (findings : List Found) (turns : List ℕ) (v : ℕ) (ledgers : List VatLedger) (i : ℕ) (before : List Step) (now : VatLedger) (new : Turns) → MayTurn findings ledgers →
+pub turned : (findings : List Found) (turns : List ℕ) (v : ℕ) (ledgers : List VatLedger) (i : ℕ) (before : List Step) (now : VatLedger) (new : TracedTurns) → MayTurn findings ledgers →
     slice_get (vats_of_ledgers ledgers) i ≡ Some v → AreKept (taken_by findings turns) before findings ledgers → new.ledgers.items ≡ set ledgers i now →
     TakesTurn v (taken_by findings turns) (taken_by findings (v ∷ turns)) before new.trail now → IsReached findings (v ∷ turns) new
 turned findings turns v ledgers i before now new may is kept items goes =
@@ -194,7 +194,7 @@ stuck : (findings : List Found) (later turns : List ℕ) → steps_of_row (taken
 stuck findings later turns none = let on = rows_on findings later turns in ap steps_of_row on.1 ∙ row_stuck on.0 (taken_by findings turns) none
 
 module _ (findings : List Found) (order : List ℕ) (true_all : AreTrue findings) (asked : MayBeNamed findings order) where
-  pub may_turn : (turns : List ℕ) (state : Turns) → IsReached findings turns state → MayTurn findings state.ledgers.items
+  pub may_turn : (turns : List ℕ) (state : TracedTurns) → IsReached findings turns state → MayTurn findings state.ledgers.items
   may_turn turns state reached = record {
     outcomes = true_all;
     good = asked.good;
@@ -213,14 +213,14 @@ module _ (findings : List Found) (order : List ℕ) (true_all : AreTrue findings
       let n : ⊥ = cc in n
 
   -- the next turn of the order has a step
-  pub goes_on : (i : ℕ) (state : Turns) → i < length order → IsReached findings (reverse (take i order)) state → GoesOnWith findings (get_or order i 0) state
+  pub goes_on : (i : ℕ) (state : TracedTurns) → i < length order → IsReached findings (reverse (take i order)) state → GoesOnWith findings (get_or order i 0) state
   goes_on i state lt reached = record {
     turns = reverse (take i order);
     reached = reached;
     goes_on = some_if _ (never_stuck i lt);
   }
 
-  pub run_named : (i : ℕ) (state : Turns) → length order ≤ i → IsReached findings (reverse (take i order)) state → IsRunOf findings order state.trail.steps.items
+  pub run_named : (i : ℕ) (state : TracedTurns) → length order ≤ i → IsReached findings (reverse (take i order)) state → IsRunOf findings order state.trail.steps.items
   run_named i state all reached =
       let run = good_run findings order true_all asked in
       let whole : reverse (take i order) ≡ reverse order = ap reverse (take_all i order all) in

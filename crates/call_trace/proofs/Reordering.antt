@@ -4,7 +4,7 @@ use Rattle.std.specs.List.{cons_option, filter_map}
 use Rattle.std.proofs.lemmas.List.{append-nil}
 use Rattle.std.proofs.lemmas.Bool.{cases_Bool, cases_lt}
 use Rattle.agree.specs.Points.{GoesOn}
-use Rattle.agree.specs.Rows.{Row, of_vat, log_of_vat}
+use Rattle.agree.specs.Rows.{Row, record_of_vat, log_of_vat}
 use Rattle.agree.specs.Streams.{passing, stream}
 use Rattle.agree.proofs.Cuts.{taken}
 use Rattle.agree.proofs.Points.{through, before_it, no_longer, shorter, same_length, kept}
@@ -105,7 +105,7 @@ module _ (one other : Row) (run : MayRun one) (run_too : MayRun other) (same : (
 
   log_there_too : (w : ℕ) (row : Row) (past : Past) → GoesOn one row → GoesOn (log_of_vat w row) past → GoesOn (log_of_vat w other) past
   log_there_too w row past p q =
-      through (log_of_vat w other) (log_of_vat w row) past (subst (λ es. GoesOn es (log_of_vat w row)) (same w) (kept (of_vat w) one row p)) q
+      through (log_of_vat w other) (log_of_vat w row) past (subst (λ es. GoesOn es (log_of_vat w row)) (same w) (kept (record_of_vat w) one row p)) q
 
   user_too : (k w : ℕ) (row : Row) (m : RpcMessage) (sent : Bool) (e : DecodedRecord) (past : Past) → GoesOn one row → GoesOn (log_of_vat w row) (e ∷ past) → passing k sent e ≡ Some m → IsUser k w other
   user_too k w row m sent e past p q passes = let t = taken w other e past (log_there_too w row (e ∷ past) p q) in (t.0, e, t.1, (sent, m, passes))
@@ -132,7 +132,7 @@ module _ (one other : Row) (run : MayRun one) (run_too : MayRun other) (same : (
       at_w = user_too k a.other row m true a.sent a.from earlier a.passed.sent_there a.passed.sends
 
       sent_there : GoesOn (log_of_vat b.other other) (b.sent ∷ b.from)
-      sent_there = through (log_of_vat b.other other) (log_of_vat b.other row_too) (b.sent ∷ b.from) (kept (of_vat b.other) other row_too (before_it other (v, e) row_too q)) b.passed.sent_there
+      sent_there = through (log_of_vat b.other other) (log_of_vat b.other row_too) (b.sent ∷ b.from) (kept (record_of_vat b.other) other row_too (before_it other (v, e) row_too q)) b.passed.sent_there
 
       at_u : IsUser k b.other other
       at_u = let t = taken b.other other b.sent b.from sent_there in (t.0, b.sent, t.1, (true, m, b.passed.sends))

@@ -18,7 +18,7 @@ use Rattle.vat_log.specs.Log.{Log}
 use Rattle.vat_log.specs.declared.body.Body.{Body}
 use Rattle.vat_log.specs.declared.body.Body.TheVariants as body
 use Rattle.merge_order.proofs.Greedy.{eqb_apart}
-use Rattle.merge_order.specs.Fits.{Part, sent_so_far, received_so_far, sent_by_the_others, may_come, may_come_from, may_follow, part_of, used_up}
+use Rattle.merge_order.specs.Fits.{Part, sent_so_far, received_so_far, sent_by_the_others, may_come, may_come_from, may_come_behind, part_of, used_up}
 use Rattle.vat_log.specs.Passages.{sends_frame, receives_frame}
 use Rattle.vat_rules.specs.declared.outcome.Why.{Why}
 use Rattle.vat_rules.specs.Audit.{Found, IsTrueOf, reads_within}
@@ -147,7 +147,7 @@ receives_it k read b e m h p = counts_one (receives_frame k b) (passing k false 
 
 -- ---- a RECV comes after its frame was sent
 
-follows : (v k : ℕ) (parts : List Part) (own : Part) (b : Body) → receives_frame k b ≡ true → may_follow v parts own (Some b) ≡ true → nat_lt (received_so_far k own) (sent_by_the_others v k parts) ≡ true
+follows : (v k : ℕ) (parts : List Part) (own : Part) (b : Body) → receives_frame k b ≡ true → may_come_behind v parts own (Some b) ≡ true → nat_lt (received_so_far k own) (sent_by_the_others v k parts) ≡ true
 follows v k parts own (body.Receive on c rs fr) is may =
     let same : on ≡ k = eqb-true on k is in subst (λ j. nat_lt (received_so_far j own) (sent_by_the_others v j parts) ≡ true) same may
 follows v k parts own b is may = absurd (let no : ⊥ = cc in no)
@@ -157,7 +157,7 @@ comes_received : (v k : ℕ) (parts : List Part) (own : Part) (b : Body) → par
 unfolding may_come
 comes_received v k parts own b is next receives_frame may =
     ltb-true (received_so_far k own) (sent_by_the_others v k parts)
-    (follows v k parts own b receives_frame (sym (ap (λ o. may_follow v parts own o) next) ∙ sym (ap (λ o. may_come_from v parts o) is) ∙ may))
+    (follows v k parts own b receives_frame (sym (ap (λ o. may_come_behind v parts own o) next) ∙ sym (ap (λ o. may_come_from v parts o) is) ∙ may))
 
 -- ---- all records are taken
 

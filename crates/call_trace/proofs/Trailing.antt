@@ -10,7 +10,7 @@ use Rattle.call_trace.specs.declared.records.vat_ledger.VatLedger.{VatLedger}
 use Rattle.call_trace.specs.declared.steps.channels.Channels.{Channels}
 use Rattle.call_trace.specs.declared.steps.run_builder.RunBuilder.{RunBuilder}
 use Rattle.call_trace.specs.Types.{RpcMessage, DecodedRecord, Host, Vow, Fulfil, Break, Make, Field, Deliver, Answer, AnswerBy, Fault, Wire, Cap, Message, Step}
-use Rattle.call_trace.specs.Glue.Ledgers.{IsKept, HasStep, IsTaken, received_step}
+use Rattle.call_trace.specs.Glue.Ledgers.{IsKept, HasStep, IsTaken, step_of_receipt}
 use Rattle.call_trace.specs.Glue.Channels.{message_by, AreLines}
 use Rattle.call_trace.specs.Naming.{naming, message_of_step}
 use Rattle.call_trace.specs.Part.{result_named, promise_in}
@@ -68,7 +68,7 @@ sends : (v k c : ℕ) (references : List ℕ) (m : RpcMessage) (es : Past) (own 
 sends v k c references m es own before s is = map_so (λ s. (sent : Message) × (s ≡ step.Send v k sent)) (λ sent. step.Send v k sent) s (λ sent. (sent, refl)) _ is
 
 receives : (v k c : ℕ) (references : List ℕ) (m : RpcMessage) (message : Message) (es : Past) (own : List Step) (s : Step) →
-    received_step v es own (Wire false k c references m) message ≡ Some s → (bound : List Cap) × (s ≡ step.Receive v k message bound)
+    step_of_receipt v es own (Wire false k c references m) message ≡ Some s → (bound : List Cap) × (s ≡ step.Receive v k message bound)
 receives v k c references m message es own s is =
     map_so (λ s. (bound : List Cap) × (s ≡ step.Receive v k message bound)) (λ bound. step.Receive v k message bound) s (λ bound. (bound, refl)) _ is
 
@@ -125,7 +125,7 @@ sent_comes v k c references m e row before new ledger same so_far lines t =
 abbrev GotBy : DecodedRecord → ℕ → Type 0
 GotBy e k = (v : ℕ) (message : Message) (row : Row) (before : List Step) (new : RunBuilder) (ledger : VatLedger) → steps_of_row row ≡ Some before →
     coming_next v k before ≡ Some message → ((bound : List Cap) → AreLines (step.Receive v k message bound ∷ before) new.lines) →
-    IsTaken v (log_of_vat v row) e (steps_by v before) (received_step v (log_of_vat v row) (steps_by v before) e message) (reverse before) new.steps.items ledger →
+    IsTaken v (log_of_vat v row) e (steps_by v before) (step_of_receipt v (log_of_vat v row) (steps_by v before) e message) (reverse before) new.steps.items ledger →
     Comes v e row before new ledger
 
 got_by : (k c : ℕ) (references : List ℕ) (m : RpcMessage) → GotBy (Wire false k c references m) k
@@ -133,7 +133,7 @@ got_by k c references m v message row before new ledger so_far coming lines t =
     let e : DecodedRecord = Wire false k c references m in
     let es = log_of_vat v row in
     let own = steps_by v before in
-    let same : step_of v es own before e ≡ received_step v es own e message = ap (option_and_then (step_received v es own e k references)) coming in
+    let same : step_of v es own before e ≡ step_of_receipt v es own e message = ap (option_and_then (step_received v es own e k references)) coming in
     comes v e row before new ledger so_far
     (λ s is whose. let got = receives v k c references m message es own s (sym same ∙ is) in subst (λ s. AreLines (s ∷ before) new.lines) (sym got.1) (lines got.0))
     (subst (λ o. IsTaken v es e own o (reverse before) new.steps.items ledger) (sym same) t)
@@ -189,7 +189,7 @@ own_there e facts trail ledger on = record {
 }
 
 abbrev StepBy : DecodedRecord → ℕ → Type 0
-StepBy e k = (v : ℕ) (message : Message) (es : Past) (own before : List Step) → coming_next v k before ≡ Some message → IsSome (step_of v es own before e) → IsSome (received_step v es own e message)
+StepBy e k = (v : ℕ) (message : Message) (es : Past) (own before : List Step) → coming_next v k before ≡ Some message → IsSome (step_of v es own before e) → IsSome (step_of_receipt v es own e message)
 
 step_by_message : (e : DecodedRecord) → is_received e ≡ true → (sent : Bool) (k c : ℕ) (references : List ℕ) (m : RpcMessage) → Wire sent k c references m ≡ e → StepBy e k
 step_by_message e h sent k c references m is = subst (λ e. is_received e ≡ true → StepBy e k) is (at sent) h
@@ -202,7 +202,7 @@ step_by_message e h sent k c references m is = subst (λ e. is_received e ≡ tr
 -- that of a record that is received, by the message that comes
 pub received_there : (e : DecodedRecord) → is_received e ≡ true → (sent : Bool) (k c : ℕ) (references : List ℕ) (m : RpcMessage) → Wire sent k c references m ≡ e →
     (facts : Facts) (trail : RunBuilder) (ledger : VatLedger) (message : Message) (on : ComesNext e facts trail ledger) → coming_next on.vat k on.before ≡ Some message →
-    HasStep (λ v es own before. received_step v es own e message) e facts trail.steps.items ledger
+    HasStep (λ v es own before. step_of_receipt v es own e message) e facts trail.steps.items ledger
 received_there e h sent k c references m is facts trail ledger message on coming = record {
   vat = on.vat;
   past = log_of_vat on.vat on.row;

@@ -10,12 +10,12 @@ use Rattle.call_trace.specs.Types.{Descriptor, NoCap, SenderHosted, SenderPromis
 use Rattle.call_trace.specs.Naming.{Naming}
 use Rattle.call_trace.specs.Said.{all_there, descriptor_named, caps_named, call_answered, say_call, say_return, say_taken, say_resolve, message_of_record}
 use Rattle.call_trace.specs.Part.{result_named, step_said}
-use Rattle.call_trace.specs.Glue.Ledgers.{view_at, cap_said, caps_from, caps_said, call_of_question, answered_in, sent_said, results_from, step_by}
+use Rattle.call_trace.specs.Glue.Ledgers.{kept_view, cap_said, caps_from, caps_said, call_of_question, answered_in, sent_said, results_from, step_said_by}
 use Rattle.run_model.specs.declared.message.Message.TheVariants as message
 use Rattle.run_model.specs.declared.step.Step.TheVariants as step
 
 -- the first behind some
-view_behind : (before : List (Option View)) (view : Option View) (rest : List (Option View)) → view_at (before ++ view ∷ rest) (length before) ≡ view
+view_behind : (before : List (Option View)) (view : Option View) (rest : List (Option View)) → kept_view (before ++ view ∷ rest) (length before) ≡ view
 view_behind [] view rest = refl
 view_behind (x ∷ before) view rest = view_behind before view rest
 
@@ -96,7 +96,7 @@ sent_as names es k c references Abort = refl
 
 -- ---- steps
 
-pub step_as : (names : Naming) (es : Past) (e : DecodedRecord) → is_received e ≡ false → step_by names (facts_of es e) e ≡ step_said names es e
+pub step_as : (names : Naming) (es : Past) (e : DecodedRecord) → is_received e ≡ false → step_said_by names (facts_of es e) e ≡ step_said names es e
 step_as names es (Host r object) own = refl
 step_as names es (Vow r) own = refl
 step_as names es (Fulfil r to) own = refl

@@ -7,7 +7,7 @@ use Rattle.std.proofs.lemmas.Option.{slice_get_within}
 use Rattle.agree.specs.Points.{GoesOn}
 use Rattle.agree.proofs.Points.{before_it, each_so}
 use Rattle.vat_log.specs.declared.body.Body.{Body}
-use Rattle.merge_order.specs.Fits.{Part, may_come, may_come_from, may_follow, part_of}
+use Rattle.merge_order.specs.Fits.{Part, may_come, may_come_from, may_come_behind, part_of}
 use Rattle.vat_rules.specs.Audit.{Found}
 use Rattle.vat_rules.specs.Judged.{IsGood}
 use Rattle.vat_rules.specs.Ways.{LeadsTo}
@@ -107,7 +107,7 @@ is_any v (g ∷ gs) f h = at (g.log.vat == v) h (is_any v gs f)
     at true h rest = refl
     at false h rest = rest h
 
-follows_some : (v : ℕ) (parts : List Part) (own : Part) (o : Option Body) → may_follow v parts own o ≡ true → (b : Body) × (o ≡ Some b)
+follows_some : (v : ℕ) (parts : List Part) (own : Part) (o : Option Body) → may_come_behind v parts own o ≡ true → (b : Body) × (o ≡ Some b)
 follows_some v parts own None h = absurd (let no : ⊥ = cc in no)
 follows_some v parts own (Some b) h = (b, refl)
 

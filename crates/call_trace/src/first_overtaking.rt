@@ -3,7 +3,7 @@
 ghost use Rattle.std.specs.Prelude.{◌≡◌, ◌<◌, ◌^◌, ℕ, Some, None, false, length, IfOk};
 ghost use Rattle.run_model.specs.Steps.{steps_of};
 ghost use Rattle.run_model.specs.Early.{IsOrderFault};
-ghost use Rattle.call_trace.specs.Glue.Overtaking.{AreOvertaken, lesser, goes_before};
+ghost use Rattle.call_trace.specs.Glue.Overtaking.{AreOvertaken, least_place_with, goes_before};
 
 use crate::latest::Latest;
 use crate::overtaking::last_overtakings;
@@ -12,7 +12,7 @@ use std::alloc::{AllocError, Global};
 
 /// The least of these, by vat and then by number.
 fn least(known: Option<(u32, u32)>, place: (u32, u32)) -> (u32, u32)
-    ensures { result ≡ lesser known place }
+    ensures { result ≡ least_place_with known place }
 {
     match known {
         Some(least) if least.0 < place.0 || (least.0 == place.0 && least.1 <= place.1) => least,

@@ -1,7 +1,7 @@
 //! Places in a run, noted by vat and number.
 
 ghost use Rattle.std.specs.Prelude.{◌≡◌, ◌==◌, ℕ, OnOk, max, if◌then◌else◌};
-ghost use Rattle.call_trace.specs.Glue.Overtaking.{place_in, latest_of, IsRaised};
+ghost use Rattle.call_trace.specs.Glue.Overtaking.{latest_place_in, latest_of, IsPlaceNoted};
 
 use rising_table::RisingTable;
 use std::alloc::{AllocError, Global};
@@ -17,15 +17,15 @@ pub(crate) struct Latest {
 
 /// The place that a vat's table has of this number.
 fn place_in(places: &RisingTable<usize>, number: u64) -> usize
-    ensures { result ≡ place_in places.now number }
+    ensures { result ≡ latest_place_in places.now number }
 {
     places.get(number).copied().unwrap_or(0)
 }
 
 /// Notes a place in a vat's table, which counts where it is later than those before.
 fn raise_in(places: &mut RisingTable<usize>, number: u64, place: usize) -> Result<(), AllocError>
-    ensures { OnOk result ((n : ℕ) → place_in places.new n
-        ≡ (if number == n then max place (place_in places.old n) else place_in places.old n)) }
+    ensures { OnOk result ((n : ℕ) → latest_place_in places.new n
+        ≡ (if number == n then max place (latest_place_in places.old n) else latest_place_in places.old n)) }
 {
     if place_in(places, number) < place {
         places.put(number, place)?;
@@ -56,7 +56,7 @@ impl Latest {
 
     /// Notes a place, which counts where it is later than those before.
     pub(crate) fn raise(&mut self, vat: u32, number: u64, place: usize) -> Result<(), AllocError>
-        ensures { OnOk result (IsRaised vat number place self.old self.new) }
+        ensures { OnOk result (IsPlaceNoted vat number place self.old self.new) }
     {
         match self.vats.get_mut(&vat) {
             Some(places) => raise_in(places, number, place),

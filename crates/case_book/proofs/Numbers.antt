@@ -25,13 +25,6 @@ not_below m n le =
       | inr fails ↦ fails
     ]
 
-pub apart : (m n : ℕ) → n < m → (m == n) ≡ false
-apart m n lt =
-    elim (bool_cases (m == n)) [
-      | inl same ↦ absurd (let e = eqb-true m n same in omega arith)
-      | inr other ↦ other
-    ]
-
 times-cons : (m n : ℕ) (ns : List ℕ) → times n (m ∷ ns) ≡ cond (m == n) 1 0 + times n ns
 times-cons m n ns = sum_by-cons (λ (other : ℕ). cond (other == n) 1 0) m ns
 

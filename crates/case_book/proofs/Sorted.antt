@@ -1,5 +1,5 @@
 -- In a list whose numbers don't fall, those that stand more than once stand side by side.
-use Rattle.std.proofs.Common.{◌≡◌, ℕ, zero, suc, ◌<◌, ◌≤◌, Bool, true, false, cond, List, [], ◌∷◌, length, map, Option, Some, None, refl, ap, subst, ◌∙◌, inl, inr, add-one, arith}
+use Rattle.std.proofs.Common.{◌≡◌, ℕ, zero, suc, ◌<◌, ◌≤◌, Bool, false, cond, List, [], ◌∷◌, length, map, Option, Some, None, refl, ap, subst, ◌∙◌, inl, inr, add-one, arith}
 use Rattle.std.specs.Prelude.{◌⊎◌, ◌==◌, slice_index, nat_lt}
 use Rattle.std.specs.List.Sorted.{IsPermutation, IsNonDecreasingBy, IsStrictlyIncreasing}
 use Rattle.std.proofs.lemmas.Bool.{eqb-true, eq-eqb, cases_eq}
@@ -138,9 +138,6 @@ pub strictly : (ks : List ℕ) → Rises ks → first_same None ks ≡ None → 
 strictly ks rising none k lt = rw (add-one k) (goes_up ks rising none k (omega arith))
 
 -- ---- the fault that is found
-
-pub too_many : {F : Type 0} (limit n : ℕ) (fault : F) (other : Option F) → nat_lt limit n ≡ true → cond (nat_lt limit n) (Some fault) other ≡ Some fault
-too_many limit n fault other more = ap (λ (b : Bool). cond b (Some fault) other) more
 
 pub few_enough : {F : Type 0} (limit n : ℕ) (fault : F) (other : Option F) → n ≤ limit → cond (nat_lt limit n) (Some fault) other ≡ other
 few_enough limit n fault other le = ap (λ (b : Bool). cond b (Some fault) other) (not_below limit n le)

@@ -62,11 +62,11 @@ abbrev pub with_finding : Kept → ℕ → Finding → Kept
 with_finding book number found = record { case = book.case; claimed = book.claimed; found = slice_set book.found number (Some found) }
 
 -- Why a finding is handed back: it is for no piece of the case; or its piece is posted already; or its piece isn't claimed.
-abbrev pub IsRefusal : Kept → Finding → Refused → Type 0
-IsRefusal book found (Stranger back) = (back ≡ found) × ((number : ℕ) → ¬ IsForPiece book.case found number)
-IsRefusal book found (Double back) =
+abbrev pub IsHandedBack : Kept → Finding → Refused → Type 0
+IsHandedBack book found (Stranger back) = (back ≡ found) × ((number : ℕ) → ¬ IsForPiece book.case found number)
+IsHandedBack book found (Double back) =
     (back ≡ found) × ((number : ℕ) × IsForPiece book.case found number × ¬ IsMissing book number)
-IsRefusal book found (Unclaimed back) =
+IsHandedBack book found (Unclaimed back) =
     (back ≡ found) × ((number : ℕ) × IsForPiece book.case found number × IsMissing book number × ¬ IsClaimed book number)
 
 -- a finding is posted for its own piece, which is claimed and was missing

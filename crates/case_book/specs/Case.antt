@@ -44,8 +44,8 @@ links_fault links = if nat_lt link_limit (length links) then Some TooManyLinks e
 
 -- Why logs and links make no case: too many logs, or else the least vat number with two of them; else too many links, or
 -- else the least connection with two of them.
-abbrev pub refusal_of : List Log → List Link → Option CaseError
-refusal_of logs links = or_else (vats_fault logs) (links_fault links)
+abbrev pub case_refusal_of : List Log → List Link → Option CaseError
+case_refusal_of logs links = or_else (vats_fault logs) (links_fault links)
 
 -- logs by rising vat number, links by rising connection, and no more than may be
 pub record IsCase (held : Contents) : Type 0 where

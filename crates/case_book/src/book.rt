@@ -6,7 +6,7 @@ ghost use Rattle.std.specs.Vec.{vec_capacity};
 ghost use Rattle.case_book.specs.Case.{link_limit, vat_limit};
 ghost use Rattle.case_book.specs.Ties.{tie_fault_of};
 ghost use Rattle.case_book.specs.Glue.{ArePlaced};
-ghost use Rattle.case_book.specs.Books.{IsBook, IsClaimed, IsMissing, IsPosted, IsRefusal, findings_of, least_missing, least_unclaimed, missing_in, new_book, with_claim, with_finding};
+ghost use Rattle.case_book.specs.Books.{IsBook, IsClaimed, IsMissing, IsPosted, IsHandedBack, findings_of, least_missing, least_unclaimed, missing_in, new_book, with_claim, with_finding};
 ghost use Rattle.case_book.specs.Pieces.{IsForPiece};
 
 use crate::case::Case;
@@ -22,7 +22,7 @@ use vat_rules::VatFinding;
 
 /// The book of a case without a tie fault: which of its pieces are claimed, and what was found for those that are posted.
 /// Nothing but [`Book::new`] takes memory: it makes a place for each finding.
-#[derive(Debug, Drop)]
+#[derive(Drop)]
 pub struct Book {
     case: Case,
     claimed: Vec<bool>,
@@ -187,7 +187,7 @@ impl Book {
     /// The first that applies, which hands the finding back and leaves the book as it was: `Stranger` where it is for no
     /// piece of the case, `Double` where its piece is posted already, `Unclaimed` where its piece isn't claimed.
     pub fn post(&mut self, finding: Finding) -> Result<(), Refused>
-        ensures err { IfErr result (IsRefusal self.old finding) }
+        ensures err { IfErr result (IsHandedBack self.old finding) }
         ensures unchanged { OnErr result (self.new ≡ self.old) }
         ensures ok { OnOk result (IsPosted self.old finding self.new) }
         ensures fewer { OnOk result (missing_in self.new + 1 ≡ missing_in self.old) }

@@ -2,8 +2,8 @@
 
 ghost use Rattle.std.specs.Prelude.{◌≡◌, ◌≤◌, None, Some, Decides, IfOk, IfErr, MatchOption, length, map};
 ghost use Rattle.std.specs.Arc.{arc_value};
-ghost use Rattle.std.specs.List.Sorted.{IsPermutation, IsStrictlyIncreasing};
-ghost use Rattle.case_book.specs.Case.{vat_limit, link_limit, vats_fault, links_fault, refusal_of, vats_of, connections_of, IsCase, HoldsJust};
+ghost use Rattle.std.specs.List.Sorted.{IsStrictlyIncreasing};
+ghost use Rattle.case_book.specs.Case.{vat_limit, link_limit, case_refusal_of, vats_of, connections_of, IsCase, HoldsJust};
 ghost use Rattle.case_book.specs.Ties.{tie_fault_of};
 ghost use Rattle.case_book.specs.Pieces.{pieces_of, IsForPiece};
 
@@ -12,64 +12,20 @@ use crate::link::Link;
 use crate::piece::Piece;
 use crate::piece_finding::Finding;
 use crate::places::is_same_log;
-use crate::repeats::{repeated_connection, repeated_vat};
-use crate::ties::{TieFault, least_missing, least_same_ended};
+use crate::rising::{rising_links, rising_logs};
+use crate::ties::{TieFault, tie_fault};
 use crate::work::{audit_log, compare_ends};
 use std::alloc::{AllocError, Global};
 use std::marker::Model;
 use std::sync::Arc;
 use vat_log::VatLog;
 
-/// The logs of some vats, at most [`MAX_VATS`], and the links between them, at most [`MAX_LINKS`]. Each vat has one log, each
+/// The logs of some vats, at most [`MAX_VATS`](crate::MAX_VATS), and the links between them, at most [`MAX_LINKS`](crate::MAX_LINKS). Each vat has one log, each
 /// connection one link; that they tie up is asked of [`Case::tie_fault`].
 #[derive(Debug, Drop)]
 pub struct Case {
     logs: Vec<Arc<VatLog>>,
     links: Vec<Link>,
-}
-
-/// How many logs a case may have: one for each vat.
-pub const MAX_VATS: usize = 1024;
-
-/// How many links a case may have: one for each connection.
-pub const MAX_LINKS: usize = 4096;
-
-/// These logs by rising vat number, or why they make no case.
-fn rising_logs(mut logs: Vec<Arc<VatLog>>) -> Result<Vec<Arc<VatLog>>, CaseError>
-    ensures err { IfErr result (λ error. vats_fault (map arc_value logs.items) ≡ Some error) }
-    ensures ok { IfOk result (λ sorted. vats_fault (map arc_value logs.items) ≡ None) }
-    ensures just { IfOk result
-        (λ sorted. IsPermutation (map arc_value logs.items) (map arc_value sorted.items)) }
-    ensures rising { IfOk result
-        (λ sorted. IsStrictlyIncreasing (vats_of (map arc_value sorted.items))) }
-    ensures few { IfOk result (λ sorted. length (map arc_value sorted.items) ≤ vat_limit) }
-{
-    if logs.len() > MAX_VATS {
-        return Err(CaseError::TooManyVats);
-    }
-    logs.sort_unstable_by_key(|log| log.vat());
-    match repeated_vat(&logs) {
-        Some(vat) => Err(CaseError::SameVat(vat)),
-        None => Ok(logs),
-    }
-}
-
-/// These links by rising connection, or why they make no case.
-fn rising_links(mut links: Vec<Link>) -> Result<Vec<Link>, CaseError>
-    ensures err { IfErr result (λ error. links_fault links.items ≡ Some error) }
-    ensures ok { IfOk result (λ sorted. links_fault links.items ≡ None) }
-    ensures just { IfOk result (λ sorted. IsPermutation links.items sorted.items) }
-    ensures rising { IfOk result (λ sorted. IsStrictlyIncreasing (connections_of sorted.items)) }
-    ensures few { IfOk result (λ sorted. length sorted.items ≤ link_limit) }
-{
-    if links.len() > MAX_LINKS {
-        return Err(CaseError::TooManyLinks);
-    }
-    links.sort_unstable_by_key(|link| link.connection);
-    match repeated_connection(&links) {
-        Some(connection) => Err(CaseError::SameLink(connection)),
-        None => Ok(links),
-    }
 }
 
 /// The same logs once more.
@@ -116,14 +72,14 @@ impl Case {
     ///
     /// # Errors
     ///
-    /// The first that applies: `TooManyVats` above [`MAX_VATS`] logs; `SameVat` with the least vat that has two logs;
-    /// `TooManyLinks` above [`MAX_LINKS`] links; `SameLink` with the least connection that has two links.
+    /// The first that applies: `TooManyVats` above [`MAX_VATS`](crate::MAX_VATS) logs; `SameVat` with the least vat that has two logs;
+    /// `TooManyLinks` above [`MAX_LINKS`](crate::MAX_LINKS) links; `SameLink` with the least connection that has two links.
     pub fn new(logs: Vec<Arc<VatLog>>, links: Vec<Link>) -> Result<Case, CaseError>
         // Where it is refused, and why.
         ensures err { IfErr result
-            (λ error. refusal_of (map arc_value logs.items) links.items ≡ Some error) }
+            (λ error. case_refusal_of (map arc_value logs.items) links.items ≡ Some error) }
         ensures ok { IfOk result
-            (λ case. refusal_of (map arc_value logs.items) links.items ≡ None) }
+            (λ case. case_refusal_of (map arc_value logs.items) links.items ≡ None) }
         // What it holds.
         ensures held { IfOk result (λ case. HoldsJust (map arc_value logs.items) links.items case) }
         ensures rising { IfOk result IsCase }
@@ -157,10 +113,7 @@ impl Case {
         ensures { result ≡ tie_fault_of self.now }
     {
         let Case { logs, links } = self;
-        if let Some(connection) = least_missing(logs, links) {
-            return Some(TieFault::MissingLog(connection));
-        }
-        least_same_ended(links).map(TieFault::SameEnds)
+        tie_fault(logs, links)
     }
 
     /// Whether two cases have the same logs and links. Logs are compared byte for byte: a log has one spelling. It takes no

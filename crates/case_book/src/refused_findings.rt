@@ -3,7 +3,7 @@
 use crate::piece_finding::Finding;
 
 /// Why a finding isn't kept: the first of these that applies. Each hands it back.
-#[derive(Debug, Drop)]
+#[derive(Drop)]
 pub enum Refused {
     /// It is for no piece of the case: the case has no such vat or link, or another log of it, or other limits than the
     /// default ones were set.

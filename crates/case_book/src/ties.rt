@@ -1,17 +1,14 @@
 //! Whether the logs and links of a case tie up.
 
-ghost use Rattle.std.specs.Prelude.{◌≡◌, ◌&&◌, ◌||◌, ◌==◌, None, fold, map, option_and_then, slice_get};
-ghost use Rattle.std.specs.Arc.{arc_value};
+ghost use Rattle.std.specs.Prelude.{◌≡◌, fold, map};
 ghost use Rattle.std.specs.List.{flat_map};
 ghost use Rattle.std.specs.List.Sorted.{IsStrictlyIncreasing};
 ghost use Rattle.case_book.specs.Least.{lower, least};
 ghost use Rattle.case_book.specs.Case.{connections_of};
-ghost use Rattle.case_book.specs.Ties.{is_linked, unlinked_in, has_log, missing_logs, links_without_log, links_of_one_vat};
-ghost use Rattle.vat_log.specs.Passages.{used_by};
+ghost use Rattle.case_book.specs.Ties.{is_linked, unlinked_in, has_log, missing_logs, links_without_log, links_of_one_vat, tie_fault_of};
 
+use crate::case_log::CaseLog;
 use crate::link::Link;
-use std::sync::Arc;
-use vat_log::VatLog;
 
 /// Why the logs and links of a case don't tie up: the least connection for which a log is missing, or, where there is none,
 /// the least whose two ends are one vat.
@@ -24,7 +21,7 @@ pub enum TieFault {
 }
 
 /// The smaller of a connection, if there is one, and another.
-fn lower_of(found: Option<u32>, connection: u32) -> Option<u32>
+pub(crate) fn lower_of(found: Option<u32>, connection: u32) -> Option<u32>
     ensures { result ≡ lower found connection }
 {
     match found {
@@ -33,18 +30,8 @@ fn lower_of(found: Option<u32>, connection: u32) -> Option<u32>
     }
 }
 
-/// The connection that the record of this number uses.
-fn used_at(log: &VatLog, index: usize) -> Option<u32>
-    ensures { result ≡ option_and_then used_by (slice_get log.now.records index) }
-{
-    match log.get(index)?.body().passage() {
-        Some((_, connection)) => Some(connection),
-        None => None,
-    }
-}
-
 /// Whether a connection has a link with this vat as an end. The links stand by rising connection, and are searched so.
-fn has_link(links: &[Link], vat: u32, connection: u32) -> bool
+pub(crate) fn has_link(links: &[Link], vat: u32, connection: u32) -> bool
     requires { IsStrictlyIncreasing (connections_of links.now) }
     ensures { result ≡ is_linked links.now vat connection }
 {
@@ -54,37 +41,21 @@ fn has_link(links: &[Link], vat: u32, connection: u32) -> bool
     }
 }
 
-/// The least of the connections that a log uses without a link, and of one found before.
-fn least_unlinked_in(found: Option<u32>, log: &VatLog, links: &[Link]) -> Option<u32>
-    requires { IsStrictlyIncreasing (connections_of links.now) }
-    ensures { result ≡ fold lower found (unlinked_in links.now log.now) }
-{
-    let mut found = found;
-    for index in 0..log.len() {
-        if let Some(connection) = used_at(log, index) {
-            if !has_link(links, log.vat(), connection) {
-                found = lower_of(found, connection);
-            }
-        }
-    }
-    found
-}
-
 /// The least of the connections that the logs use without a link.
-fn least_unlinked(logs: &[Arc<VatLog>], links: &[Link]) -> Option<u32>
+fn least_unlinked<L: CaseLog>(logs: &[L], links: &[Link]) -> Option<u32>
     requires { IsStrictlyIncreasing (connections_of links.now) }
-    ensures { result ≡ least (flat_map (unlinked_in links.now) (map arc_value logs.now)) }
+    ensures { result ≡ least (flat_map (unlinked_in links.now) (map L.log logs.now)) }
 {
     let mut found = None;
     for log in logs {
-        found = least_unlinked_in(found, log, links);
+        found = log.least_unlinked(found, links);
     }
     found
 }
 
 /// Whether a vat has a log.
-fn is_logged(logs: &[Arc<VatLog>], vat: u32) -> bool
-    ensures { result ≡ has_log (map arc_value logs.now) vat }
+fn is_logged<L: CaseLog>(logs: &[L], vat: u32) -> bool
+    ensures { result ≡ has_log (map L.log logs.now) vat }
 {
     for log in logs {
         if log.vat() == vat {
@@ -95,8 +66,8 @@ fn is_logged(logs: &[Arc<VatLog>], vat: u32) -> bool
 }
 
 /// The least of the connections whose link names a vat without a log, and of one found before.
-fn least_unlogged(found: Option<u32>, logs: &[Arc<VatLog>], links: &[Link]) -> Option<u32>
-    ensures { result ≡ fold lower found (links_without_log (map arc_value logs.now) links.now) }
+fn least_unlogged<L: CaseLog>(found: Option<u32>, logs: &[L], links: &[Link]) -> Option<u32>
+    ensures { result ≡ fold lower found (links_without_log (map L.log logs.now) links.now) }
 {
     let mut found = found;
     for link in links {
@@ -108,16 +79,16 @@ fn least_unlogged(found: Option<u32>, logs: &[Arc<VatLog>], links: &[Link]) -> O
 }
 
 /// The least connection for which a log is missing, of links by rising connection.
-pub fn least_missing(logs: &[Arc<VatLog>], links: &[Link]) -> Option<u32>
+fn least_missing<L: CaseLog>(logs: &[L], links: &[Link]) -> Option<u32>
     requires { IsStrictlyIncreasing (connections_of links.now) }
     ensures { result ≡ least
-        (missing_logs (record { logs = map arc_value logs.now; links = links.now })) }
+        (missing_logs (record { logs = map L.log logs.now; links = links.now })) }
 {
     least_unlogged(least_unlinked(logs, links), logs, links)
 }
 
 /// The least connection whose ends are one vat.
-pub fn least_same_ended(links: &[Link]) -> Option<u32>
+fn least_same_ended(links: &[Link]) -> Option<u32>
     ensures { result ≡ least (links_of_one_vat links.now) }
 {
     let mut found = None;
@@ -127,4 +98,16 @@ pub fn least_same_ended(links: &[Link]) -> Option<u32>
         }
     }
     found
+}
+
+/// Why logs and links don't tie up, if they don't. A connection for which a log is missing comes before any whose two ends are
+/// one vat; of each kind the least connection is named. The links stand by rising connection. It takes no memory.
+pub fn tie_fault<L: CaseLog>(logs: &[L], links: &[Link]) -> Option<TieFault>
+    requires { IsStrictlyIncreasing (connections_of links.now) }
+    ensures { result ≡ tie_fault_of (record { logs = map L.log logs.now; links = links.now }) }
+{
+    if let Some(connection) = least_missing(logs, links) {
+        return Some(TieFault::MissingLog(connection));
+    }
+    least_same_ended(links).map(TieFault::SameEnds)
 }

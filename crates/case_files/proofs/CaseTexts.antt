@@ -9,7 +9,7 @@ use Rattle.serde_json.specs.declared.value.Value.{Value, Array, String as TextOf
 use Rattle.serde_json.proofs.Views.{view-Array}
 use Rattle.serde_json.proofs.OnLiterals.{serde_json_on_literals}
 use Rattle.case_book.specs.declared.link.Link.{Link}
-use Rattle.case_files.specs.CaseFile.{IsCaseFile, each, each_item, link_of, listed_in, listed_of, small}
+use Rattle.case_files.specs.CaseFile.{IsCaseFile, value_of_each, each_item, link_of, listed_in, listed_of, small}
 use Rattle.case_files.specs.Glue.{IsShallow, SaysCase}
 use Rattle.case_files.proofs.CaseFiles.{list_of-items_view}
 
@@ -17,17 +17,17 @@ use Rattle.case_files.proofs.CaseFiles.{list_of-items_view}
 
 -- these values say these, one after another, and none nests deeper than so
 pub record Say {B : Type 0} (f : Data → Option B) (limit : ℕ) (vs : List Value) (ys : List B) : Type 0 where
-  pub says : each f (map view vs) ≡ Some ys
+  pub says : value_of_each f (map view vs) ≡ Some ys
   pub shallow : items_depth (items_view vs) ≤ limit
 
-each_more : {B : Type 0} (f : Data → Option B) (vs : List Value) (v : Value) (ys : List B) (y : B) → each f (map view vs) ≡ Some ys → f (view v) ≡ Some y
-    → each f (map view (vs ++ v ∷ [])) ≡ Some (ys ++ y ∷ [])
+each_more : {B : Type 0} (f : Data → Option B) (vs : List Value) (v : Value) (ys : List B) (y : B) → value_of_each f (map view vs) ≡ Some ys → f (view v) ≡ Some y
+    → value_of_each f (map view (vs ++ v ∷ [])) ≡ Some (ys ++ y ∷ [])
 each_more f [] v ys y e g = let none : ys ≡ [] = cc in rw (g, none) refl
-each_more {B} f (x ∷ xs) v ys y e g = go (f (view x)) (each f (map view xs)) refl refl e (λ zs rest. each_more f xs v zs y rest g)
+each_more {B} f (x ∷ xs) v ys y e g = go (f (view x)) (value_of_each f (map view xs)) refl refl e (λ zs rest. each_more f xs v zs y rest g)
   where
-    go : (o : Option B) (r : Option (List B)) → f (view x) ≡ o → each f (map view xs) ≡ r → option_and_then (λ z. option_map (λ zs. z ∷ zs) r) o ≡ Some ys
-        → ((zs : List B) → each f (map view xs) ≡ Some zs → each f (map view (xs ++ v ∷ [])) ≡ Some (zs ++ y ∷ []))
-        → option_and_then (λ z. option_map (λ zs. z ∷ zs) (each f (map view (xs ++ v ∷ [])))) (f (view x)) ≡ Some (ys ++ y ∷ [])
+    go : (o : Option B) (r : Option (List B)) → f (view x) ≡ o → value_of_each f (map view xs) ≡ r → option_and_then (λ z. option_map (λ zs. z ∷ zs) r) o ≡ Some ys
+        → ((zs : List B) → value_of_each f (map view xs) ≡ Some zs → value_of_each f (map view (xs ++ v ∷ [])) ≡ Some (zs ++ y ∷ []))
+        → option_and_then (λ z. option_map (λ zs. z ∷ zs) (value_of_each f (map view (xs ++ v ∷ [])))) (f (view x)) ≡ Some (ys ++ y ∷ [])
     go None r is rest e more = absurd cc
     go (Some z) None is rest e more = absurd cc
     go (Some z) (Some zs) is rest e more =
@@ -51,7 +51,7 @@ say_more f limit vs ys v y say is low = record { says = each_more f vs v ys y sa
 
 -- a list of such values says them
 pub list_says : {B : Type 0} (f : Data → Option B) (limit : ℕ) (vs : Vec Value Global) (ys : List B) → Say f limit vs.items ys → each_item f (view (Array vs)) ≡ Some ys
-list_says f limit vs ys say = ap (each_item f) (view-Array vs) ∙ ap (each f) (list_of-items_view vs.items) ∙ say.says
+list_says f limit vs ys say = ap (each_item f) (view-Array vs) ∙ ap (value_of_each f) (list_of-items_view vs.items) ∙ say.says
 
 pub list_shallow : {B : Type 0} (f : Data → Option B) (limit : ℕ) (vs : Vec Value Global) (ys : List B) → Say f limit vs.items ys → IsShallow (suc limit) (view (Array vs))
 list_shallow f limit vs ys say =

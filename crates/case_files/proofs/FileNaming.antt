@@ -6,7 +6,7 @@ use Rattle.std.specs.Path.{path_file_name}
 use Rattle.std.proofs.lemmas.Bool.{cases_lt}
 use Rattle.std.proofs.lemmas.Option.{same_Some, slice_get_within}
 use Rattle.case_files.specs.FileNames.{AreApart, AreFileNames, IsCounted, own_names}
-use Rattle.case_files.specs.Glue.{AreApartUpTo, IsFree, IsNotBefore, IsTaken}
+use Rattle.case_files.specs.Glue.{NamesAreApartUpTo, IsFree, IsNotBefore, IsNameTaken}
 
 three_ways : (a b : ℕ) → (a < b) ⊎ ((a ≡ b) ⊎ (b < a))
 three_ways a b = elim (cases_lt a b) [
@@ -89,8 +89,8 @@ pub none_before : (names : List (List ℕ)) (name : List ℕ) (begin : ℕ) → 
 none_before names name begin k from lt there = omega (arith, from, lt)
 
 -- one more name that is free behind itself
-pub apart_more : (names : List (List ℕ)) (place : ℕ) (name : List ℕ) → slice_get names place ≡ Some name → AreApartUpTo names place → IsFree names (place + 1) name
-    → AreApartUpTo names (place + 1)
+pub apart_more : (names : List (List ℕ)) (place : ℕ) (name : List ℕ) → slice_get names place ≡ Some name → NamesAreApartUpTo names place → IsFree names (place + 1) name
+    → NamesAreApartUpTo names (place + 1)
 apart_more names place name at before free k lt other there = go (three_ways k place)
   where
     go : (k < place) ⊎ ((k ≡ place) ⊎ (place < k)) → IsFree names (k + 1) other
@@ -100,10 +100,10 @@ apart_more names place name at before free k lt other there = go (three_ways k p
         rw (same_name, is) free
     go (inr (inr more)) = absurd (omega (arith, more, lt))
 
-pub none_apart : (names : List (List ℕ)) → AreApartUpTo names 0
+pub none_apart : (names : List (List ℕ)) → NamesAreApartUpTo names 0
 none_apart names k lt name there = absurd (omega (arith, lt))
 
-pub all_apart : (names : List (List ℕ)) → AreApartUpTo names (length names) → AreApart names
+pub all_apart : (names : List (List ℕ)) → NamesAreApartUpTo names (length names) → AreApart names
 all_apart names upto = record {
   distinct = λ i j name at there. go i j name at there (three_ways i j);
   no_case = λ i name at. (upto i (slice_get_within names i name at) name at).0;
@@ -115,7 +115,7 @@ all_apart names upto = record {
     go i j name at there (inr (inr more)) = absurd ((upto j (slice_get_within names j name there) name there).1 i (omega (arith, more)) (slice_get_within names i name at) at)
 
 -- a name that is taken
-pub not_apart : (names : List (List ℕ)) (place : ℕ) (name : List ℕ) → slice_get names place ≡ Some name → IsTaken names (place + 1) name → AreApart names → ⊥
+pub not_apart : (names : List (List ℕ)) (place : ℕ) (name : List ℕ) → slice_get names place ≡ Some name → IsNameTaken names (place + 1) name → AreApart names → ⊥
 not_apart names place name at (inl case) apart = apart.no_case place name at case
 not_apart names place name at (inr (k, from, there)) apart =
     let is : place ≡ k = apart.distinct place k name at there in

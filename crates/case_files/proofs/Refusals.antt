@@ -1,7 +1,7 @@
 -- Logs and links are never refused because memory ran out.
 use Rattle.std.proofs.Common.{◌≡◌, ℕ, Bool, true, false, cond, ltb, List, length, Option, Some, None, option_map, Err}
 use Rattle.vat_log.specs.Log.{Log}
-use Rattle.case_book.specs.Case.{connections_of, link_limit, or_else, refusal_of, vat_limit, vats_of}
+use Rattle.case_book.specs.Case.{connections_of, link_limit, or_else, case_refusal_of, vat_limit, vats_of}
 use Rattle.case_book.specs.Least.{least_repeated}
 use Rattle.case_book.specs.declared.error.CaseError.{CaseError}
 use Rattle.case_book.specs.declared.error.CaseError.TheVariants.{TooManyVats, SameVat, TooManyLinks, SameLink, OutOfMemory}
@@ -17,7 +17,7 @@ never false true None connection is = cc
 never false false None (Some c) is = cc
 never false false None None is = cc
 
-pub refused : (logs : List Log) (links : List Link) (error : CaseError) → refusal_of logs links ≡ Some error → IsCaseOf logs links (Err (of_refusal error))
+pub refused : (logs : List Log) (links : List Link) (error : CaseError) → case_refusal_of logs links ≡ Some error → IsCaseOf logs links (Err (of_refusal error))
 refused logs links TooManyVats is = is
 refused logs links (SameVat vat) is = is
 refused logs links TooManyLinks is = is

@@ -10,13 +10,13 @@ use Rattle.case_files.specs.declared.source.SourceError.TheVariants as source
 use Rattle.case_files.specs.declared.case_fault.CaseFault.{CaseFault}
 use Rattle.case_files.specs.declared.case_fault.CaseFault.TheVariants.{CannotRead, Log, Order, Refused, OutOfMemory}
 
-abbrev pub of_source : SourceError → CaseFault
-of_source source.CannotRead = CannotRead
-of_source source.OutOfMemory = OutOfMemory
+abbrev pub case_fault_of_source : SourceError → CaseFault
+case_fault_of_source source.CannotRead = CannotRead
+case_fault_of_source source.OutOfMemory = OutOfMemory
 
-abbrev pub of_log : LogError → CaseFault
-of_log log.OutOfMemory = OutOfMemory
-of_log found = Log found
+abbrev pub case_fault_of_log : LogError → CaseFault
+case_fault_of_log log.OutOfMemory = OutOfMemory
+case_fault_of_log found = Log found
 
 abbrev pub of_order : OrderError → CaseFault
 of_order order.OutOfMemory = OutOfMemory

@@ -5,7 +5,7 @@ use Rattle.std.specs.Prelude.{◌≡◌, ℕ, List, [], ◌∷◌, map, string_b
 use Rattle.vat_log.specs.Log.{Log}
 use Rattle.vat_log.specs.Reading.{log_of}
 use Rattle.merge_order.specs.Spelling as orders
-use Rattle.case_book.specs.Case.{Contents, HoldsJust, IsCase, refusal_of}
+use Rattle.case_book.specs.Case.{Contents, HoldsJust, IsCase, case_refusal_of}
 use Rattle.case_book.specs.Ties.{tie_fault_of}
 use Rattle.case_book.specs.declared.link.Link.{Link}
 use Rattle.case_files.specs.declared.source.SourceError.{SourceError}
@@ -13,7 +13,7 @@ use Rattle.case_files.specs.declared.case_fault.CaseFault.{CaseFault}
 use Rattle.case_files.specs.declared.case_fault.CaseFault.TheVariants.{Form, Refused, Untied, OutOfMemory}
 use Rattle.case_files.specs.declared.case_file.CaseFile.{CaseFile}
 use Rattle.case_files.specs.declared.case_reading.ReadCase.{ReadCase}
-use Rattle.case_files.specs.CaseFaults.{of_log, of_order, of_source}
+use Rattle.case_files.specs.CaseFaults.{case_fault_of_log, of_order, case_fault_of_source}
 use Rattle.case_files.specs.CaseFile.{IsCaseFile, IsNoCaseFile, Listed}
 
 -- what a source gave under a name
@@ -58,16 +58,16 @@ listed_by file = record { logs = map string_bytes file.logs.items; links = file.
 -- ---- one file
 
 -- an answer is what bytes say as a case file
-abbrev pub IsListed : Result Listed CaseFault → List ℕ → Type 0
-IsListed (Ok listed) bytes = IsCaseFile bytes listed
-IsListed (Err OutOfMemory) bytes = Unit {0}
-IsListed (Err Form) bytes = IsNoCaseFile bytes
-IsListed (Err _) bytes = ⊥
+abbrev pub IsListedCase : Result Listed CaseFault → List ℕ → Type 0
+IsListedCase (Ok listed) bytes = IsCaseFile bytes listed
+IsListedCase (Err OutOfMemory) bytes = Unit {0}
+IsListedCase (Err Form) bytes = IsNoCaseFile bytes
+IsListedCase (Err _) bytes = ⊥
 
 -- an answer is the case file that a source gave
 abbrev pub IsListedFrom : Result Listed CaseFault → Read → Type 0
-IsListedFrom answer (Ok bytes) = IsListed answer bytes
-IsListedFrom answer (Err fault) = Is answer (Err (of_source fault))
+IsListedFrom answer (Ok bytes) = IsListedCase answer bytes
+IsListedFrom answer (Err fault) = Is answer (Err (case_fault_of_source fault))
 
 -- what was read, its fault as one of the case
 abbrev pub with_fault : {X E : Type 0} → (E → CaseFault) → Result X E → Result X CaseFault
@@ -76,12 +76,12 @@ with_fault of_fault (Err fault) = Err (of_fault fault)
 
 -- the log, and the order, that a source gave; or why it is none
 abbrev pub log_from : Read → Result Log CaseFault
-log_from (Ok bytes) = with_fault of_log (log_of bytes)
-log_from (Err fault) = Err (of_source fault)
+log_from (Ok bytes) = with_fault case_fault_of_log (log_of bytes)
+log_from (Err fault) = Err (case_fault_of_source fault)
 
 abbrev pub order_from : Read → Result (List ℕ) CaseFault
 order_from (Ok bytes) = with_fault of_order (orders.spelled_order bytes)
-order_from (Err fault) = Err (of_source fault)
+order_from (Err fault) = Err (case_fault_of_source fault)
 
 -- what comes of the case file, of one log, and of one order
 abbrev pub ListedComes : {S : Type 0} → Reads S → List ℕ → Step S Listed
@@ -107,10 +107,10 @@ NamedOrderComes gives (Some name) = Then (OrderComes gives name) (λ order. Done
 
 -- the case of these logs and links, or why they make none
 abbrev pub IsCaseOf : List Log → List Link → Result Contents CaseFault → Type 0
-IsCaseOf logs links (Ok held) = (refusal_of logs links ≡ None) × HoldsJust logs links held × IsCase held × (tie_fault_of held ≡ None)
-IsCaseOf logs links (Err (Refused fault)) = refusal_of logs links ≡ Some fault
+IsCaseOf logs links (Ok held) = (case_refusal_of logs links ≡ None) × HoldsJust logs links held × IsCase held × (tie_fault_of held ≡ None)
+IsCaseOf logs links (Err (Refused fault)) = case_refusal_of logs links ≡ Some fault
 IsCaseOf logs links (Err (Untied fault)) =
-    (held : Contents) × ((refusal_of logs links ≡ None) × HoldsJust logs links held × IsCase held × (tie_fault_of held ≡ Some fault))
+    (held : Contents) × ((case_refusal_of logs links ≡ None) × HoldsJust logs links held × IsCase held × (tie_fault_of held ≡ Some fault))
 IsCaseOf logs links (Err _) = ⊥
 
 abbrev pub CaseComes : {S : Type 0} → List Log → List Link → Step S Contents

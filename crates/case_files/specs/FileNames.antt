@@ -2,11 +2,11 @@
 use Rattle.std.specs.Prelude.{◌≡◌, ◌≢◌, ℕ, ◌<◌, suc, List, ◌++◌, length, codes, Option, Some, slice_get}
 use Rattle.std.specs.Fmt.{decimal}
 use Rattle.std.specs.Path.{path_file_name}
-use Rattle.case_files.specs.CaseFile.{each}
+use Rattle.case_files.specs.CaseFile.{value_of_each}
 
 -- the names that files of these paths have, if each has one
 abbrev pub own_names : List (List ℕ) → Option (List (List ℕ))
-own_names paths = each path_file_name paths
+own_names paths = value_of_each path_file_name paths
 
 -- the name of the case file
 abbrev pub case_name : List ℕ

@@ -24,8 +24,8 @@ pub record SaysCase (d : Data) (logs : List (List ℕ)) (links : List Link) : Ty
   pub shallow : IsShallow 3 d
 
 -- a name stands in a list from a place on, or is that of the case file
-abbrev pub IsTaken : List (List ℕ) → ℕ → List ℕ → Type 0
-IsTaken names begin name = (name ≡ case_name) ⊎ ((k : ℕ) × (begin ≤ k) × (slice_get names k ≡ Some name))
+abbrev pub IsNameTaken : List (List ℕ) → ℕ → List ℕ → Type 0
+IsNameTaken names begin name = (name ≡ case_name) ⊎ ((k : ℕ) × (begin ≤ k) × (slice_get names k ≡ Some name))
 
 -- it doesn't stand from a place on and before another
 abbrev pub IsNotBefore : List (List ℕ) → List ℕ → ℕ → ℕ → Type 0
@@ -36,5 +36,5 @@ abbrev pub IsFree : List (List ℕ) → ℕ → List ℕ → Type 0
 IsFree names begin name = (name ≢ case_name) × IsNotBefore names name begin (length names)
 
 -- no name before a place stands behind itself once more, or is that of the case file
-abbrev pub AreApartUpTo : List (List ℕ) → ℕ → Type 0
-AreApartUpTo names place = (k : ℕ) → k < place → (name : List ℕ) → slice_get names k ≡ Some name → IsFree names (k + 1) name
+abbrev pub NamesAreApartUpTo : List (List ℕ) → ℕ → Type 0
+NamesAreApartUpTo names place = (k : ℕ) → k < place → (name : List ℕ) → slice_get names k ≡ Some name → IsFree names (k + 1) name

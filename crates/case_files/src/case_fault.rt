@@ -2,7 +2,7 @@
 
 ghost use Rattle.std.specs.Prelude.{◌≡◌};
 ghost use Rattle.case_files.specs.declared.case_fault.CaseFault.TheVariants.{OutOfMemory};
-ghost use Rattle.case_files.specs.CaseFaults.{of_log, of_order, of_refusal, of_source};
+ghost use Rattle.case_files.specs.CaseFaults.{case_fault_of_log, of_order, of_refusal, case_fault_of_source};
 
 use crate::source::SourceError;
 use case_book::{CaseError, TieFault};
@@ -47,7 +47,7 @@ impl<T: Drop> From<AllocFailed<T>> for CaseFault {
 }
 
 impl From<SourceError> for CaseFault {
-    ghost from_gives = { λ fault e. e ≡ of_source fault };
+    ghost from_gives = { λ fault e. e ≡ case_fault_of_source fault };
 
     fn from(fault: SourceError) -> CaseFault {
         match fault {
@@ -58,7 +58,7 @@ impl From<SourceError> for CaseFault {
 }
 
 impl From<LogError> for CaseFault {
-    ghost from_gives = { λ fault e. e ≡ of_log fault };
+    ghost from_gives = { λ fault e. e ≡ case_fault_of_log fault };
 
     fn from(fault: LogError) -> CaseFault {
         match fault {

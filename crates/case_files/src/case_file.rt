@@ -5,8 +5,8 @@ ghost use Rattle.std.specs.BTreeMap.{keys};
 ghost use Rattle.std.specs.List.{list_all};
 ghost use Rattle.serde_json.specs.Find.{as_str};
 ghost use Rattle.serde_json.specs.View.{view};
-ghost use Rattle.case_files.specs.CaseFile.{each_item, is_known, link_of, listed_in, number_of, order_of};
-ghost use Rattle.case_files.specs.CaseReading.{IsListed, listed_by, seen_by};
+ghost use Rattle.case_files.specs.CaseFile.{each_item, is_case_key, link_of, listed_in, number_of_data, order_of_data};
+ghost use Rattle.case_files.specs.CaseReading.{IsListedCase, listed_by, seen_by};
 ghost use Rattle.case_files.specs.Glue.{TellsInMemory};
 
 use crate::case_fault::CaseFault;
@@ -15,7 +15,7 @@ use serde_json::{Map, Value};
 use std::alloc::Global;
 
 /// What a case file says.
-#[derive(Debug, Drop)]
+#[derive(Drop)]
 pub struct CaseFile {
     /// The names of the logs.
     pub logs: Vec<String>,
@@ -27,7 +27,7 @@ pub struct CaseFile {
 
 /// The number that a value is, below 2^32.
 fn number_of(value: &Value) -> Option<u32>
-    ensures { result ≡ number_of (view value.now) }
+    ensures { result ≡ number_of_data (view value.now) }
 {
     u32::try_from(value.as_u64()?).ok()
 }
@@ -73,7 +73,7 @@ fn links_in(alloc: Global, value: &Value) -> Result<Vec<Link>, CaseFault>
 /// The name of the order, where there is none or it is a text.
 fn order_in(alloc: Global, value: Option<&Value>) -> Result<Option<String>, CaseFault>
     ensures { TellsInMemory (λ name. option_map string_bytes name) result
-        (order_of (option_map (λ v. view v.now) value.entry)) }
+        (order_of_data (option_map (λ v. view v.now) value.entry)) }
 {
     match value {
         None => Ok(None),
@@ -86,14 +86,14 @@ fn order_in(alloc: Global, value: Option<&Value>) -> Result<Option<String>, Case
 
 /// Whether a case file may have this key.
 fn is_known(key: &str) -> bool
-    ensures { result ≡ is_known key.now }
+    ensures { result ≡ is_case_key key.now }
 {
     key == "logs" || key == "links" || key == "order"
 }
 
 /// Whether an object has no key but those of a case file.
 fn are_known(members: &Map<String, Value>) -> bool
-    ensures { result ≡ list_all (λ key. is_known (string_bytes key)) (keys members.now) }
+    ensures { result ≡ list_all (λ key. is_case_key (string_bytes key)) (keys members.now) }
 {
     members.keys().all(|key| is_known(key.as_str()))
 }
@@ -122,7 +122,7 @@ fn case_file_in(alloc: Global, value: &Value) -> Result<CaseFile, CaseFault>
 ///
 /// `Form`, or out of memory.
 pub fn case_file_of(alloc: Global, bytes: &[u8]) -> Result<CaseFile, CaseFault>
-    ensures { IsListed (seen_by listed_by result) bytes.now }
+    ensures { IsListedCase (seen_by listed_by result) bytes.now }
 {
     match Value::from_slice(alloc, bytes) {
         Ok(value) => case_file_in(alloc, &value),

@@ -122,7 +122,7 @@ fn tied_case(logs: Vec<Arc<VatLog>>, links: Vec<Link>) -> Result<Case, CaseFault
 }
 
 /// A case and the order that its file names, if it names one.
-#[derive(Debug, Drop)]
+#[derive(Drop)]
 pub struct ReadCase {
     /// The case of the logs and links.
     pub case: Case,

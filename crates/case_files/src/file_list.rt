@@ -11,7 +11,7 @@ use std::marker::Model;
 
 /// Files with their names, as a source: what is asked for is the first file of that name. Contracts see it as the list
 /// of the names with the bytes.
-#[derive(Debug, Drop)]
+#[derive(Drop)]
 pub struct FileList {
     files: Vec<(String, Bytes)>,
 }

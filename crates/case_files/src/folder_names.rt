@@ -2,7 +2,7 @@
 
 ghost use Rattle.std.specs.Prelude.{◌≡◌, IfOk, MatchBool, length, map, option_map, string_bytes};
 ghost use Rattle.case_files.specs.FileNames.{AreApart, AreFileNames, IsCounted, own_names};
-ghost use Rattle.case_files.specs.Glue.{IsFree, IsTaken};
+ghost use Rattle.case_files.specs.Glue.{IsFree, IsNameTaken};
 
 use std::alloc::{AllocError, Global};
 use std::path::Path;
@@ -28,7 +28,7 @@ fn own_names(alloc: Global, paths: &[&str]) -> Result<Option<Vec<String>>, Alloc
 
 /// Whether a name stands in a list from this place on, or is that of the case file.
 fn is_taken(names: &[String], begin: usize, name: &str) -> bool
-    ensures { MatchBool result (IsTaken (map string_bytes names.now) begin name.now)
+    ensures { MatchBool result (IsNameTaken (map string_bytes names.now) begin name.now)
         (IsFree (map string_bytes names.now) begin name.now) }
 {
     if name == CASE_FILE {

@@ -9,7 +9,7 @@ use std::alloc::Global;
 use std::marker::Model;
 
 /// The bytes of a file in a list, piece by piece; or why none come. To a contract it is what came so far.
-#[derive(Debug, Drop)]
+#[derive(Drop)]
 pub struct ListedReader {
     bytes: Bytes,
     given: usize,

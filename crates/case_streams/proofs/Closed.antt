@@ -6,9 +6,7 @@ use Rattle.vat_log.specs.Reading.{log_of}
 use Rattle.vat_log.specs.Streams.{MayBeAll, NoLogBegins, StreamStopsBy}
 use Rattle.vat_log.specs.declared.read_fault.ReadFault.{ReadFault}
 use Rattle.vat_log.specs.declared.read_fault.ReadFault.TheVariants as read
-use Rattle.vat_log.specs.declared.error.LogError.{LogError}
-use Rattle.vat_log.specs.declared.error.LogError.TheVariants as log
-use Rattle.case_files.specs.CaseFaults.{of_log, of_order, of_source}
+use Rattle.case_files.specs.CaseFaults.{of_order, case_fault_of_source}
 use Rattle.case_files.specs.CaseReading.{After, Done, LogComes, LogsCome, NamedOrderComes, Reads, with_fault}
 use Rattle.case_files.specs.declared.case_fault.CaseFault.{CaseFault}
 use Rattle.case_files.specs.declared.case_fault.CaseFault.TheVariants.{CannotRead, Order as OrderFault, OutOfMemory}
@@ -19,35 +17,10 @@ use Rattle.case_streams.specs.declared.opening.OrderFault.TheVariants.{Bad}
 use Rattle.case_files.specs.declared.source.SourceError.{SourceError}
 use Rattle.case_files.specs.declared.source.SourceError.TheVariants as source
 use Rattle.log_lane.specs.Lanes.{ReadAhead}
-use Rattle.stream_audit.specs.Streamed.{AreWhole, CameToFault, CameWhole}
+use Rattle.stream_audit.specs.Streamed.{AreReadWhole, CameToFault, CameWhole}
 use Rattle.case_streams.specs.Glue.{AreClosedUpTo, AreOpen, IsFaultOfAll, IsOpenOrder, IsOrderOf, before}
 use Rattle.case_streams.specs.declared.opening.OpenLogs.{OpenLogs}
 use Rattle.case_streams.specs.declared.opening.OpenOrder.{OpenOrder}
-
--- ---- one log
-
-module _ {S : Type 0} (gives : Reads S) (old new : S) (name came : List ℕ) (is_over : Bool) where
-  pub whole_comes : (log : Log) → (failed : Bool) → (failed ≡ false) × ((all : List ℕ) × (MayBeAll came is_over all × gives old name (Ok all) new)) → is_over ≡ true → log_of came ≡ Ok log
-      → LogComes gives name old (Ok log) new
-  whole_comes log failed closed over spelled =
-      let may = closed.1.1.0 in
-      let same : closed.1.0 ≡ came = may.parts ∙ ap (λ (m : List ℕ). came ++ m) (may.over over) ∙ append-nil came in
-      (Ok closed.1.0, (closed.1.1.1, ap (with_fault of_log) (ap log_of same ∙ spelled)))
-
-  pub bad_comes : (fault : LogError) → (failed : Bool) → (failed ≡ false) × ((all : List ℕ) × (MayBeAll came is_over all × gives old name (Ok all) new))
-      → ((all : List ℕ) → MayBeAll came is_over all → log_of all ≡ Err fault) → LogComes gives name old (Err (of_log fault)) new
-  bad_comes log.BadMagic failed closed is = (Ok closed.1.0, (closed.1.1.1, ap (with_fault of_log) (is closed.1.0 closed.1.1.0)))
-  bad_comes (log.Short at) failed closed is = (Ok closed.1.0, (closed.1.1.1, ap (with_fault of_log) (is closed.1.0 closed.1.1.0)))
-  bad_comes (log.BadKind at) failed closed is = (Ok closed.1.0, (closed.1.1.1, ap (with_fault of_log) (is closed.1.0 closed.1.1.0)))
-  bad_comes (log.ZeroNumber at) failed closed is = (Ok closed.1.0, (closed.1.1.1, ap (with_fault of_log) (is closed.1.0 closed.1.1.0)))
-  bad_comes log.TooLong failed closed is = (Ok closed.1.0, (closed.1.1.1, ap (with_fault of_log) (is closed.1.0 closed.1.1.0)))
-  bad_comes log.OutOfMemory failed closed is = (Ok closed.1.0, (closed.1.1.1, tt))
-
-  pub unread_comes : (fault : SourceError) → gives old name (Err fault) new → LogComes gives name old (Err (of_source fault)) new
-  unread_comes source.CannotRead given = (Err source.CannotRead, (given, refl))
-  unread_comes source.OutOfMemory given = (Err source.OutOfMemory, (given, tt))
-
--- ---- logs one after another
 
 pub none_closed : {S : Type 0} (gives : Reads S) (names : List (List ℕ)) (old : S) (logs : List Log) → AreClosedUpTo gives names 0 (take 0 logs) old old
 none_closed gives names old logs (Ok rest) new come = come
@@ -102,7 +75,7 @@ all_closed gives names old now i logs h came =
 
 -- ---- lanes that came whole
 
-pub whole_at : (lanes : List (Option ReadAhead)) (logs : List Log) (i : ℕ) (lane : Option ReadAhead) → AreWhole lanes logs → slice_get lanes i ≡ Some lane → (log : Log) × (slice_get logs i ≡ Some log) × CameWhole lane log
+pub whole_at : (lanes : List (Option ReadAhead)) (logs : List Log) (i : ℕ) (lane : Option ReadAhead) → AreReadWhole lanes logs → slice_get lanes i ≡ Some lane → (log : Log) × (slice_get logs i ≡ Some log) × CameWhole lane log
 whole_at [] [] i lane whole is = absurd (let no : ⊥ = cc in no)
 whole_at [] (log ∷ logs) i lane whole is = absurd whole
 whole_at (l ∷ lanes) [] i lane whole is = absurd whole
@@ -112,7 +85,7 @@ whole_at (l ∷ lanes) (log ∷ logs) zero lane whole is = (log, refl, subst (λ
     some_lane a b e = cc
 whole_at (l ∷ lanes) (log ∷ logs) (suc i) lane whole is = whole_at lanes logs i lane whole.1 is
 
-pub as_many : (lanes : List (Option ReadAhead)) (logs : List Log) → AreWhole lanes logs → length logs ≡ length lanes
+pub as_many : (lanes : List (Option ReadAhead)) (logs : List Log) → AreReadWhole lanes logs → length logs ≡ length lanes
 as_many [] [] whole = refl
 as_many [] (log ∷ logs) whole = absurd whole
 as_many (l ∷ lanes) [] whole = absurd whole
@@ -155,7 +128,7 @@ module _ {S : Type 0} (gives : Reads S) (old new : S) (name came : List ℕ) (is
       let same : closed.1.0 ≡ came = may.parts ∙ ap (λ (m : List ℕ). came ++ m) (may.over over) ∙ append-nil came in
       subst (λ (all : List ℕ). gives old name (Ok all) new) same closed.1.1.1
 
-  pub unread_order : (fault : SourceError) → gives old name (Err fault) new → NamedOrderComes gives (Some name) old (Err (of_source fault)) new
+  pub unread_order : (fault : SourceError) → gives old name (Err fault) new → NamedOrderComes gives (Some name) old (Err (case_fault_of_source fault)) new
   unread_order source.CannotRead given = (Err CannotRead, (new, ((Err source.CannotRead, (given, refl)), (refl, refl))))
   unread_order source.OutOfMemory given = (Err OutOfMemory, (new, ((Err source.OutOfMemory, (given, tt)), (refl, refl))))
 
@@ -203,12 +176,6 @@ first_fails gives names old between now i name logs fault here came (inr comes) 
 -- no log lacks its header
 pub all_named : {R : Type 0} (came : R → List ℕ) (is_over : R → Bool) (count : ℕ) (logs : OpenLogs R) → AreOpen came is_over count logs → logs.headless ≡ None → length logs.lanes.items ≡ count
 all_named {R = R} came is_over count logs has none = subst (λ (o : Option (ReadFault × R)). MatchOption o (length logs.lanes.items ≡ count) (λ b. (length logs.lanes.items < count) × NoLogBegins b.0 (came b.1) (is_over b.1))) none has
-
--- the fault of the log behind those that were closed
-pub behind_fails : {S : Type 0} (gives : Reads S) (names : List (List ℕ)) (old between now : S) (i : ℕ) (logs : List Log) (fault : CaseFault) → AreClosedUpTo gives names i logs old between
-    → (fault ≡ OutOfMemory) ⊎ LogsCome gives (drop i names) between (Err fault) now → (fault ≡ OutOfMemory) ⊎ LogsCome gives names old (Err fault) now
-behind_fails gives names old between now i logs fault came (inl is) = inl is
-behind_fails gives names old between now i logs fault came (inr fails) = inr (came (Err fault) now fails)
 
 -- the fault of a log that has no header
 pub headless_fault : (fault : ReadFault) (came : List ℕ) (is_over : Bool) → NoLogBegins fault came is_over → IsFaultOfAll fault came is_over

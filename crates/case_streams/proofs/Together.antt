@@ -1,6 +1,6 @@
 -- What comes of a case, put together of what comes of its files.
 use Rattle.std.proofs.Common.{◌≡◌, ◌⊎◌, inl, inr, ℕ, Bool, false, List, Option, Result, Ok, Err, refl, sym, ap, subst}
-use Rattle.audit_core.specs.declared.report.Report.{Report}
+use Rattle.case_report.specs.declared.report.Report.{Report}
 use Rattle.vat_log.specs.Log.{Log}
 use Rattle.case_book.specs.Case.{Contents}
 use Rattle.case_book.specs.declared.link.Link.{Link}
@@ -9,7 +9,7 @@ use Rattle.case_files.specs.CaseReading.{CaseComes, ComesOfCase, Done, IsCaseOf,
 use Rattle.case_files.specs.declared.case_fault.CaseFault.{CaseFault}
 use Rattle.case_files.specs.declared.case_fault.CaseFault.TheVariants.{OutOfMemory}
 use Rattle.log_lane.specs.Lanes.{ReadAhead}
-use Rattle.stream_audit.specs.Streamed.{AreWhole}
+use Rattle.stream_audit.specs.Streamed.{AreReadWhole}
 use Rattle.case_streams.specs.Checked.{ComesChecked}
 use Rattle.case_files.specs.declared.case_reading.ReadCase.{ReadCase}
 use Rattle.case_streams.specs.Glue.{FileComes, FilesCome, IsSaid, LineComes, SaysLine, with_value}
@@ -44,9 +44,6 @@ module _ {S : Type 0} (gives : Reads S) (old listed_at : S) (name : List ℕ) (l
       again : (other : CaseFault) → ◌≡◌ {A = Result (List Log × Option (List ℕ)) CaseFault} (Err fault) (Err other) → ◌≡◌ {A = Result ReadCase CaseFault} (Err fault) (Err other)
       again other is = cc
 
-  pub logs_fail_case : (fault : CaseFault) (new : S) → LogsCome gives listed.logs listed_at (Err fault) new → ComesOfCase gives old name (Err fault) new
-  logs_fail_case fault new come = (Ok listed, (listed_at, (lists, (Err fault, (new, (come, (refl, refl)))))))
-
   -- the case that logs and an order make that came
   pub case_comes : (logs : List Log) (given : Option (List ℕ)) (answer : Result Contents CaseFault) (new : S) → FilesCome gives listed.logs listed.order listed_at (Ok (logs, given)) new
       → IsCaseOf logs listed.links answer → ComesOfCase gives old name (with_order given answer) new
@@ -71,14 +68,11 @@ module _ {S : Type 0} (gives : Reads S) (old listed_at : S) (name : List ℕ) (l
       ended (Ok held) case = (Ok held, (last, ((case, refl), (refl, refl))))
       ended (Err fault) case = (Err fault, (last, ((case, refl), (refl, refl))))
 
-  pub list_fails : (fault : CaseFault) → ListedComes gives name old (Err fault) listed_at → ComesOfCase gives old name (Err fault) listed_at
-  list_fails fault come = (Err fault, (listed_at, (come, (refl, refl))))
-
 -- ---- the line
 
 -- what is said of logs that came whole, where all files came
 pub said : {S : Type 0} (gives : Reads S) (names : List (List ℕ)) (name : Option (List ℕ)) (links : List Link) (given : Option (List ℕ)) (flawed : Bool) (old new : S) (lanes : List (Option ReadAhead)) (answer : Result Report CaseFault)
-    → IsSaid lanes links given answer → flawed ≡ false → ((logs : List Log) → AreWhole lanes logs → FilesCome gives names name old (Ok (logs, given)) new) → LineComes gives names name links given flawed old answer new
+    → IsSaid lanes links given answer → flawed ≡ false → ((logs : List Log) → AreReadWhole lanes logs → FilesCome gives names name old (Ok (logs, given)) new) → LineComes gives names name links given flawed old answer new
 said gives names name links given flawed old new lanes (Ok line) is sound come =
     inr (inr (sound, (is.made.logs, come is.made.logs is.made.whole, (is.held, (is.made.accepted, is.made.just, is.made.case, is.tied), is.line, is.headline))))
 said gives names name links given flawed old new lanes (Err found) (inl is) sound come = inl (ap (λ (f : CaseFault). Err f) is)
@@ -122,9 +116,3 @@ pub came_whole : {S Y : Type 0} (gives : Reads S) (names : List (List ℕ)) (nam
     → (◌≡◌ {A = Result Y CaseFault} (Ok y) (Err OutOfMemory)) ⊎ FilesCome gives names name old (Ok (logs, given)) new → FilesCome gives names name old (Ok (logs, given)) new
 came_whole gives names name given old new logs (inl is) = absurd (let no : ⊥ = cc in no)
 came_whole gives names name given old new logs (inr come) = come
-
--- one log can't be read
-pub logs_fail_sum : {S Y : Type 0} (gives : Reads S) (names : List (List ℕ)) (name : Option (List ℕ)) (old new : S) (found : CaseFault)
-    → (found ≡ OutOfMemory) ⊎ LogsCome gives names old (Err found) new → (◌≡◌ {A = Result Y CaseFault} (Err found) (Err OutOfMemory)) ⊎ FilesCome gives names name old (Err found) new
-logs_fail_sum gives names name old new found (inl is) = inl (ap (λ (f : CaseFault). Err f) is)
-logs_fail_sum gives names name old new found (inr come) = inr (logs_fail gives names name old new found come)

@@ -1,7 +1,7 @@
 -- What comes of a case whose line is asked for.
 use Rattle.std.specs.Prelude.{◌≡◌, ◌⊎◌, ℕ, List, Result, Ok, Err}
 use Rattle.audit_core.specs.Lines.{IsLineOf, LineMeansHeadline}
-use Rattle.audit_core.specs.declared.report.Report.{Report}
+use Rattle.case_report.specs.declared.report.Report.{Report}
 use Rattle.case_files.specs.CaseReading.{ComesOfCase, Reads}
 use Rattle.case_files.specs.declared.case_fault.CaseFault.{CaseFault}
 use Rattle.case_files.specs.declared.case_fault.CaseFault.TheVariants.{OutOfMemory}

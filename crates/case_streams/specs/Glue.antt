@@ -1,16 +1,16 @@
 -- This file serves the contracts of private functions alone, and is no part of the meaning.
 use Rattle.std.specs.Prelude.{◌≡◌, ◌⊎◌, ℕ, ◌<◌, Bool, true, false, ◌||◌, List, ◌++◌, drop, length, Option, Some, None, Result, Ok, Err, IsSomeAnd, MatchOption, is_some}
 use Rattle.audit_core.specs.Lines.{IsLineOf, LineMeansHeadline}
-use Rattle.audit_core.specs.declared.report.Report.{Report}
+use Rattle.case_report.specs.declared.report.Report.{Report}
 use Rattle.case_book.specs.Case.{Contents}
 use Rattle.case_book.specs.declared.link.Link.{Link}
 use Rattle.case_files.specs.CaseFile.{Listed}
 use Rattle.case_files.specs.CaseReading.{Done, IsCaseOf, LogsCome, NamedOrderComes, Reads, Step, Then}
 use Rattle.case_files.specs.declared.case_fault.CaseFault.{CaseFault}
 use Rattle.case_files.specs.declared.case_fault.CaseFault.TheVariants as fault
-use Rattle.case_streams.specs.declared.checking.Passed.{Passed}
-use Rattle.case_streams.specs.declared.checking.Passed.TheVariants.{Whole, Fault}
-use Rattle.case_streams.specs.declared.checking.Passed.TheVariants as passed
+use Rattle.case_streams.specs.declared.file_check.LogsPassed.{LogsPassed}
+use Rattle.case_streams.specs.declared.file_check.LogsPassed.TheVariants.{Whole, Fault}
+use Rattle.case_streams.specs.declared.file_check.LogsPassed.TheVariants as passed
 use Rattle.case_streams.specs.declared.opening.OpenLogs.{OpenLogs}
 use Rattle.case_streams.specs.declared.opening.OpenOrder.{OpenOrder}
 use Rattle.case_streams.specs.declared.opening.OrderFault.{OrderFault}
@@ -18,7 +18,7 @@ use Rattle.case_streams.specs.declared.opening.OrderFault.TheVariants.{CannotRea
 use Rattle.log_lane.specs.Lanes.{ReadAhead}
 use Rattle.merge_order.specs.Spelling.{spelled_order}
 use Rattle.merge_order.specs.declared.error.OrderError.TheVariants.{OutOfMemory}
-use Rattle.stream_audit.specs.Streamed.{AreWhole, IsFirstFault, IsLineOfStreams}
+use Rattle.stream_audit.specs.Streamed.{AreReadWhole, IsFirstFault, IsLineOfStreams}
 use Rattle.vat_log.specs.Log.{Log}
 use Rattle.vat_log.specs.Reading.{log_of}
 use Rattle.vat_log.specs.Streams.{MayBeAll, NoLogBegins}
@@ -92,11 +92,11 @@ FilesCome gives names name = Then (LogsCome gives names) (λ logs. Then (NamedOr
 -- what is said of the case of logs that came whole
 abbrev pub IsSaid : List (Option ReadAhead) → List Link → Option (List ℕ) → Result Report CaseFault → Type 0
 IsSaid lanes links given (Ok line) = IsLineOfStreams lanes links given line
-IsSaid lanes links given (Err found) = (found ≡ fault.OutOfMemory) ⊎ ((logs : List Log) × AreWhole lanes logs × IsCaseOf logs links (Err found))
+IsSaid lanes links given (Err found) = (found ≡ fault.OutOfMemory) ⊎ ((logs : List Log) × AreReadWhole lanes logs × IsCaseOf logs links (Err found))
 
 -- what came of logs
-abbrev pub IsPassed : List (Option ReadAhead) → List Link → Option (List ℕ) → Passed → Type 0
-IsPassed lanes links given (Whole answer) = ((logs : List Log) × AreWhole lanes logs) × IsSaid lanes links given answer
+abbrev pub IsPassed : List (Option ReadAhead) → List Link → Option (List ℕ) → LogsPassed → Type 0
+IsPassed lanes links given (Whole answer) = ((logs : List Log) × AreReadWhole lanes logs) × IsSaid lanes links given answer
 IsPassed lanes links given (Fault place found) = IsFirstFault lanes place found
 IsPassed lanes links given passed.Refused = Unit {0}
 

@@ -5,12 +5,12 @@ ghost use Rattle.vat_log.specs.Log.{Log};
 ghost use Rattle.vat_log.specs.Reading.{log_of};
 ghost use Rattle.case_files.specs.CaseReading.{LogComes, LogsCome, NamedOrderComes};
 ghost use Rattle.case_files.specs.declared.case_fault.CaseFault.TheVariants.{OutOfMemory};
-ghost use Rattle.stream_audit.specs.Streamed.{AreWhole, IsFirstFault};
+ghost use Rattle.stream_audit.specs.Streamed.{AreReadWhole, IsFirstFault};
 ghost use Rattle.case_streams.specs.Glue.{AreClosed, AreOpen, IsFaultOfAll, IsOpenOrder, has_fault, with_value};
 
 use crate::opening::{OpenLogs, OpenOrder, OrderFault};
 use case_files::{CaseFault, Source};
-use log_lane::Lane;
+use log_lane::LogLane;
 use vat_log::ReadFault;
 
 /// Closes a log that came whole.
@@ -49,10 +49,10 @@ fn close_bad<S: Source>(
 pub(crate) fn close_logs<S: Source>(
     source: &mut S,
     names: &[String],
-    lanes: &[Lane<S::Reader>],
+    lanes: &[LogLane<S::Reader>],
 ) -> Result<(), CaseFault>
     requires { length lanes.now ≤ length names.now }
-    ensures { (logs : List Log) → AreWhole lanes.now logs
+    ensures { (logs : List Log) → AreReadWhole lanes.now logs
         → AreClosed S.read_gives (map string_bytes names.now) (length lanes.now) logs
         source.old result source.new }
 {
@@ -66,7 +66,7 @@ pub(crate) fn close_logs<S: Source>(
 pub(crate) fn close_to_fault<S: Source>(
     source: &mut S,
     names: &[String],
-    lanes: &[Lane<S::Reader>],
+    lanes: &[LogLane<S::Reader>],
     place: usize,
     fault: ReadFault,
 ) -> CaseFault

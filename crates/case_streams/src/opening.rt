@@ -2,12 +2,12 @@
 
 ghost use Rattle.std.specs.Prelude.{◌≡◌, true, [], length, option_map, string_bytes, IfOk};
 ghost use Rattle.stream_audit.specs.Streamed.{AreFresh};
-ghost use Rattle.case_streams.specs.Glue.{AreOpen, IsOpenOrder, IsOrderOf, has_fault, is_flawed};
+ghost use Rattle.case_streams.specs.Glue.{AreOpen, IsOpenOrder, IsOrderOf, is_flawed};
 
 use byte_pieces::{PieceFault, Pieces};
 use bytes::Bytes;
 use case_files::Source;
-use log_lane::Lane;
+use log_lane::LogLane;
 use merge_order::{Order, OrderError, read_order};
 use std::alloc::{AllocError, Global};
 use vat_log::{LogStream, ReadFault};
@@ -19,7 +19,7 @@ const PIECE: usize = 65_536;
 #[derive(Drop)]
 pub(crate) struct OpenLogs<P: Pieces> {
     /// The logs, in the order in which they are listed.
-    pub(crate) lanes: Vec<Lane<P>>,
+    pub(crate) lanes: Vec<LogLane<P>>,
     /// The log behind them that has no header, with the reason.
     pub(crate) headless: Option<(ReadFault, P)>,
 }
@@ -37,7 +37,7 @@ pub(crate) fn open_logs<S: Source>(
     let mut lanes = Vec::new(alloc);
     for name in names {
         match LogStream::begin(alloc, source.open(name.as_str())) {
-            Ok(stream) => lanes.push(Lane::new(alloc, stream))?,
+            Ok(stream) => lanes.push(LogLane::new(alloc, stream))?,
             Err(bad) => {
                 return Ok(OpenLogs {
                     lanes,

@@ -3,12 +3,12 @@ use Rattle.std.proofs.Common.{◌≡◌, true, ℕ, ◌/◌, ◌%◌, ◌<◌, �
 use Rattle.std.specs.Prelude.{All, nat_le, ◌==◌, if◌then◌else◌}
 use Rattle.std.proofs.lemmas.Bool.{cases_lt, cases_eq, cases_Bool, and_parts, leb-true, lt-ltb, le-ltb, eq-eqb, ne_eqb}
 use Rattle.std.proofs.lemmas.List.Elements.{All-nil, All-cons, All-head, All-tail, All-append}
-use Rattle.exception_reasons.specs.Printed.{byte_text, hexadecimal, is_printable, printed, IsPrintable}
+use Rattle.exception_reasons.specs.Printed.{byte_text, hexadecimal_digit, is_printable, printed, IsPrintable}
 
 abbrev Plain : ℕ → Type 0
 Plain code = (32 ≤ code) × (code ≤ 126)
 
-digit_printable : (digit : ℕ) → digit < 16 → Plain (hexadecimal digit)
+digit_printable : (digit : ℕ) → digit < 16 → Plain (hexadecimal_digit digit)
 digit_printable digit lt =
     elim (cases_lt digit 10) [
       | inl few ↦ rw (lt-ltb digit 10 few) (omega (arith, few), omega (arith, few))
@@ -27,13 +27,13 @@ of_printable byte h =
     (leb-true 32 byte both.0, leb-true byte 126 both.1)
 
 abbrev plain_text : ℕ → List ℕ
-plain_text byte = if is_printable byte then byte ∷ [] else 92 ∷ 120 ∷ hexadecimal (byte / 16) ∷ hexadecimal (byte % 16) ∷ []
+plain_text byte = if is_printable byte then byte ∷ [] else 92 ∷ 120 ∷ hexadecimal_digit (byte / 16) ∷ hexadecimal_digit (byte % 16) ∷ []
 
 unquoted : (byte : ℕ) → byte < 2 ^ 8 → IsPrintable (plain_text byte)
 unquoted byte lt =
     elim (cases_Bool (is_printable byte)) [
       | inl plain ↦ rw plain (All-cons Plain byte [] (of_printable byte plain) (All-nil Plain))
-      | inr escaped ↦ rw escaped (four 92 120 (hexadecimal (byte / 16)) (hexadecimal (byte % 16)) (omega arith, omega arith) (omega arith, omega arith)
+      | inr escaped ↦ rw escaped (four 92 120 (hexadecimal_digit (byte / 16)) (hexadecimal_digit (byte % 16)) (omega arith, omega arith) (omega arith, omega arith)
           (digit_printable (byte / 16) (omega (arith, lt))) (digit_printable (byte % 16) (omega arith)))
     ]
 

@@ -4,8 +4,8 @@ use Rattle.std.specs.Prelude.{ℕ, Bool, ◌+◌, ◌/◌, ◌%◌, ◌==◌, �
 use Rattle.std.specs.List.{flat_map}
 
 -- the digits 0 to 9, and then the letters a to f
-abbrev pub hexadecimal : ℕ → ℕ
-hexadecimal digit = if nat_lt digit 10 then 48 + digit else 87 + digit
+abbrev pub hexadecimal_digit : ℕ → ℕ
+hexadecimal_digit digit = if nat_lt digit 10 then 48 + digit else 87 + digit
 
 -- from the space to ~
 abbrev pub is_printable : ℕ → Bool
@@ -18,7 +18,7 @@ byte_text byte =
     if byte == 34 then 92 ∷ 34 ∷ []
     else (if byte == 92 then 92 ∷ 92 ∷ []
     else (if is_printable byte then byte ∷ []
-    else 92 ∷ 120 ∷ hexadecimal (byte / 16) ∷ hexadecimal (byte % 16) ∷ []))
+    else 92 ∷ 120 ∷ hexadecimal_digit (byte / 16) ∷ hexadecimal_digit (byte % 16) ∷ []))
 
 -- bytes one after another
 abbrev pub printed : List ℕ → List ℕ

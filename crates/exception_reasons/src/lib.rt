@@ -7,13 +7,13 @@
 #![tactic(auto)]
 
 mod laws;
+mod of_record;
 mod printed;
-mod reading;
 mod reason;
-mod record;
+mod reason_reading;
 
 pub use laws::{only_exceptions_have_reasons, printed_is_printable, reasons_are_short};
+pub use of_record::record_reason;
 pub use printed::Printed;
-pub use reading::read_reason;
 pub use reason::Reason;
-pub use record::record_reason;
+pub use reason_reading::read_reason;

@@ -2,20 +2,20 @@
 
 ghost use Rattle.std.specs.Prelude.{◌≡◌, ◌<◌, Some};
 ghost use Rattle.std.specs.Fmt.{WritesOnOk};
-ghost use Rattle.exception_reasons.specs.Printed.{byte_text, hexadecimal, is_printable, printed};
+ghost use Rattle.exception_reasons.specs.Printed.{byte_text, hexadecimal_digit, is_printable, printed};
 
 use std::fmt;
 use std::fmt::{Display, Formatter};
 
 /// Bytes as they are printed between quotation marks, in printable ASCII alone: a quotation mark and a backslash behind a
 /// backslash, others from the space to `~` as they are, and any other byte as `\x` and two hexadecimal digits.
-#[derive(Clone, Copy, Debug)]
+#[derive(Clone, Copy)]
 pub struct Printed<'a>(pub &'a [u8]);
 
 /// A hexadecimal digit.
 fn digit_of(number: u8) -> u8
     requires { number < 16 }
-    ensures { result ≡ hexadecimal number }
+    ensures { result ≡ hexadecimal_digit number }
 {
     if number < 10 {
         b'0' + number

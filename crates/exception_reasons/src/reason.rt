@@ -10,7 +10,7 @@ use std::marker::Model;
 
 /// The reason of an Exception, at most its first 1,024 bytes, without the zero behind them. They needn't be UTF-8.
 /// Contracts see it as the list of these. It is printed in printable ASCII, as [`Printed`] says.
-#[derive(Debug, Drop)]
+#[derive(Drop)]
 pub struct Reason {
     bytes: Vec<u8>,
 }

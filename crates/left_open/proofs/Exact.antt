@@ -12,8 +12,8 @@ use Rattle.decoded_records.specs.Lives.{Birth, birth, begins, held, is_in_life, 
 use Rattle.vat_view.specs.Walks.{Next, next, turns, stops, stays}
 use Rattle.decoded_records.proofs.Naming.{names_is}
 use Rattle.vat_view.proofs.Viewed.{begins_parts}
-use Rattle.left_open.specs.Left.{IsOpen, question, unfinished, loopback, promise, number, is_unresolved, record_of, place_of, ComesBefore}
-use Rattle.left_open.specs.Glue.{At, is_at, at_point, unreturned_at, unfinished_at, unechoed_at, at_birth, began_at, reference_vowed, is_still, question_left, question_by, loopback_by, promise_by, number_by, numbers_from, opened_by, opened_from}
+use Rattle.left_open.specs.Left.{IsOpen, question, unfinished, loopback, promise, number, is_promise_unresolved, record_of_opening, place_of, OpensBefore}
+use Rattle.left_open.specs.Glue.{At, is_at, at_point, unreturned_at, unfinished_at, unechoed_at, at_birth, life_began_at, reference_vowed, is_still, question_left, question_by, loopback_by, promise_by, opened_number, numbers_from, opened_by, opened_from}
 use Rattle.left_open.proofs.Points.{none_some, some_same, where_of, since_of, answer_of, at_number, number_of}
 use Rattle.left_open.proofs.Lists.{nothing_in, single_in, in_single, Rises, rises_both, rises_single, in_pairs}
 
@@ -49,9 +49,9 @@ opened_one : {B : Type 0} (o : Option TableKey) (make : TableKey → Option B) (
 opened_one (Some q) make x h = (q, refl, h)
 opened_one None make x h = absurd (none_some h)
 
-left_record : (a b : Bool) (q : TableKey) (call n : ℕ) (o : Open) → LeftOf a b q call n o → (record_of o ≡ n) × (place_of o ≡ 0)
-left_record a b q call n o (without_return holds is) = (ap (λ x. record_of x) (sym is), ap (λ x. place_of x) (sym is))
-left_record a b q call n o (without_finish fails holds is) = (ap (λ x. record_of x) (sym is), ap (λ x. place_of x) (sym is))
+left_record : (a b : Bool) (q : TableKey) (call n : ℕ) (o : Open) → LeftOf a b q call n o → (record_of_opening o ≡ n) × (place_of o ≡ 0)
+left_record a b q call n o (without_return holds is) = (ap (λ x. record_of_opening x) (sym is), ap (λ x. place_of x) (sym is))
+left_record a b q call n o (without_finish fails holds is) = (ap (λ x. record_of_opening x) (sym is), ap (λ x. place_of x) (sym is))
 
 placed : (n p : ℕ) (at : Option At) → is_at n p at ≡ true → at ≡ Some (n, p)
 placed n p (Some (a, b)) h = let parts = and_parts (a == n) (b == p) h in ap₂ (λ x y. Some (x, y)) (eqb-true a n parts.0) (eqb-true b p parts.1)
@@ -114,7 +114,7 @@ unechoed_parts i past n h = inner (loopback_of i past) h
     inner None g = absurd (none_some g)
     inner (Some p) g = (p, refl, ap (λ (at : At). at.0) (some_same g))
 
-began_parts : (i : TableKey) (past : Past) (n place : ℕ) → began_at i past ≡ Some (n, place) → (b : Birth) × (last_answer (begins i) past ≡ Some b) × (record_index b.from ≡ n) × (b.place ≡ place)
+began_parts : (i : TableKey) (past : Past) (n place : ℕ) → life_began_at i past ≡ Some (n, place) → (b : Birth) × (last_answer (begins i) past ≡ Some b) × (record_index b.from ≡ n) × (b.place ≡ place)
 began_parts i past n place h = inner (last_answer (begins i) past) h
   where
     inner : (o : Option Birth) → option_map at_birth o ≡ Some (n, place) → (b : Birth) × (o ≡ Some b) × (record_index b.from ≡ n) × (b.place ≡ place)
@@ -155,32 +155,32 @@ data Opened (f u g h : TableKey → Option At) (past : Past) (n : ℕ) (e : Deco
   a_question : question_by f u n e ≡ Some o → Opened f u g h past n e o
   a_loopback : loopback_by g n e ≡ Some o → Opened f u g h past n e o
   a_promise : promise_by past n e ≡ Some o → Opened f u g h past n e o
-  a_number : (j : ℕ) (d : Descriptor) → slice_get (descriptors e) j ≡ Some d → number_by h past n e j d ≡ Some o → Opened f u g h past n e o
+  a_number : (j : ℕ) (d : Descriptor) → slice_get (descriptors e) j ≡ Some d → opened_number h past n e j d ≡ Some o → Opened f u g h past n e o
 
 module _ (f u g h : TableKey → Option At) (past : Past) where
   -- ---- what a list of numbers has
 
   from_numbers : (n : ℕ) (e : DecodedRecord) (place : ℕ) (ds : List Descriptor) (o : Open) → Contains (numbers_from h past n e place ds) o →
-      (j : ℕ) × (d : Descriptor) × (slice_get ds j ≡ Some d) × (number_by h past n e (place + j) d ≡ Some o)
+      (j : ℕ) × (d : Descriptor) × (slice_get ds j ≡ Some d) × (opened_number h past n e (place + j) d ≡ Some o)
   from_numbers n e place [] o c = absurd (nothing_in o c)
-  from_numbers n e place (d ∷ ds) o c = elim (Contains-append_cases (option_to_list (number_by h past n e place d)) (numbers_from h past n e (place + 1) ds) o c) [
-    | inl here ↦ (0, d, refl, ap (λ p. number_by h past n e p d) (add-zero place) ∙ single_in (number_by h past n e place d) o here)
+  from_numbers n e place (d ∷ ds) o c = elim (Contains-append_cases (option_to_list (opened_number h past n e place d)) (numbers_from h past n e (place + 1) ds) o c) [
+    | inl here ↦ (0, d, refl, ap (λ p. opened_number h past n e p d) (add-zero place) ∙ single_in (opened_number h past n e place d) o here)
     | inr there ↦
         let rest = from_numbers n e (place + 1) ds o there in
         let same : place + suc rest.0 ≡ place + 1 + rest.0 = omega arith in
-        (suc rest.0, rest.1, rest.2, ap (λ p. number_by h past n e p rest.1) same ∙ rest.3)
+        (suc rest.0, rest.1, rest.2, ap (λ p. opened_number h past n e p rest.1) same ∙ rest.3)
   ]
 
-  in_numbers : (n : ℕ) (e : DecodedRecord) (place : ℕ) (ds : List Descriptor) (j : ℕ) (d : Descriptor) (o : Open) → slice_get ds j ≡ Some d → number_by h past n e (place + j) d ≡ Some o →
+  in_numbers : (n : ℕ) (e : DecodedRecord) (place : ℕ) (ds : List Descriptor) (j : ℕ) (d : Descriptor) (o : Open) → slice_get ds j ≡ Some d → opened_number h past n e (place + j) d ≡ Some o →
       Contains (numbers_from h past n e place ds) o
   in_numbers n e place [] j d o there by = absurd (none_some there)
   in_numbers n e place (x ∷ ds) zero d o there by =
-      let first : number_by h past n e place x ≡ Some o = ap₂ (λ p y. number_by h past n e p y) (sym (add-zero place)) (some_same there) ∙ by in
-      Contains-append_left (option_to_list (number_by h past n e place x)) (numbers_from h past n e (place + 1) ds) o (in_single (number_by h past n e place x) o first)
+      let first : opened_number h past n e place x ≡ Some o = ap₂ (λ p y. opened_number h past n e p y) (sym (add-zero place)) (some_same there) ∙ by in
+      Contains-append_left (option_to_list (opened_number h past n e place x)) (numbers_from h past n e (place + 1) ds) o (in_single (opened_number h past n e place x) o first)
   in_numbers n e place (x ∷ ds) (suc j) d o there by =
       let same : place + 1 + j ≡ place + suc j = omega arith in
-      Contains-append_right (option_to_list (number_by h past n e place x)) (numbers_from h past n e (place + 1) ds) o
-      (in_numbers n e (place + 1) ds j d o there (ap (λ p. number_by h past n e p d) same ∙ by))
+      Contains-append_right (option_to_list (opened_number h past n e place x)) (numbers_from h past n e (place + 1) ds) o
+      (in_numbers n e (place + 1) ds j d o there (ap (λ p. opened_number h past n e p d) same ∙ by))
 
   -- ---- what the list of one record has
 
@@ -202,7 +202,7 @@ module _ (f u g h : TableKey → Option At) (past : Past) where
         | inl here ↦ a_promise (single_in (promise_by past n e) o here)
         | inr c ↦
             let there = from_numbers n e 0 (descriptors e) o c in
-            a_number there.0 there.1 there.2 (ap (λ p. number_by h past n e p there.1) (sym (zero-add there.0)) ∙ there.3)
+            a_number there.0 there.1 there.2 (ap (λ p. opened_number h past n e p there.1) (sym (zero-add there.0)) ∙ there.3)
       ]
     ]
   ]
@@ -220,7 +220,7 @@ module _ (f u g h : TableKey → Option At) (past : Past) where
       Contains-append_right (option_to_list (question_by f u n e)) (behind_one n e) o
       (Contains-append_right (option_to_list (loopback_by g n e)) (behind_two n e) o
       (Contains-append_right (option_to_list (promise_by past n e)) (numbers_from h past n e 0 (descriptors e)) o
-      (in_numbers n e 0 (descriptors e) j d o there (ap (λ p. number_by h past n e p d) (zero-add j) ∙ is))))
+      (in_numbers n e 0 (descriptors e) j d o there (ap (λ p. opened_number h past n e p d) (zero-add j) ∙ is))))
 
   -- ---- what the list of all records has
 
@@ -256,37 +256,37 @@ module _ (f u g h : TableKey → Option At) (past : Past) where
       ap (λ p. option_and_then (λ q. question_left (is_at n 0 (f q)) (is_at n 0 (u q)) q (noted_call e) n) p) opened
       ∙ left_whole (is_at n 0 (f q)) (is_at n 0 (u q)) q (noted_call e) n o is
 
-  question_record : (n : ℕ) (e : DecodedRecord) (o : Open) → question_by f u n e ≡ Some o → (record_of o ≡ n) × (place_of o ≡ 0) × (is_some (question_opened e) ≡ true)
+  question_record : (n : ℕ) (e : DecodedRecord) (o : Open) → question_by f u n e ≡ Some o → (record_of_opening o ≡ n) × (place_of o ≡ 0) × (is_some (question_opened e) ≡ true)
   question_record n e o is =
       let c = question_parts n e o is in
       let at = left_record (is_at n 0 (f c.0)) (is_at n 0 (u c.0)) c.0 (noted_call e) n o c.2 in
       (at.0, at.1, ap (λ x. is_some x) c.1)
 
-  record_opened : (n : ℕ) (e : DecodedRecord) (o : Open) → OpenedBy n e o → record_of o ≡ n
+  record_opened : (n : ℕ) (e : DecodedRecord) (o : Open) → OpenedBy n e o → record_of_opening o ≡ n
   record_opened n e o (a_question is) = (question_record n e o is).0
-  record_opened n e o (a_loopback is) = let c = chosen (sender_loopback e) (λ i. is_at n 0 (g i)) (λ i. Loopback i n) o is in ap (λ x. record_of x) (sym c.3)
-  record_opened n e o (a_promise is) = let c = chosen (reference_vowed e) (λ r. is_still (next past (PromiseView r))) (λ r. Promise r n) o is in ap (λ x. record_of x) (sym c.3)
+  record_opened n e o (a_loopback is) = let c = chosen (sender_loopback e) (λ i. is_at n 0 (g i)) (λ i. Loopback i n) o is in ap (λ x. record_of_opening x) (sym c.3)
+  record_opened n e o (a_promise is) = let c = chosen (reference_vowed e) (λ r. is_still (next past (PromiseView r))) (λ r. Promise r n) o is in ap (λ x. record_of_opening x) (sym c.3)
   record_opened n e o (a_number j d there is) =
-      let c = chosen (number_introduced e d) (λ i. is_at n j (h i) && is_in_life i past) (λ i. Number i (held i past) (is_unresolved i past) n j) o is in ap (λ x. record_of x) (sym c.3)
+      let c = chosen (number_introduced e d) (λ i. is_at n j (h i) && is_in_life i past) (λ i. Number i (held i past) (is_promise_unresolved i past) n j) o is in ap (λ x. record_of_opening x) (sym c.3)
 
-  number_record : (n : ℕ) (e : DecodedRecord) (j : ℕ) (d : Descriptor) (o : Open) → number_by h past n e j d ≡ Some o → (record_of o ≡ n) × (place_of o ≡ j + 1)
+  number_record : (n : ℕ) (e : DecodedRecord) (j : ℕ) (d : Descriptor) (o : Open) → opened_number h past n e j d ≡ Some o → (record_of_opening o ≡ n) × (place_of o ≡ j + 1)
   number_record n e j d o is =
-      let c = chosen (number_introduced e d) (λ i. is_at n j (h i) && is_in_life i past) (λ i. Number i (held i past) (is_unresolved i past) n j) o is in
-      (ap (λ x. record_of x) (sym c.3), ap (λ x. place_of x) (sym c.3))
+      let c = chosen (number_introduced e d) (λ i. is_at n j (h i) && is_in_life i past) (λ i. Number i (held i past) (is_promise_unresolved i past) n j) o is in
+      (ap (λ x. record_of_opening x) (sym c.3), ap (λ x. place_of x) (sym c.3))
 
-  loopback_record : (n : ℕ) (e : DecodedRecord) (o : Open) → loopback_by g n e ≡ Some o → (record_of o ≡ n) × (place_of o ≡ 0) × (is_some (sender_loopback e) ≡ true)
+  loopback_record : (n : ℕ) (e : DecodedRecord) (o : Open) → loopback_by g n e ≡ Some o → (record_of_opening o ≡ n) × (place_of o ≡ 0) × (is_some (sender_loopback e) ≡ true)
   loopback_record n e o is =
       let c = chosen (sender_loopback e) (λ i. is_at n 0 (g i)) (λ i. Loopback i n) o is in
-      (ap (λ x. record_of x) (sym c.3), ap (λ x. place_of x) (sym c.3), ap (λ x. is_some x) c.1)
+      (ap (λ x. record_of_opening x) (sym c.3), ap (λ x. place_of x) (sym c.3), ap (λ x. is_some x) c.1)
 
-  promise_record : (n : ℕ) (e : DecodedRecord) (o : Open) → promise_by past n e ≡ Some o → (record_of o ≡ n) × (place_of o ≡ 0) × (is_some (reference_vowed e) ≡ true)
+  promise_record : (n : ℕ) (e : DecodedRecord) (o : Open) → promise_by past n e ≡ Some o → (record_of_opening o ≡ n) × (place_of o ≡ 0) × (is_some (reference_vowed e) ≡ true)
   promise_record n e o is =
       let c = chosen (reference_vowed e) (λ r. is_still (next past (PromiseView r))) (λ r. Promise r n) o is in
-      (ap (λ x. record_of x) (sym c.3), ap (λ x. place_of x) (sym c.3), ap (λ x. is_some x) c.1)
+      (ap (λ x. record_of_opening x) (sym c.3), ap (λ x. place_of x) (sym c.3), ap (λ x. is_some x) c.1)
 
   -- ---- in order
 
-  before_numbers : (n : ℕ) (e : DecodedRecord) (x : Open) → record_of x ≡ n → place_of x ≡ 0 → (y : Open) → Contains (numbers_from h past n e 0 (descriptors e)) y → ComesBefore x y
+  before_numbers : (n : ℕ) (e : DecodedRecord) (x : Open) → record_of_opening x ≡ n → place_of x ≡ 0 → (y : Open) → Contains (numbers_from h past n e 0 (descriptors e)) y → OpensBefore x y
   before_numbers n e x at first y c =
       let there = from_numbers n e 0 (descriptors e) y c in
       let later = number_record n e (0 + there.0) there.1 y there.3 in
@@ -296,9 +296,9 @@ module _ (f u g h : TableKey → Option At) (past : Past) where
   numbers_rise : (n : ℕ) (e : DecodedRecord) (place : ℕ) (ds : List Descriptor) → Rises (numbers_from h past n e place ds)
   numbers_rise n e place [] = tt
   numbers_rise n e place (d ∷ ds) =
-      rises_both (option_to_list (number_by h past n e place d)) (numbers_from h past n e (place + 1) ds) (rises_single (number_by h past n e place d)) (numbers_rise n e (place + 1) ds)
+      rises_both (option_to_list (opened_number h past n e place d)) (numbers_from h past n e (place + 1) ds) (rises_single (opened_number h past n e place d)) (numbers_rise n e (place + 1) ds)
       (λ x c y k.
-      let one = number_record n e place d x (single_in (number_by h past n e place d) x c) in
+      let one = number_record n e place d x (single_in (opened_number h past n e place d) x c) in
       let there = from_numbers n e (place + 1) ds y k in
       let other = number_record n e (place + 1 + there.0) there.1 y there.3 in
       let first = one.1 in let behind = other.1 in
@@ -324,10 +324,10 @@ module _ (f u g h : TableKey → Option At) (past : Past) where
       loopback_first)
       question_first
     where
-      promise_first : (x : Open) → Contains (option_to_list (promise_by past n e)) x → (y : Open) → Contains (numbers_from h past n e 0 (descriptors e)) y → ComesBefore x y
+      promise_first : (x : Open) → Contains (option_to_list (promise_by past n e)) x → (y : Open) → Contains (numbers_from h past n e 0 (descriptors e)) y → OpensBefore x y
       promise_first x c y k = let at = promise_record n e x (single_in (promise_by past n e) x c) in before_numbers n e x at.0 at.1 y k
 
-      loopback_first : (x : Open) → Contains (option_to_list (loopback_by g n e)) x → (y : Open) → Contains (behind_two n e) y → ComesBefore x y
+      loopback_first : (x : Open) → Contains (option_to_list (loopback_by g n e)) x → (y : Open) → Contains (behind_two n e) y → OpensBefore x y
       loopback_first x c y k =
           let at = loopback_record n e x (single_in (loopback_by g n e) x c) in
           elim (Contains-append_cases (option_to_list (promise_by past n e)) (numbers_from h past n e 0 (descriptors e)) y k) [
@@ -335,7 +335,7 @@ module _ (f u g h : TableKey → Option At) (past : Past) where
             | inr p ↦ before_numbers n e x at.0 at.1 y p
           ]
 
-      question_first : (x : Open) → Contains (option_to_list (question_by f u n e)) x → (y : Open) → Contains (behind_one n e) y → ComesBefore x y
+      question_first : (x : Open) → Contains (option_to_list (question_by f u n e)) x → (y : Open) → Contains (behind_one n e) y → OpensBefore x y
       question_first x c y k =
           let at = question_record n e x (single_in (question_by f u n e) x c) in
           elim (Contains-append_cases (option_to_list (loopback_by g n e)) (behind_two n e) y k) [
@@ -356,12 +356,12 @@ module _ (f u g h : TableKey → Option At) (past : Past) where
       let other = record_opened (n + 1 + there.0) there.1 y there.3 in
       inl (omega (arith, one, other)))
 
-  pub in_order : (records : List DecodedRecord) → AllPairs ComesBefore (opened_from f u g h past 0 records)
+  pub in_order : (records : List DecodedRecord) → AllPairs OpensBefore (opened_from f u g h past 0 records)
   in_order records = in_pairs (opened_from f u g h past 0 records) (all_rise 0 records)
 
   -- ---- just what is open
 
-  module _ (unreturned : (q : TableKey) → f q ≡ unreturned_at q past) (unended : (q : TableKey) → u q ≡ unfinished_at q past) (unechoed : (i : TableKey) → g i ≡ unechoed_at i past) (began : (i : TableKey) → h i ≡ began_at i past) where
+  module _ (unreturned : (q : TableKey) → f q ≡ unreturned_at q past) (unended : (q : TableKey) → u q ≡ unfinished_at q past) (unechoed : (i : TableKey) → g i ≡ unechoed_at i past) (began : (i : TableKey) → h i ≡ life_began_at i past) where
     event_of : (n : ℕ) (e : DecodedRecord) (q : TableKey) (p : Point) → record_at n past ≡ Some e → opening q past ≡ Some p → record_index p ≡ n → p.event ≡ e
     event_of n e q p there is at = some_same (sym (where_of (opens q) past p is).0 ∙ ap (λ m. record_at m past) at ∙ there)
 
@@ -388,11 +388,11 @@ module _ (f u g h : TableKey → Option At) (past : Past) where
         let c = chosen (reference_vowed e) (λ r. is_still (next past (PromiseView r))) (λ r. Promise r n) o is in
         subst (λ x. IsOpen past x) c.3 (promise c.0 n (there ∙ ap (λ x. Some x) (vowed e c.0 c.1)) (still (next past (PromiseView c.0)) c.2))
     sound n e o there (a_number j d at is) =
-        let c = chosen (number_introduced e d) (λ i. is_at n j (h i) && is_in_life i past) (λ i. Number i (held i past) (is_unresolved i past) n j) o is in
+        let c = chosen (number_introduced e d) (λ i. is_at n j (h i) && is_in_life i past) (λ i. Number i (held i past) (is_promise_unresolved i past) n j) o is in
         let tests = and_parts (is_at n j (h c.0)) (is_in_life c.0 past) c.2 in
         let b = began_parts c.0 past n j (sym (began c.0) ∙ placed n j (h c.0) tests.0) in
         let life : birth c.0 past ≡ Some b.0 = ap (λ a. if a then last_answer (begins c.0) past else None) tests.1 ∙ b.1 in
-        subst (λ x. IsOpen past x) (ap₂ (λ m p. Number c.0 (held c.0 past) (is_unresolved c.0 past) m p) b.2 b.3 ∙ c.3) (number c.0 b.0 life)
+        subst (λ x. IsOpen past x) (ap₂ (λ m p. Number c.0 (held c.0 past) (is_promise_unresolved c.0 past) m p) b.2 b.3 ∙ c.3) (number c.0 b.0 life)
 
     abbrev Opens : Open → Type 0
     Opens o = (n : ℕ) × (e : DecodedRecord) × (record_at n past ≡ Some e) × OpenedBy n e o
@@ -431,13 +431,13 @@ module _ (f u g h : TableKey → Option At) (past : Past) where
         let n : record_index b.from ≡ record_index at.0 = ap (λ (b : Birth). record_index b.from) began_by.2 in
         let place : b.place ≡ d.0 = ap (λ (b : Birth). b.place) began_by.2 ∙ sym d.2 ∙ zero-add d.0 in
         let stands : h i ≡ Some (record_index at.0, d.0) = began i ∙ ap (λ o. option_map at_birth o) parts.1 ∙ ap₂ (λ m p. Some (m, p)) n place in
-        let made = choose (number_introduced at.0.event d.1) (λ i. is_at (record_index at.0) d.0 (h i) && is_in_life i past) (λ i. Number i (held i past) (is_unresolved i past) (record_index at.0) d.0) i
+        let made = choose (number_introduced at.0.event d.1) (λ i. is_at (record_index at.0) d.0 (h i) && is_in_life i past) (λ i. Number i (held i past) (is_promise_unresolved i past) (record_index at.0) d.0) i
         (names_is i (number_introduced at.0.event d.1) d.4)
         (both_true (is_at (record_index at.0) d.0 (h i)) (is_in_life i past) (placing (record_index at.0) d.0 (h i) stands) parts.0) in (
           record_index at.0,
           at.0.event,
           at.1,
-          a_number d.0 d.1 d.3 (made ∙ ap₂ (λ m p. Some (Number i (held i past) (is_unresolved i past) m p)) (sym n) (sym place)),
+          a_number d.0 d.1 d.3 (made ∙ ap₂ (λ m p. Some (Number i (held i past) (is_promise_unresolved i past) m p)) (sym n) (sym place)),
         )
 
     pub exact : (records : List DecodedRecord) → past ≡ reverse records → (o : Open) → Contains (opened_from f u g h past 0 records) o ↔ IsOpen past o

@@ -5,7 +5,7 @@ use Rattle.std.specs.List.{AllPairs}
 use Rattle.std.proofs.lemmas.List.Elements.{Contains-append_cases, Contains-append_right, Contains-get_or}
 use Rattle.std.proofs.lemmas.List.Kept.{AllPairs-cons}
 use Rattle.left_open.specs.Types.{Open}
-use Rattle.left_open.specs.Left.{ComesBefore}
+use Rattle.left_open.specs.Left.{OpensBefore}
 use Rattle.left_open.proofs.Points.{none_some}
 
 pub nothing_in : {A : Type 0} (x : A) → Contains [] x → ⊥
@@ -25,9 +25,9 @@ in_single None x same = absurd (none_some same)
 -- each comes before all later ones
 abbrev pub Rises : List Open → Type 0
 Rises [] = ⊤
-Rises (x ∷ xs) = ((y : Open) → Contains xs y → ComesBefore x y) × Rises xs
+Rises (x ∷ xs) = ((y : Open) → Contains xs y → OpensBefore x y) × Rises xs
 
-pub rises_both : (xs ys : List Open) → Rises xs → Rises ys → ((x : Open) → Contains xs x → (y : Open) → Contains ys y → ComesBefore x y) → Rises (xs ++ ys)
+pub rises_both : (xs ys : List Open) → Rises xs → Rises ys → ((x : Open) → Contains xs x → (y : Open) → Contains ys y → OpensBefore x y) → Rises (xs ++ ys)
 rises_both [] ys p q cross = q
 rises_both (x ∷ xs) ys p q cross = (
   λ y c. elim (Contains-append_cases xs ys y c) [
@@ -41,6 +41,6 @@ pub rises_single : (o : Option Open) → Rises (option_to_list o)
 rises_single (Some x) = (λ y c. absurd (nothing_in y c), tt)
 rises_single None = tt
 
-pub in_pairs : (xs : List Open) → Rises xs → AllPairs ComesBefore xs
+pub in_pairs : (xs : List Open) → Rises xs → AllPairs OpensBefore xs
 in_pairs [] h = λ i j d less below. absurd (let no : ⊥ = omega (arith, below) in no)
-in_pairs (x ∷ xs) h = AllPairs-cons ComesBefore x xs (λ k d less. h.0 (get_or xs k d) (Contains-get_or xs k d less)) (in_pairs xs h.1)
+in_pairs (x ∷ xs) h = AllPairs-cons OpensBefore x xs (λ k d less. h.0 (get_or xs k d) (Contains-get_or xs k d less)) (in_pairs xs h.1)

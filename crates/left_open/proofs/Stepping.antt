@@ -11,7 +11,7 @@ use Rattle.decoded_records.specs.Past.{Past, Point, point, id, same_id, names, l
 use Rattle.decoded_records.specs.Questions.{question_opened, question_returned, question_returned_lightly, question_finished, opens, returns_lightly, opening, return_of, finish_of, is_late}
 use Rattle.decoded_records.specs.Loopbacks.{sender_loopback, receiver_loopback, loopback_of}
 use Rattle.decoded_records.specs.Lives.{Birth, begins, held, is_in_life, number_introduced, descriptors}
-use Rattle.left_open.specs.Glue.{At, at_point, at_birth, unreturned_at, unfinished_at, unechoed_at, began_at, names_new, begins_from, begins_at}
+use Rattle.left_open.specs.Glue.{At, at_point, at_birth, unreturned_at, unfinished_at, unechoed_at, life_began_at, names_new, begins_from, begins_at}
 
 pub unreturned_more : (q : TableKey) (before : Past) (e : DecodedRecord) →
     (if names q (question_opened e) then Some (length before, 0) else if names q (question_returned e) then None else unreturned_at q before) ≡ unreturned_at q (e ∷ before)
@@ -92,8 +92,8 @@ begins_so i before e = inner (is_in_life i before) (is_late before e)
     inner true false = ap (λ o. option_map (λ p. (length before, p)) o) (none_new t 0 (descriptors e))
     inner false false = ap (λ o. option_map (λ p. (length before, p)) o) (all_new t 0 (descriptors e)) ∙ both (position_from t 0 (descriptors e))
 
-pub began_more : (i : TableKey) (before : Past) (e : DecodedRecord) → option_or (begins_at (length before) i before e) (began_at i before) ≡ began_at i (e ∷ before)
-began_more i before e = ap (λ o. option_or o (began_at i before)) (begins_so i before e) ∙ mapped (begins i before e) (last_answer (begins i) before)
+pub began_more : (i : TableKey) (before : Past) (e : DecodedRecord) → option_or (begins_at (length before) i before e) (life_began_at i before) ≡ life_began_at i (e ∷ before)
+began_more i before e = ap (λ o. option_or o (life_began_at i before)) (begins_so i before e) ∙ mapped (begins i before e) (last_answer (begins i) before)
   where
     mapped : (o p : Option Birth) → option_or (option_map at_birth o) (option_map at_birth p) ≡ option_map at_birth (option_or o p)
     mapped None p = refl

@@ -11,7 +11,7 @@ use Rattle.vat_view.specs.Walks.{Next, next, turns, stops, stays}
 use Rattle.decoded_records.specs.Glue.Parts.{id_cmp}
 use Rattle.left_open.specs.declared.begun.Begun.{Begun}
 use Rattle.left_open.specs.declared.watching.Watched.{Watched}
-use Rattle.left_open.specs.Left.{is_unresolved}
+use Rattle.left_open.specs.Left.{is_promise_unresolved}
 
 -- a record, and a place there
 abbrev pub At : Type 0
@@ -49,15 +49,15 @@ abbrev pub at_birth : Birth → At
 at_birth b = (record_index b.from, b.place)
 
 -- where the last life of a number began
-abbrev pub began_at : TableKey → Past → Option At
-began_at i past = option_map at_birth (last_answer (begins i) past)
+abbrev pub life_began_at : TableKey → Past → Option At
+life_began_at i past = option_map at_birth (last_answer (begins i) past)
 
 -- the tables have what looking back finds
 pub record IsWatched (past : Past) (watched : Watched) : Type 0 where
   pub questions : (q : TableKey) → begun_in watched.questions q ≡ unreturned_at q past
   pub unfinished : (q : TableKey) → begun_in watched.unfinished q ≡ unfinished_at q past
   pub loopbacks : (i : TableKey) → begun_in watched.loopbacks i ≡ unechoed_at i past
-  pub lives : (i : TableKey) → begun_in watched.lives i ≡ began_at i past
+  pub lives : (i : TableKey) → begun_in watched.lives i ≡ life_began_at i past
 
 -- a descriptor of the next record introduces this number, which isn't held
 abbrev pub names_new : Past → DecodedRecord → TableKey → Descriptor → Bool
@@ -98,13 +98,13 @@ loopback_by unechoed n e = option_and_then (λ i. if is_at n 0 (unechoed i) then
 abbrev pub promise_by : Past → ℕ → DecodedRecord → Option Open
 promise_by past n e = option_and_then (λ r. if is_still (next past (PromiseView r)) then Some (Promise r n) else None) (reference_vowed e)
 
-abbrev pub number_by : (TableKey → Option At) → Past → ℕ → DecodedRecord → ℕ → Descriptor → Option Open
-number_by began past n e place d =
-    option_and_then (λ i. if is_at n place (began i) && is_in_life i past then Some (Number i (held i past) (is_unresolved i past) n place) else None) (number_introduced e d)
+abbrev pub opened_number : (TableKey → Option At) → Past → ℕ → DecodedRecord → ℕ → Descriptor → Option Open
+opened_number began past n e place d =
+    option_and_then (λ i. if is_at n place (began i) && is_in_life i past then Some (Number i (held i past) (is_promise_unresolved i past) n place) else None) (number_introduced e d)
 
 abbrev pub numbers_from : (TableKey → Option At) → Past → ℕ → DecodedRecord → ℕ → List Descriptor → List Open
 numbers_from began past n e place [] = []
-numbers_from began past n e place (d ∷ ds) = option_to_list (number_by began past n e place d) ++ numbers_from began past n e (place + 1) ds
+numbers_from began past n e place (d ∷ ds) = option_to_list (opened_number began past n e place d) ++ numbers_from began past n e (place + 1) ds
 
 abbrev pub opened_by : (TableKey → Option At) → (TableKey → Option At) → (TableKey → Option At) → (TableKey → Option At) → Past → ℕ → DecodedRecord → List Open
 opened_by unreturned unfinished unechoed began past n e =

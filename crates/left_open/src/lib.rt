@@ -7,10 +7,10 @@
 #![tactic(auto)]
 
 mod begun;
-mod ending;
 mod listing;
+mod log_ending;
 mod open_things;
 mod watching;
 
-pub use ending::open_at_end;
+pub use log_ending::open_at_end;
 pub use open_things::Open;

@@ -2,8 +2,8 @@
 
 ghost use Rattle.std.specs.Prelude.{◌≡◌, ◌++◌, IfOk, OnOk, option_to_list};
 ghost use Rattle.decoded_records.specs.Lives.{descriptors};
-ghost use Rattle.left_open.specs.Glue.{begun_in, question_by, loopback_by, promise_by, reference_vowed, number_by, numbers_from, opened_by, opened_from};
-ghost use Rattle.left_open.specs.Left.{is_unresolved};
+ghost use Rattle.left_open.specs.Glue.{begun_in, question_by, loopback_by, promise_by, reference_vowed, opened_number, numbers_from, opened_by, opened_from};
+ghost use Rattle.left_open.specs.Left.{is_promise_unresolved};
 
 use crate::begun::Begun;
 use crate::open_things::Open;
@@ -69,7 +69,7 @@ fn open_promise(state: &VatState, at: usize, event: &DecodedRecord) -> Option<Op
 
 /// Whether an export or import came as a promise and has had no Resolve.
 fn is_unresolved(state: &VatState, number: TableKey) -> bool
-    ensures { result ≡ is_unresolved number state.now }
+    ensures { result ≡ is_promise_unresolved number state.now }
 {
     match state.began_promised(number) {
         Some(promised) => promised && !state.is_resolved(number),
@@ -87,7 +87,7 @@ fn open_number(
     descriptor: &Descriptor,
 ) -> Option<Open>
     ensures { result
-        ≡ number_by (begun_in lives.now) state.now at event.now place descriptor.now }
+        ≡ opened_number (begun_in lives.now) state.now at event.now place descriptor.now }
 {
     let number = event.number_introduced(descriptor)?;
     if !lives.is_at(number, at, place) {

@@ -9,7 +9,7 @@ use Rattle.merge_order.proofs.Greedy.{eqb_apart}
 use Rattle.merge_order.proofs.Steps.{rising_tail}
 use Rattle.vat_log.specs.Log.{Log}
 use Rattle.vat_log.specs.declared.body.Body.{Body}
-use Rattle.turn_taking.specs.Turns.{Turns, records_of, AreAll}
+use Rattle.turn_taking.specs.Turns.{Turns, records_taken, AreAll}
 use Rattle.turn_taking.proofs.Counting.{count_of_vat}
 use Rattle.lock_step.specs.Taking.{count_turns}
 use Rattle.lock_step.proofs.Rising.{above_first}
@@ -45,7 +45,7 @@ one_hit v passes (log ∷ logs) (suc i) d rising lt vat =
 -- ---- the turns of each log
 
 abbrev own : (Body → Bool) → Turns → Log → ℕ
-own test turns log = count_by test (records_of log.vat turns)
+own test turns log = count_by test (records_taken log.vat turns)
 
 own_none : (test : Body → Bool) (logs : List Log) → sum_by (own test []) logs ≡ 0
 own_none test [] = refl

@@ -12,23 +12,23 @@ use Rattle.vat_log.specs.Log.{Log}
 use Rattle.vat_log.specs.Passages.{frame_sent, frame_received}
 use Rattle.vat_log.specs.declared.body.Body.{Body}
 use Rattle.vat_log.specs.declared.body.Body.TheVariants.{Send, Receive}
-use Rattle.frame_queue.specs.Directions.{BothWays, between}
-use Rattle.frame_queue.specs.declared.end.End.{End}
-use Rattle.frame_queue.specs.declared.end.End.TheVariants.{First, Second}
+use Rattle.lock_step.specs.Directions.{BothWays, between}
+use Rattle.lock_step.specs.declared.link_end.LinkEnd.{LinkEnd}
+use Rattle.lock_step.specs.declared.link_end.LinkEnd.TheVariants.{First, Second}
 use Rattle.link_check.specs.Prefix.{Ends}
-use Rattle.turn_taking.specs.Turns.{Turns, records_of, AreAll}
+use Rattle.turn_taking.specs.Turns.{Turns, records_taken, AreAll}
 use Rattle.turn_taking.proofs.Counting.{records_more}
 use Rattle.case_book.specs.declared.link.Link.{Link}
 use Rattle.case_book.specs.Pieces.{IsComparisonOf}
 use Rattle.lock_step.specs.declared.link_state.LinkState.{LinkState}
 use Rattle.lock_step.specs.declared.link_table.LinkTable.{LinkTable}
 use Rattle.lock_step.specs.Links.{LinkTurns, link_on, ways_of}
-use Rattle.lock_step.specs.Glue.{end_of, with_record_at, with_turn, state_of, state_on, passes_on, IsPassed, IsAdded, AreStates}
+use Rattle.lock_step.specs.Glue.{end_of, with_record_at, link_with_turn, state_of, state_on, passes_on, IsLinkPassed, IsAdded, AreStates}
 
 -- ---- the frames of one vat
 
-frames_more : (f : Body → Option (List ℕ)) (v w : ℕ) (b : Body) (turns : Turns) → filter_map f (records_of v ((w, b) ∷ turns)) ≡ filter_map f (records_of v turns) ++ filter_map f (cond (w == v) (b ∷ []) [])
-frames_more f v w b turns = ap (filter_map f) (records_more v w b turns) ∙ filter_map-append f (records_of v turns) (cond (w == v) (b ∷ []) [])
+frames_more : (f : Body → Option (List ℕ)) (v w : ℕ) (b : Body) (turns : Turns) → filter_map f (records_taken v ((w, b) ∷ turns)) ≡ filter_map f (records_taken v turns) ++ filter_map f (cond (w == v) (b ∷ []) [])
+frames_more f v w b turns = ap (filter_map f) (records_more v w b turns) ∙ filter_map-append f (records_taken v turns) (cond (w == v) (b ∷ []) [])
 
 -- ---- the frames of both ends
 
@@ -55,8 +55,8 @@ longer k first second b s r t u =
     (u ++ filter_map (frame_received k) (cond second (b ∷ []) []))
 
 ways_more : (k first second w : ℕ) (b : Body) (turns : Turns) → ways_of k first second ((w, b) ∷ turns)
-    ≡ longer k (w == first) (w == second) b (filter_map (frame_sent k) (records_of second turns)) (filter_map (frame_received k) (records_of first turns)) (filter_map (frame_sent k) (records_of first turns))
-    (filter_map (frame_received k) (records_of second turns))
+    ≡ longer k (w == first) (w == second) b (filter_map (frame_sent k) (records_taken second turns)) (filter_map (frame_received k) (records_taken first turns)) (filter_map (frame_sent k) (records_taken first turns))
+    (filter_map (frame_received k) (records_taken second turns))
 ways_more k first second w b turns =
     let s = frames_more (frame_sent k) second w b turns in
     let r = frames_more (frame_received k) first w b turns in
@@ -69,7 +69,7 @@ abbrev state : ℕ → ℕ → BothWays → LinkState
 state first second queues = record { first = first; second = second; queues = queues }
 
 -- the end of the two that takes a record, if one does
-abbrev taker : Bool → Bool → Option End
+abbrev taker : Bool → Bool → Option LinkEnd
 taker first second = cond first (Some First) (cond second (Some Second) None)
 
 none_more : (s r t u : List (List ℕ)) → ways (s ++ []) (r ++ []) (t ++ []) (u ++ []) ≡ ways s r t u
@@ -122,7 +122,7 @@ queues_if first second true one other = refl
 queues_if first second false one other = refl
 
 state_further : (link : Link) (w : ℕ) (b : Body) (turns : Turns) → (link.a == link.b) ≡ false
-    → state_of ((w, b) ∷ turns) link ≡ cond (passes_on link.connection b) (with_turn w b (state_of turns link)) (state_of turns link)
+    → state_of ((w, b) ∷ turns) link ≡ cond (passes_on link.connection b) (link_with_turn w b (state_of turns link)) (state_of turns link)
 state_further link w b turns two =
     let first = min link.a link.b in
     let second = max link.a link.b in
@@ -155,17 +155,17 @@ some_if true one other = refl
 some_if false one other = refl
 
 one_further : (k w : ℕ) (b : Body) (turns : Turns) (kept : Option Link) → ((link : Link) → kept ≡ Some link → (link.connection ≡ k) × ((link.a == link.b) ≡ false))
-    → cond (passes_on k b) (option_map (with_turn w b) (option_map (state_of turns) kept)) (option_map (state_of turns) kept) ≡ option_map (state_of ((w, b) ∷ turns)) kept
+    → cond (passes_on k b) (option_map (link_with_turn w b) (option_map (state_of turns) kept)) (option_map (state_of turns) kept) ≡ option_map (state_of ((w, b) ∷ turns)) kept
 one_further k w b turns None is = same_either_way (passes_on k b) None
 one_further k w b turns (Some link) is =
     let so = is link refl in
     let further = state_further link w b turns so.1 in
-    some_if (passes_on k b) _ _ ∙ ap (λ (j : ℕ). Some (cond (passes_on j b) (with_turn w b (state_of turns link)) (state_of turns link))) (sym so.0) ∙ sym (ap Some further)
+    some_if (passes_on k b) _ _ ∙ ap (λ (j : ℕ). Some (cond (passes_on j b) (link_with_turn w b (state_of turns link)) (state_of turns link))) (sym so.0) ∙ sym (ap Some further)
 
 -- the links are kept, one turn further
-pub further : (links : List Link) (w : ℕ) (b : Body) (turns : Turns) (old new : LinkTable) → AreStates links turns old → IsPassed w b old new → AreStates links ((w, b) ∷ turns) new
+pub further : (links : List Link) (w : ℕ) (b : Body) (turns : Turns) (old new : LinkTable) → AreStates links turns old → IsLinkPassed w b old new → AreStates links ((w, b) ∷ turns) new
 further links w b turns old new are passed k =
-    passed k ∙ ap (λ (o : Option LinkState). cond (passes_on k b) (option_map (with_turn w b) o) o) (are k) ∙ one_further k w b turns (link_on links k) (link_is links k)
+    passed k ∙ ap (λ (o : Option LinkState). cond (passes_on k b) (option_map (link_with_turn w b) o) o) (are k) ∙ one_further k w b turns (link_on links k) (link_is links k)
 
 -- what is kept of a link
 state_is : (links : List Link) (turns : Turns) (table : LinkTable) (k : ℕ) (link : Link) (state : LinkState) → AreStates links turns table → Some state ≡ state_on table k → link_on links k ≡ Some link
@@ -195,10 +195,10 @@ added_one added link old new are is =
 -- what the ends of a link passed to each other, where these turns are all records of the logs
 ends_passed : (logs : List Log) (turns : Turns) (link : Link) (ends : Ends) → AreAll logs turns → IsComparisonOf logs link ends → between ends ≡ ways_of link.connection (min link.a link.b) (max link.a link.b) turns
 ends_passed logs turns link ends all is =
-    let first = all.taken ends.first is.first_held ∙ ap (λ (v : ℕ). records_of v turns) is.smaller in
-    let second = all.taken ends.second is.second_held ∙ ap (λ (v : ℕ). records_of v turns) is.greater in
+    let first = all.taken ends.first is.first_held ∙ ap (λ (v : ℕ). records_taken v turns) is.smaller in
+    let second = all.taken ends.second is.second_held ∙ ap (λ (v : ℕ). records_taken v turns) is.greater in
     let passed : ℕ → List Body → List Body → BothWays = λ k one other. ways (filter_map (frame_sent k) other) (filter_map (frame_received k) one) (filter_map (frame_sent k) one) (filter_map (frame_received k) other) in
-    ap (λ (k : ℕ). passed k ends.first.records ends.second.records) is.connection ∙ ap (λ (one : List Body). passed link.connection one ends.second.records) first ∙ ap (passed link.connection (records_of (min link.a link.b) turns)) second
+    ap (λ (k : ℕ). passed k ends.first.records ends.second.records) is.connection ∙ ap (λ (one : List Body). passed link.connection one ends.second.records) first ∙ ap (passed link.connection (records_taken (min link.a link.b) turns)) second
 
 -- the ends of a link are those of what is kept, and so is what they passed to each other
 pub record AreEnds (ends : Ends) (state : LinkState) : Type 0 where

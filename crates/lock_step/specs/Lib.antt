@@ -1,3 +1,5 @@
+pub mod Directions
+pub mod QueuedFrames
 pub mod Links
 pub mod Taking
 pub mod Glue

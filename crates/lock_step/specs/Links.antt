@@ -5,8 +5,8 @@ use Rattle.vat_log.specs.Log.{Log}
 use Rattle.vat_log.specs.Passages.{frame_sent, frame_received}
 use Rattle.link_check.specs.Prefix.{Ends, IsOutcome}
 use Rattle.link_check.specs.declared.link_outcome.LinkOutcome.{LinkOutcome}
-use Rattle.frame_queue.specs.Directions.{BothWays}
-use Rattle.turn_taking.specs.Turns.{Turns, records_of, AreAll}
+use Rattle.lock_step.specs.Directions.{BothWays}
+use Rattle.turn_taking.specs.Turns.{Turns, records_taken, AreAll}
 use Rattle.case_book.specs.Pieces.{IsComparisonOf}
 use Rattle.case_book.specs.declared.link.Link.{Link}
 
@@ -22,8 +22,8 @@ link_on links k = find (λ link. (link.connection == k) && not (link.a == link.b
 -- what two vats sent and received on a connection by these turns
 abbrev pub ways_of : ℕ → ℕ → ℕ → Turns → BothWays
 ways_of k first second turns = record {
-  to_first = record { sent = filter_map (frame_sent k) (records_of second turns); received = filter_map (frame_received k) (records_of first turns) };
-  to_second = record { sent = filter_map (frame_sent k) (records_of first turns); received = filter_map (frame_received k) (records_of second turns) };
+  to_first = record { sent = filter_map (frame_sent k) (records_taken second turns); received = filter_map (frame_received k) (records_taken first turns) };
+  to_second = record { sent = filter_map (frame_sent k) (records_taken first turns); received = filter_map (frame_received k) (records_taken second turns) };
 }
 
 -- what is found of a link, whatever logs these turns are all records of; and nothing else is

@@ -3,21 +3,19 @@
 ghost use Rattle.std.specs.Prelude.{◌≡◌, ◌-◌, [], List, Option, Some, None, false, true, IfOk, IfSome, is_some, length, option_map, OnOk, OnErr};
 ghost use Rattle.call_order.specs.Fault.{IsFaultBy};
 ghost use Rattle.lock_step.specs.Links.{IsFoundOf, link_on};
-ghost use Rattle.lock_step.specs.Taking.{count_turns, delivers, turned, with_turn};
+ghost use Rattle.lock_step.specs.Taking.{count_turns, passes_delivery, turned, case_with_turn};
 ghost use Rattle.turn_taking.specs.Turns.{AreAll, order_of};
-ghost use Rattle.case_pass.specs.Turned.{may_come};
 ghost use Rattle.vat_log.specs.Log.{Log};
 ghost use Rattle.vat_log.specs.Passages.{receives, sends};
 
-use crate::counts::Counts;
+use crate::case_counts::CaseCounts;
 use crate::link_states::LinkStates;
 use call_order::CallOrder;
 use case_book::Link;
-use case_pass::Turns;
 use link_check::LinkOutcome;
 use std::alloc::{AllocError, Global};
 use std::marker::Model;
-use turn_taking::TurnsTaken;
+use turn_taking::{Turns, TurnsTaken};
 use vat_log::Body;
 
 /// How many frames may be under way before a vat that sent one waits for its next turn.
@@ -32,7 +30,7 @@ pub struct CaseTurns {
     turns: TurnsTaken,
     calls: CallOrder,
     states: LinkStates,
-    counts: Counts,
+    counts: CaseCounts,
     is_stuck: bool,
     is_refused: bool,
 }
@@ -58,7 +56,7 @@ impl CaseTurns {
             turns: TurnsTaken::new(alloc),
             calls: CallOrder::new(alloc),
             states: LinkStates::new(alloc, links)?,
-            counts: Counts::new(),
+            counts: CaseCounts::new(),
             is_stuck: false,
             is_refused: false,
         })
@@ -66,7 +64,7 @@ impl CaseTurns {
 
     /// Takes a record, unless memory was refused before. Where it is refused now, no more is said of the parts.
     fn take_all(&mut self, vat: u32, body: &Body) -> Result<(), AllocError>
-        ensures ok { OnOk result (self.new ≡ option_map (with_turn (vat, body.now)) self.old) }
+        ensures ok { OnOk result (self.new ≡ option_map (case_with_turn (vat, body.now)) self.old) }
         ensures err { OnErr result (self.new ≡ None) }
     {
         if self.is_refused {
@@ -101,13 +99,6 @@ impl CaseTurns {
         self.states.outcome(link)
     }
 
-    /// How many turns were taken in order.
-    pub fn in_order(&self) -> u64
-        ensures { IfSome self.now (λ taken. result ≡ length taken.in_order) }
-    {
-        self.turns.count()
-    }
-
     /// How many records were taken, those that only passed among them.
     pub fn records(&self) -> u64
         ensures { IfSome self.now (λ taken. result ≡ length taken.all) }
@@ -117,7 +108,7 @@ impl CaseTurns {
 
     /// How many of them deliver a call.
     pub fn delivered(&self) -> u64
-        ensures { IfSome self.now (λ taken. result ≡ count_turns delivers taken.all) }
+        ensures { IfSome self.now (λ taken. result ≡ count_turns passes_delivery taken.all) }
     {
         self.counts.delivered
     }

@@ -1,13 +1,13 @@
 //! A link while turns are taken.
 
 ghost use Rattle.std.specs.Prelude.{◌≡◌, [], true, min, max, OnOk, OnErr};
-ghost use Rattle.frame_queue.specs.Directions.{between};
+ghost use Rattle.lock_step.specs.Directions.{between};
 ghost use Rattle.link_check.specs.Prefix.{Ends, IsOutcome};
 ghost use Rattle.link_check.specs.declared.link_outcome.LinkOutcome.{LinkOutcome};
-ghost use Rattle.lock_step.specs.Glue.{end_of, state_of, with_turn};
+ghost use Rattle.lock_step.specs.Glue.{end_of, state_of, link_with_turn};
 
+use crate::{LinkEnd, LinkQueues};
 use case_book::Link;
-use frame_queue::{End, LinkQueues};
 use link_check::LinkOutcome;
 use std::alloc::{AllocError, Global};
 use vat_log::Body;
@@ -43,19 +43,19 @@ impl LinkState {
     }
 
     /// The end at which the vat is.
-    fn end_of(&self, vat: u32) -> Option<End>
+    fn end_of(&self, vat: u32) -> Option<LinkEnd>
         ensures { result ≡ end_of self.now.first self.now.second vat }
     {
         if vat == self.first {
-            return Some(End::First);
+            return Some(LinkEnd::First);
         }
-        (vat == self.second).then_some(End::Second)
+        (vat == self.second).then_some(LinkEnd::Second)
     }
 
     /// A vat takes a record; where it is at an end, the record's frame passes there. The only error is that memory ran out,
     /// and then nothing changes.
     pub(crate) fn pass(&mut self, vat: u32, body: &Body) -> Result<(), AllocError>
-        ensures ok { OnOk result (self.new ≡ with_turn vat body.now self.old) }
+        ensures ok { OnOk result (self.new ≡ link_with_turn vat body.now self.old) }
         ensures err { OnErr result (self.new ≡ self.old) }
     {
         let Some(end) = self.end_of(vat) else {

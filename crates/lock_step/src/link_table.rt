@@ -1,8 +1,8 @@
 //! The links of a case by their connections.
 
-ghost use Rattle.std.specs.Prelude.{◌≡◌, ℕ, None, IfOk, OnOk, OnErr};
+ghost use Rattle.std.specs.Prelude.{◌≡◌, ℕ, None, OnOk, OnErr};
 ghost use Rattle.std.specs.Option.{option_copied};
-ghost use Rattle.lock_step.specs.Glue.{state_on, IsAdded, IsPassed, AreSameStates};
+ghost use Rattle.lock_step.specs.Glue.{state_on, IsAdded, IsLinkPassed, AreSameStates};
 
 use crate::link_state::LinkState;
 use case_book::Link;
@@ -48,7 +48,7 @@ impl LinkTable {
 
     /// A vat takes a record. The only error is that memory ran out, and then nothing changes.
     pub(crate) fn pass(&mut self, vat: u32, body: &Body) -> Result<(), AllocError>
-        ensures ok { OnOk result (IsPassed vat body.now self.old self.new) }
+        ensures ok { OnOk result (IsLinkPassed vat body.now self.old self.new) }
         ensures err { OnErr result (AreSameStates self.old self.new) }
     {
         let Some((_, connection)) = body.passage() else {

@@ -8,8 +8,8 @@ use Rattle.std.proofs.lemmas.Option.{none-some, same_Some, slice_get_within}
 use Rattle.std.proofs.lemmas.Bool.{cases_lt, cases_order}
 use Rattle.vat_log.specs.Log.{Log}
 use Rattle.log_ends.specs.Joining.{Has, IsPaired}
-use Rattle.log_ends.specs.Renumbering.{AreApart, IsRenumbered, end_in}
-use Rattle.log_ends.specs.Numbers.{number_in, PutsEnd, AreNumbers, HasNoVat, AreMade, AreApartUpTo}
+use Rattle.log_ends.specs.Renumbering.{VatsAreApart, IsRenumbered, end_in}
+use Rattle.log_ends.specs.Numbers.{new_number_of, PutsEnd, AreNumbers, HasNoVat, AreMade, AreApartUpTo}
 use Rattle.log_ends.specs.declared.log_end.EndPair.{EndPair}
 use Rattle.log_ends.proofs.Lists.{append_cases}
 
@@ -46,15 +46,15 @@ numbers_more pairs place number pair old mid new at are first second =
           there_now q has.pair (same_Some has.pair pair (sym has.there ∙ ap (slice_get pairs) same ∙ at)) has.ends none
 
 -- each connection of the log has the number of its pair
-pub of_pairs : (pairs : List EndPair) (place : ℕ) (table : BTreeMap ℕ ℕ) → AreNumbers pairs place (length pairs) table → (q : ℕ) → IsPaired pairs (end_in place q) → Has pairs (number_in table q) (end_in place q)
+pub of_pairs : (pairs : List EndPair) (place : ℕ) (table : BTreeMap ℕ ℕ) → AreNumbers pairs place (length pairs) table → (q : ℕ) → IsPaired pairs (end_in place q) → Has pairs (new_number_of table q) (end_in place q)
 of_pairs pairs place table are q paired = at (get nat_cmp table q) refl where
-  at : (o : Option ℕ) → get nat_cmp table q ≡ o → Has pairs (number_in table q) (end_in place q)
+  at : (o : Option ℕ) → get nat_cmp table q ≡ o → Has pairs (new_number_of table q) (end_in place q)
   at None e = absurd (are.all q paired.0 (slice_get_within pairs paired.0 paired.1.pair paired.1.there) paired.1 e)
   at (Some n) e = subst (λ (m : ℕ). Has pairs m (end_in place q)) (ap (λ (o : Option ℕ). unwrap_or o 0) (sym e)) (are.just q n e)
 
 -- ---- vats
 
-pub apart_from : (logs : List Log) → AreApartUpTo logs (length logs) → AreApart logs
+pub apart_from : (logs : List Log) → AreApartUpTo logs (length logs) → VatsAreApart logs
 apart_from logs up i j one other a b same = at (cases_order i j) where
   at : (i ≡ j) ⊎ ((i < j) ⊎ (j < i)) → i ≡ j
   at (inl e) = e

@@ -5,7 +5,7 @@ use Rattle.std.proofs.lemmas.List.{append-nil, take-append-drop, take_all, take_
 use Rattle.std.proofs.lemmas.Option.{none-some, same_Some, option_and_then_some, slice_get-get_or, slice_get_within, get_or_from_slice_get, slice_get_past}
 use Rattle.std.proofs.lemmas.Bool.{cases_lt}
 use Rattle.link_check.specs.Prefix.{IsPrefix}
-use Rattle.log_ends.specs.Glue.{number_from, AreGiven, AreTold, Traces}
+use Rattle.log_ends.specs.Glue.{number_from, AreGiven, AreNumberedApart, Traces}
 
 -- ---- one more frame
 
@@ -70,7 +70,7 @@ back_told next count given (f ∷ fs) (g ∷ gs) n e h =
     let front : fs ≡ gs = back_told next count given fs gs m is (its ∙ ap Some (sym number)) in
     ap (λ x. x ∷ fs) frame ∙ ap (λ l. g ∷ l) front))
 
-pub told : (next : ℕ × List ℕ → Option ℕ) (count : ℕ) → AreGiven next count → AreTold (number_from next 0)
+pub told : (next : ℕ × List ℕ → Option ℕ) (count : ℕ) → AreGiven next count → AreNumberedApart (number_from next 0)
 told next count given one other n e h =
     let turned : (s : List (List ℕ)) → number_from next 0 s ≡ Some n → back next (reverse s) ≡ Some n = λ s is. sym (back_is next (reverse s)) ∙ ap (λ l. number_from next 0 l) (reverse-reverse s) ∙ is in
     let same : reverse one ≡ reverse other = back_told next count given (reverse one) (reverse other) n (turned one e) (turned other h) in
@@ -158,7 +158,7 @@ trace_more numbers later keeps trace frames frame n traces last =
 pub prefix_none : (numbers : List (List ℕ) → Option ℕ) (one other : List ℕ) (ours others : List (List ℕ)) → Traces numbers one ours → length one ≡ 0 → IsPrefix ours others
 prefix_none numbers one other ours others traces none = (others, ap (λ l. l ++ others) (sym (nil_from_length ours (omega (arith, traces.count, none)))))
 
-pub prefix_from_last : (numbers : List (List ℕ) → Option ℕ) (one other : List ℕ) (ours others : List (List ℕ)) → AreTold numbers → Traces numbers one ours → Traces numbers other others → 0 < length one → slice_get other (length one - 1) ≡ slice_get one (length one - 1) → IsPrefix ours others
+pub prefix_from_last : (numbers : List (List ℕ) → Option ℕ) (one other : List ℕ) (ours others : List (List ℕ)) → AreNumberedApart numbers → Traces numbers one ours → Traces numbers other others → 0 < length one → slice_get other (length one - 1) ≡ slice_get one (length one - 1) → IsPrefix ours others
 prefix_from_last numbers one other ours others tells traces theirs some same =
     let place : length one - 1 < length one = omega (arith, some) in
     let last : slice_get one (length one - 1) ≡ Some (get_or one (length one - 1) 0) = slice_get-get_or one (length one - 1) 0 place in

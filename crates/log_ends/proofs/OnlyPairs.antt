@@ -4,7 +4,7 @@ use Rattle.std.specs.Prelude.{slice_get}
 use Rattle.std.proofs.lemmas.Option.{none-some, same_Some, slice_get_within, slice_get-get_or}
 use Rattle.std.proofs.lemmas.Bool.{cases_lt, cases_order}
 use Rattle.vat_log.specs.Log.{Log}
-use Rattle.log_ends.specs.Ends.{IsBefore, Fits}
+use Rattle.log_ends.specs.Ends.{EndIsBefore, Fits}
 use Rattle.log_ends.specs.Joining.{Has, IsPaired, ArePairs, IsJoined}
 use Rattle.log_ends.specs.declared.log_end.LogEnd.{LogEnd}
 use Rattle.log_ends.specs.declared.log_end.EndPair.{EndPair}
@@ -14,36 +14,36 @@ use Rattle.log_ends.proofs.Places.{not_both, not_itself}
 end_of : ℕ → ℕ → LogEnd
 end_of l c = record { log = l; connection = c }
 
-both_orders : (a b : LogEnd) → (a ≡ b) ⊎ (IsBefore a b ⊎ IsBefore b a)
+both_orders : (a b : LogEnd) → (a ≡ b) ⊎ (EndIsBefore a b ⊎ EndIsBefore b a)
 unfolding end_of
 both_orders a b = by (cases_order a.log b.log) (cases_order a.connection b.connection) where
-  by : (a.log ≡ b.log) ⊎ ((a.log < b.log) ⊎ (b.log < a.log)) → (a.connection ≡ b.connection) ⊎ ((a.connection < b.connection) ⊎ (b.connection < a.connection)) → (a ≡ b) ⊎ (IsBefore a b ⊎ IsBefore b a)
+  by : (a.log ≡ b.log) ⊎ ((a.log < b.log) ⊎ (b.log < a.log)) → (a.connection ≡ b.connection) ⊎ ((a.connection < b.connection) ⊎ (b.connection < a.connection)) → (a ≡ b) ⊎ (EndIsBefore a b ⊎ EndIsBefore b a)
   by (inl e) (inl h) = inl (ap₂ end_of e h)
   by (inl e) (inr (inl h)) = inr (inl (inr (e, h)))
   by (inl e) (inr (inr h)) = inr (inr (inr (sym e, h)))
   by (inr (inl lt)) other = inr (inl (inl lt))
   by (inr (inr lt)) other = inr (inr (inl lt))
 
-chained : (a b c : LogEnd) → IsBefore a b → IsBefore b c → IsBefore a c
+chained : (a b c : LogEnd) → EndIsBefore a b → EndIsBefore b c → EndIsBefore a c
 chained a b c (inl e) (inl h) = inl (omega (arith, e, h))
 chained a b c (inl e) (inr h) = inl (omega (arith, e, h.0))
 chained a b c (inr e) (inl h) = inl (omega (arith, e.0, h))
 chained a b c (inr e) (inr h) = inr (e.0 ∙ h.0, omega (arith, e.1, h.1))
 
 -- the ends of a pair and of those behind it don't come before its first one
-none_before : (logs : List Log) (pairs : List EndPair) → ArePairs logs pairs → (n m : ℕ) (p : EndPair) (end : LogEnd) → slice_get pairs n ≡ Some p → Has pairs m end → n ≤ m → IsBefore end p.first → ⊥
+none_before : (logs : List Log) (pairs : List EndPair) → ArePairs logs pairs → (n m : ℕ) (p : EndPair) (end : LogEnd) → slice_get pairs n ≡ Some p → Has pairs m end → n ≤ m → EndIsBefore end p.first → ⊥
 none_before logs pairs are n m p end at has le early = by (cases_lt n m) has.ends where
-  order : IsBefore has.pair.first has.pair.second
+  order : EndIsBefore has.pair.first has.pair.second
   order = are.in_order m has.pair has.there
 
   here : m ≤ n → has.pair ≡ p
   here ge = same_Some has.pair p (sym has.there ∙ ap (slice_get pairs) (omega (arith, le, ge)) ∙ at)
 
   by : (n < m) ⊎ (m ≤ n) → (has.pair.first ≡ end) ⊎ (has.pair.second ≡ end) → ⊥
-  by (inl lt) (inl is) = not_both end p.first early (subst (λ (e : LogEnd). IsBefore p.first e) is (are.rising n m p has.pair lt at has.there))
-  by (inl lt) (inr is) = not_both end p.first early (subst (λ (e : LogEnd). IsBefore p.first e) is (chained p.first has.pair.first has.pair.second (are.rising n m p has.pair lt at has.there) order))
-  by (inr ge) (inl is) = not_itself end (subst (λ (e : LogEnd). IsBefore end e) (ap (λ (x : EndPair). x.first) (sym (here ge)) ∙ is) early)
-  by (inr ge) (inr is) = not_both end p.first early (subst (λ (e : LogEnd). IsBefore e end) (ap (λ (x : EndPair). x.first) (here ge)) (subst (λ (e : LogEnd). IsBefore has.pair.first e) is order))
+  by (inl lt) (inl is) = not_both end p.first early (subst (λ (e : LogEnd). EndIsBefore p.first e) is (are.rising n m p has.pair lt at has.there))
+  by (inl lt) (inr is) = not_both end p.first early (subst (λ (e : LogEnd). EndIsBefore p.first e) is (chained p.first has.pair.first has.pair.second (are.rising n m p has.pair lt at has.there) order))
+  by (inr ge) (inl is) = not_itself end (subst (λ (e : LogEnd). EndIsBefore end e) (ap (λ (x : EndPair). x.first) (sym (here ge)) ∙ is) early)
+  by (inr ge) (inr is) = not_both end p.first early (subst (λ (e : LogEnd). EndIsBefore e end) (ap (λ (x : EndPair). x.first) (here ge)) (subst (λ (e : LogEnd). EndIsBefore has.pair.first e) is order))
 
 -- both lists have the same pairs before a number
 AreSame : List EndPair → List EndPair → ℕ → Type 0
@@ -68,7 +68,7 @@ first_of one n p at = record { pair = p; there = at; ends = inl refl }
 second_of : (one : List EndPair) (n : ℕ) (p : EndPair) → slice_get one n ≡ Some p → Has one n p.second
 second_of one n p at = record { pair = p; there = at; ends = inr refl }
 
-not_first : (logs : List Log) (one other : List EndPair) → IsJoined logs one → IsJoined logs other → (n : ℕ) (p q : EndPair) → AreSame one other n → slice_get one n ≡ Some p → slice_get other n ≡ Some q → IsBefore p.first q.first → ⊥
+not_first : (logs : List Log) (one other : List EndPair) → IsJoined logs one → IsJoined logs other → (n : ℕ) (p q : EndPair) → AreSame one other n → slice_get one n ≡ Some p → slice_get other n ≡ Some q → EndIsBefore p.first q.first → ⊥
 not_first logs one other joined joins n p q same at also early =
     by paired.0 paired.1 (cases_lt paired.0 n) where
       paired : IsPaired other p.first
@@ -78,7 +78,7 @@ not_first logs one other joined joins n p q same at also early =
       by m has (inl lt) = not_earlier logs one other joined.are n m p.first same (first_of one n p at) lt has
       by m has (inr ge) = none_before logs other joins.are n m q p.first also has ge early
 
-not_second : (logs : List Log) (one other : List EndPair) → IsJoined logs one → IsJoined logs other → (n : ℕ) (p q : EndPair) → AreSame one other n → slice_get one n ≡ Some p → slice_get other n ≡ Some q → p.first ≡ q.first → IsBefore p.second q.second → ⊥
+not_second : (logs : List Log) (one other : List EndPair) → IsJoined logs one → IsJoined logs other → (n : ℕ) (p q : EndPair) → AreSame one other n → slice_get one n ≡ Some p → slice_get other n ≡ Some q → p.first ≡ q.first → EndIsBefore p.second q.second → ⊥
 not_second logs one other joined joins n p q same at also first early =
     let found = joins.are.nearest n q p.second also (subst (λ (e : LogEnd). Fits logs e p.second) first (joined.are.fit n p at)) early in
     not_earlier logs one other joined.are n found.0 p.second same (second_of one n p at) found.1 found.2
@@ -92,7 +92,7 @@ same_pair logs one other joined joins n p q same at also = ap₂ pair_of first s
   back : AreSame other one n
   back = turned one other n same
 
-  of_firsts : (p.first ≡ q.first) ⊎ (IsBefore p.first q.first ⊎ IsBefore q.first p.first) → p.first ≡ q.first
+  of_firsts : (p.first ≡ q.first) ⊎ (EndIsBefore p.first q.first ⊎ EndIsBefore q.first p.first) → p.first ≡ q.first
   of_firsts (inl e) = e
   of_firsts (inr (inl early)) = absurd (not_first logs one other joined joins n p q same at also early)
   of_firsts (inr (inr early)) = absurd (not_first logs other one joins joined n q p back also at early)
@@ -100,7 +100,7 @@ same_pair logs one other joined joins n p q same at also = ap₂ pair_of first s
   first : p.first ≡ q.first
   first = of_firsts (both_orders p.first q.first)
 
-  of_seconds : (p.second ≡ q.second) ⊎ (IsBefore p.second q.second ⊎ IsBefore q.second p.second) → p.second ≡ q.second
+  of_seconds : (p.second ≡ q.second) ⊎ (EndIsBefore p.second q.second ⊎ EndIsBefore q.second p.second) → p.second ≡ q.second
   of_seconds (inl e) = e
   of_seconds (inr (inl early)) = absurd (not_second logs one other joined joins n p q same at also first early)
   of_seconds (inr (inr early)) = absurd (not_second logs other one joins joined n q p back also at (sym first) early)

@@ -5,7 +5,7 @@ use Rattle.std.proofs.lemmas.List.{length-set, get_or-set_other, get_or-replicat
 use Rattle.std.proofs.lemmas.Option.{slice_get_within, same_Some}
 use Rattle.std.proofs.lemmas.Bool.{cases_lt, cases_eq, cases_Bool, both_ways}
 use Rattle.vat_log.specs.Log.{Log}
-use Rattle.log_ends.specs.Ends.{IsEnd, IsBefore, Fits}
+use Rattle.log_ends.specs.Ends.{IsEnd, EndIsBefore, Fits}
 use Rattle.log_ends.specs.Joining.{Has, IsPaired, ArePairs, IsJoined, IsLeftOver, IsClear}
 use Rattle.log_ends.specs.Glue.{IsOfLogs, end_at, HasNoneFree, IsPartner, HasPaired}
 use Rattle.log_ends.specs.declared.log_end.LogEnd.{LogEnd}
@@ -48,8 +48,8 @@ no_pairs logs = record {
 }
 
 -- neither end is in a pair, and all ends that fit the first and come before the second are
-pub pairs_more : (logs : List Log) (pairs : List EndPair) (p : EndPair) → ArePairs logs pairs → Fits logs p.first p.second → IsBefore p.first p.second → (IsPaired pairs p.first → ⊥) → (IsPaired pairs p.second → ⊥)
-    → ((number : ℕ) (pair : EndPair) → slice_get pairs number ≡ Some pair → IsBefore pair.first p.first) → ((end : LogEnd) → Fits logs p.first end → IsBefore end p.second → IsPaired pairs end) → ArePairs logs (pairs ++ (p ∷ []))
+pub pairs_more : (logs : List Log) (pairs : List EndPair) (p : EndPair) → ArePairs logs pairs → Fits logs p.first p.second → EndIsBefore p.first p.second → (IsPaired pairs p.first → ⊥) → (IsPaired pairs p.second → ⊥)
+    → ((number : ℕ) (pair : EndPair) → slice_get pairs number ≡ Some pair → EndIsBefore pair.first p.first) → ((end : LogEnd) → Fits logs p.first end → EndIsBefore end p.second → IsPaired pairs end) → ArePairs logs (pairs ++ (p ∷ []))
 pairs_more logs pairs p are fits before first_free second_free begun nearest =
     record {
       fit = λ m q at. fit_at m q (which pairs p m q at);
@@ -62,9 +62,9 @@ pairs_more logs pairs p are fits before first_free second_free begun nearest =
       fit_at m q (inl at) = are.fit m q at
       fit_at m q (inr (same, is)) = subst (λ (x : EndPair). Fits logs x.first x.second) is fits
 
-      order_at : (m : ℕ) (q : EndPair) → (slice_get pairs m ≡ Some q) ⊎ ((m ≡ length pairs) × (p ≡ q)) → IsBefore q.first q.second
+      order_at : (m : ℕ) (q : EndPair) → (slice_get pairs m ≡ Some q) ⊎ ((m ≡ length pairs) × (p ≡ q)) → EndIsBefore q.first q.second
       order_at m q (inl at) = are.in_order m q at
-      order_at m q (inr (same, is)) = subst (λ (x : EndPair). IsBefore x.first x.second) is before
+      order_at m q (inr (same, is)) = subst (λ (x : EndPair). EndIsBefore x.first x.second) is before
 
       free_of : (end : LogEnd) → (p.first ≡ end) ⊎ (p.second ≡ end) → IsPaired pairs end → ⊥
       free_of end (inl is) paired = first_free (subst (λ (e : LogEnd). IsPaired pairs e) (sym is) paired)
@@ -76,16 +76,16 @@ pairs_more logs pairs p are fits before first_free second_free begun nearest =
       once_at m n end (inr (same, is)) (inl other) = absurd (free_of end is (n, other))
       once_at m n end (inr (same, is)) (inr (also, its)) = same ∙ sym also
 
-      rising_at : (m n : ℕ) (one other : EndPair) → m < n → (slice_get pairs m ≡ Some one) ⊎ ((m ≡ length pairs) × (p ≡ one)) → (slice_get pairs n ≡ Some other) ⊎ ((n ≡ length pairs) × (p ≡ other)) → IsBefore one.first other.first
+      rising_at : (m n : ℕ) (one other : EndPair) → m < n → (slice_get pairs m ≡ Some one) ⊎ ((m ≡ length pairs) × (p ≡ one)) → (slice_get pairs n ≡ Some other) ⊎ ((n ≡ length pairs) × (p ≡ other)) → EndIsBefore one.first other.first
       rising_at m n one other lt (inl a) (inl b) = are.rising m n one other lt a b
-      rising_at m n one other lt (inl a) (inr (same, is)) = subst (λ (x : EndPair). IsBefore one.first x.first) is (begun m one a)
+      rising_at m n one other lt (inl a) (inr (same, is)) = subst (λ (x : EndPair). EndIsBefore one.first x.first) is (begun m one a)
       rising_at m n one other lt (inr (same, is)) (inl b) = absurd (omega (arith, lt, same, slice_get_within pairs n other b))
       rising_at m n one other lt (inr (same, is)) (inr (also, its)) = absurd (omega (arith, lt, same, also))
 
-      nearest_at : (m : ℕ) (q : EndPair) (end : LogEnd) → Fits logs q.first end → IsBefore end q.second → (slice_get pairs m ≡ Some q) ⊎ ((m ≡ length pairs) × (p ≡ q)) → (earlier : ℕ) × (earlier < m) × Has (pairs ++ (p ∷ [])) earlier end
+      nearest_at : (m : ℕ) (q : EndPair) (end : LogEnd) → Fits logs q.first end → EndIsBefore end q.second → (slice_get pairs m ≡ Some q) ⊎ ((m ≡ length pairs) × (p ≡ q)) → (earlier : ℕ) × (earlier < m) × Has (pairs ++ (p ∷ [])) earlier end
       nearest_at m q end its early (inl at) = let found = are.nearest m q end at its early in (found.0, found.1, has_later pairs p found.0 end found.2)
       nearest_at m q end its early (inr (same, is)) =
-          let found = nearest end (subst (λ (x : EndPair). Fits logs x.first end) (sym is) its) (subst (λ (x : EndPair). IsBefore end x.second) (sym is) early) in
+          let found = nearest end (subst (λ (x : EndPair). Fits logs x.first end) (sym is) its) (subst (λ (x : EndPair). EndIsBefore end x.second) (sym is) early) in
           (found.0, omega (arith, same, has_within pairs found.0 end found.1), has_later pairs p found.0 end found.1)
 
 -- ---- flags
@@ -180,10 +180,10 @@ one_paired rows is place other taken pairs within has free partner =
       after : place < other
       after = omega (arith, partner.from, apart)
 
-      begun_before : (number : ℕ) (q : EndPair) → slice_get pairs number ≡ Some q → IsBefore q.first (end_at rows place)
-      begun_before number q at = let found = has.begun number q at in subst (λ (e : LogEnd). IsBefore e (end_at rows place)) (sym found.2) (sorted_at rows is found.0 place found.1 within)
+      begun_before : (number : ℕ) (q : EndPair) → slice_get pairs number ≡ Some q → EndIsBefore q.first (end_at rows place)
+      begun_before number q at = let found = has.begun number q at in subst (λ (e : LogEnd). EndIsBefore e (end_at rows place)) (sym found.2) (sorted_at rows is found.0 place found.1 within)
 
-      nearest : (end : LogEnd) → Fits rows.logs.now (end_at rows place) end → IsBefore end (end_at rows other) → IsPaired pairs end
+      nearest : (end : LogEnd) → Fits rows.logs.now (end_at rows place) end → EndIsBefore end (end_at rows other) → IsPaired pairs end
       nearest end fits early =
           let found = earlier_at rows is other partner.within end (other_end rows is place end fits) early in
           subst (λ (e : LogEnd). IsPaired pairs e) found.2 (paired_if rows is place other taken pairs has partner.first found.0 found.1 (omega (arith, found.1, partner.within)) (subst (λ (e : LogEnd). Fits rows.logs.now (end_at rows place) e) (sym found.2) fits))
@@ -231,7 +231,7 @@ left_over rows is all_clear place taken pairs within has free none =
       pairs = pairs;
       are = has.are;
       before = λ other it early. let found = earlier_at rows is place within other it early in subst (λ (e : LogEnd). IsPaired pairs e) found.2 (has.taken_are found.0 (omega (arith, found.1, within)) (has.before found.0 found.1));
-      begun = λ number q at. let found = has.begun number q at in subst (λ (e : LogEnd). IsBefore e (end_at rows place)) (sym found.2) (sorted_at rows is found.0 place found.1 within);
+      begun = λ number q at. let found = has.begun number q at in subst (λ (e : LogEnd). EndIsBefore e (end_at rows place)) (sym found.2) (sorted_at rows is found.0 place found.1 within);
       free = has.free_are place within free;
       taken = λ other fits. let found = all_at rows is other (other_end rows is place other fits) in subst (λ (e : LogEnd). IsPaired pairs e) found.2 (paired_if rows is place (vec_len rows.rows) taken pairs has none found.0 found.1 found.1 (subst (λ (e : LogEnd). Fits rows.logs.now (end_at rows place) e) (sym found.2) fits));
     }

@@ -6,29 +6,29 @@ use Rattle.std.proofs.lemmas.Option.{slice_get_within}
 use Rattle.std.proofs.lemmas.Bool.{cases_lt, cases_order}
 use Rattle.vat_log.specs.Log.{Log, written_version}
 use Rattle.link_check.specs.Prefix.{frames_sent, frames_received}
-use Rattle.log_ends.specs.Ends.{IsEnd, IsBefore, Fits, AreAlike, log_at, sent_at, received_at}
+use Rattle.log_ends.specs.Ends.{IsEnd, EndIsBefore, Fits, AreAlike, log_at, sent_at, received_at}
 use Rattle.log_ends.specs.Joining.{IsAlone, IsAmbiguous, IsClear, IsFirstUnclear, AreFirstAlike}
 use Rattle.log_ends.specs.Glue.{IsOfLogs, end_at, HasNoFit, IsUnlike, HasNoUnlike, HasNoAlike}
 use Rattle.log_ends.specs.declared.log_end.LogEnd.{LogEnd}
-use Rattle.log_ends.specs.declared.passages.Row.{Row}
+use Rattle.log_ends.specs.declared.passages.EndRow.{EndRow}
 use Rattle.log_ends.specs.declared.passages.Rows.{Rows}
 use Rattle.log_ends.proofs.Fitting.{row_end, same_symmetric, fits_end}
 
 -- ---- the order of ends
 
-pub not_both : (a b : LogEnd) → IsBefore a b → IsBefore b a → ⊥
+pub not_both : (a b : LogEnd) → EndIsBefore a b → EndIsBefore b a → ⊥
 not_both a b (inl e) (inl h) = omega (arith, e, h)
 not_both a b (inl e) (inr h) = omega (arith, e, h.0)
 not_both a b (inr e) (inl h) = omega (arith, e.0, h)
 not_both a b (inr e) (inr h) = omega (arith, e.1, h.1)
 
-pub not_itself : (a : LogEnd) → IsBefore a a → ⊥
+pub not_itself : (a : LogEnd) → EndIsBefore a a → ⊥
 not_itself a before = not_both a a before before
 
 -- ---- places
 
 -- the row at a place
-row_in : (xs : List Row) (k : ℕ) → k < length xs → (row : Row) × (slice_get xs k ≡ Some row)
+row_in : (xs : List EndRow) (k : ℕ) → k < length xs → (row : EndRow) × (slice_get xs k ≡ Some row)
 row_in [] k lt = absurd (omega (arith, lt))
 row_in (x ∷ xs) zero lt = (x, refl)
 row_in (x ∷ xs) (suc k) lt = row_in xs k (omega (arith, lt))
@@ -38,11 +38,11 @@ just_at rows is k within =
     let row = row_in rows.rows.items k (omega (arith, within)) in
     subst (λ (e : LogEnd). IsEnd rows.logs.now e) (sym (row_end rows k row.0 row.1)) (is.are.just k row.0 row.1).0
 
-pub sorted_at : (rows : Rows) → IsOfLogs rows → (j k : ℕ) → j < k → k < vec_len rows.rows → IsBefore (end_at rows j) (end_at rows k)
+pub sorted_at : (rows : Rows) → IsOfLogs rows → (j k : ℕ) → j < k → k < vec_len rows.rows → EndIsBefore (end_at rows j) (end_at rows k)
 sorted_at rows is j k lt within =
     let one = row_in rows.rows.items j (omega (arith, lt, within)) in
     let other = row_in rows.rows.items k (omega (arith, within)) in
-    subst (λ (e : LogEnd). IsBefore e (end_at rows k)) (sym (row_end rows j one.0 one.1)) (subst (λ (e : LogEnd). IsBefore one.0.end e) (sym (row_end rows k other.0 other.1)) (is.are.sorted j k one.0 other.0 lt one.1 other.1))
+    subst (λ (e : LogEnd). EndIsBefore e (end_at rows k)) (sym (row_end rows j one.0 one.1)) (subst (λ (e : LogEnd). EndIsBefore one.0.end e) (sym (row_end rows k other.0 other.1)) (is.are.sorted j k one.0 other.0 lt one.1 other.1))
 
 -- there is nothing past the last log
 pub of_a_log : (logs : List Log) (end : LogEnd) → IsEnd logs end → end.log < length logs
@@ -65,16 +65,16 @@ pub same_place : (rows : Rows) → IsOfLogs rows → (j k : ℕ) → j < vec_len
 same_place rows is j k a b same = at (cases_order j k) where
   at : (j ≡ k) ⊎ ((j < k) ⊎ (k < j)) → j ≡ k
   at (inl e) = e
-  at (inr (inl lt)) = absurd (not_itself (end_at rows k) (subst (λ (e : LogEnd). IsBefore e (end_at rows k)) same (sorted_at rows is j k lt b)))
-  at (inr (inr lt)) = absurd (not_itself (end_at rows k) (subst (λ (e : LogEnd). IsBefore (end_at rows k) e) same (sorted_at rows is k j lt a)))
+  at (inr (inl lt)) = absurd (not_itself (end_at rows k) (subst (λ (e : LogEnd). EndIsBefore e (end_at rows k)) same (sorted_at rows is j k lt b)))
+  at (inr (inr lt)) = absurd (not_itself (end_at rows k) (subst (λ (e : LogEnd). EndIsBefore (end_at rows k) e) same (sorted_at rows is k j lt a)))
 
 -- an end that is before the one at a place is at a place before
-pub earlier_at : (rows : Rows) → IsOfLogs rows → (k : ℕ) → k < vec_len rows.rows → (end : LogEnd) → IsEnd rows.logs.now end → IsBefore end (end_at rows k) → (j : ℕ) × (j < k) × (end_at rows j ≡ end)
+pub earlier_at : (rows : Rows) → IsOfLogs rows → (k : ℕ) → k < vec_len rows.rows → (end : LogEnd) → IsEnd rows.logs.now end → EndIsBefore end (end_at rows k) → (j : ℕ) × (j < k) × (end_at rows j ≡ end)
 earlier_at rows is k within end it before = at (all_at rows is end it) where
   by : (j : ℕ) → j < vec_len rows.rows → end_at rows j ≡ end → (j ≡ k) ⊎ ((j < k) ⊎ (k < j)) → (i : ℕ) × (i < k) × (end_at rows i ≡ end)
-  by j inside same (inl e) = absurd (not_itself end (subst (λ (x : LogEnd). IsBefore end x) (ap (end_at rows) (sym e) ∙ same) before))
+  by j inside same (inl e) = absurd (not_itself end (subst (λ (x : LogEnd). EndIsBefore end x) (ap (end_at rows) (sym e) ∙ same) before))
   by j inside same (inr (inl lt)) = (j, lt, same)
-  by j inside same (inr (inr lt)) = absurd (not_both end (end_at rows k) before (subst (λ (x : LogEnd). IsBefore (end_at rows k) x) same (sorted_at rows is k j lt inside)))
+  by j inside same (inr (inr lt)) = absurd (not_both end (end_at rows k) before (subst (λ (x : LogEnd). EndIsBefore (end_at rows k) x) same (sorted_at rows is k j lt inside)))
 
   at : (j : ℕ) × (j < vec_len rows.rows) × (end_at rows j ≡ end) → (j : ℕ) × (j < k) × (end_at rows j ≡ end)
   at (j, inside, same) = by j inside same (cases_order j k)
@@ -120,13 +120,13 @@ all_clear rows is place done so_far end it =
 -- ---- ends that are alike
 
 -- two ends in order are at places in order
-pub two_places : (rows : Rows) → IsOfLogs rows → (one other : LogEnd) → IsEnd rows.logs.now one → IsEnd rows.logs.now other → IsBefore one other → (j : ℕ) × (k : ℕ) × (j < k) × (k < vec_len rows.rows) × (end_at rows j ≡ one) × (end_at rows k ≡ other)
+pub two_places : (rows : Rows) → IsOfLogs rows → (one other : LogEnd) → IsEnd rows.logs.now one → IsEnd rows.logs.now other → EndIsBefore one other → (j : ℕ) × (k : ℕ) × (j < k) × (k < vec_len rows.rows) × (end_at rows j ≡ one) × (end_at rows k ≡ other)
 two_places rows is one other a b before =
     let late = all_at rows is other b in
-    let early = earlier_at rows is late.0 late.1 one a (subst (λ (e : LogEnd). IsBefore one e) (sym late.2) before) in
+    let early = earlier_at rows is late.0 late.1 one a (subst (λ (e : LogEnd). EndIsBefore one e) (sym late.2) before) in
     (early.0, late.0, early.1, late.1, early.2, late.2)
 
-pub none_alike : (rows : Rows) → IsOfLogs rows → (place : ℕ) → vec_len rows.rows ≤ place → ((k : ℕ) → k < place → HasNoAlike rows k (k + 1) (vec_len rows.rows)) → (one other : LogEnd) → IsEnd rows.logs.now one → IsEnd rows.logs.now other → IsBefore one other → AreAlike rows.logs.now one other → ⊥
+pub none_alike : (rows : Rows) → IsOfLogs rows → (place : ℕ) → vec_len rows.rows ≤ place → ((k : ℕ) → k < place → HasNoAlike rows k (k + 1) (vec_len rows.rows)) → (one other : LogEnd) → IsEnd rows.logs.now one → IsEnd rows.logs.now other → EndIsBefore one other → AreAlike rows.logs.now one other → ⊥
 none_alike rows is place done none one other a b before alike =
     let at = two_places rows is one other a b before in
     none at.0 (omega (arith, done, at.2, at.3)) at.1 (omega (arith, at.2)) at.3 (subst (λ (e : LogEnd). AreAlike rows.logs.now e (end_at rows at.1)) (sym at.4) (subst (λ (e : LogEnd). AreAlike rows.logs.now one e) (sym at.5) alike))

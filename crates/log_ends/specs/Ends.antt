@@ -21,8 +21,8 @@ abbrev pub IsEnd : List Log → LogEnd → Type 0
 IsEnd logs end = 0 < length (sent_at logs end) + length (received_at logs end)
 
 -- the order of ends: by the order of the logs first, and then by the connections' numbers
-abbrev pub IsBefore : LogEnd → LogEnd → Type 0
-IsBefore a b = (a.log < b.log) ⊎ ((a.log ≡ b.log) × (a.connection < b.connection))
+abbrev pub EndIsBefore : LogEnd → LogEnd → Type 0
+EndIsBefore a b = (a.log < b.log) ⊎ ((a.log ≡ b.log) × (a.connection < b.connection))
 
 -- Two ends of two logs fit: what each received are the first frames that the other sent, and one of them received some.
 -- Where neither received any, nothing says that the one was the other's.

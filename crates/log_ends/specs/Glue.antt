@@ -6,12 +6,12 @@ use Rattle.std.specs.declared.cmp.Ordering.{Ordering}
 use Rattle.std.specs.Ordering.{nat_cmp, ordering_then}
 use Rattle.std.specs.Cmp.Lexicographic.{slice_cmp}
 use Rattle.vat_log.specs.Log.{Log}
-use Rattle.log_ends.specs.Ends.{IsEnd, IsBefore, Fits, AreAlike, sent_at, received_at}
+use Rattle.log_ends.specs.Ends.{IsEnd, EndIsBefore, Fits, AreAlike, sent_at, received_at}
 use Rattle.log_ends.specs.Joining.{IsAlone, IsAmbiguous, IsClear, IsPaired, ArePairs}
 use Rattle.log_ends.specs.declared.log_end.LogEnd.{LogEnd}
 use Rattle.log_ends.specs.declared.log_end.EndPair.{EndPair}
 use Rattle.log_ends.specs.declared.passages.PassedFrame.{PassedFrame}
-use Rattle.log_ends.specs.declared.passages.Row.{Row}
+use Rattle.log_ends.specs.declared.passages.EndRow.{EndRow}
 use Rattle.log_ends.specs.declared.passages.Rows.{Rows}
 use Rattle.log_ends.specs.declared.sequences.Sequences.{Sequences}
 use Rattle.log_ends.specs.declared.joining.Standing.{Standing}
@@ -24,16 +24,16 @@ unfoldable pub number_from : (ℕ × List ℕ → Option ℕ) → ℕ → List (
 number_from next at [] = Some at
 number_from next at (frame ∷ frames) = option_and_then (λ n. number_from next n frames) (next (at, frame))
 
-abbrev pub key_cmp : ℕ × List ℕ → ℕ × List ℕ → Ordering
-key_cmp x y = ordering_then (nat_cmp x.0 y.0) (slice_cmp nat_cmp x.1 y.1)
+abbrev pub number_frame_cmp : ℕ × List ℕ → ℕ × List ℕ → Ordering
+number_frame_cmp x y = ordering_then (nat_cmp x.0 y.0) (slice_cmp nat_cmp x.1 y.1)
 
 -- the number that stands behind a number and a frame
-abbrev pub next_of : Sequences → ℕ × List ℕ → Option ℕ
-next_of sequences key = get key_cmp sequences.places key
+abbrev pub number_behind : Sequences → ℕ × List ℕ → Option ℕ
+number_behind sequences key = get number_frame_cmp sequences.places key
 
 -- the number of a sequence
-abbrev pub number_of : Sequences → List (List ℕ) → Option ℕ
-number_of sequences frames = number_from (next_of sequences) 0 frames
+abbrev pub sequence_number : Sequences → List (List ℕ) → Option ℕ
+sequence_number sequences frames = number_from (number_behind sequences) 0 frames
 
 -- each number was given once, from 1 on
 pub record AreGiven (next : ℕ × List ℕ → Option ℕ) (count : ℕ) : Type 0 where
@@ -41,15 +41,15 @@ pub record AreGiven (next : ℕ × List ℕ → Option ℕ) (count : ℕ) : Type
   pub apart : (one other : ℕ × List ℕ) (number : ℕ) → next one ≡ Some number → next other ≡ Some number → one ≡ other
 
 abbrev pub IsSound : Sequences → Type 0
-IsSound sequences = AreGiven (next_of sequences) (btree_map_len sequences.places)
+IsSound sequences = AreGiven (number_behind sequences) (btree_map_len sequences.places)
 
 -- numbers that were given stay
 abbrev pub Keeps : Sequences → Sequences → Type 0
-Keeps old new = (frames : List (List ℕ)) (number : ℕ) → number_of old frames ≡ Some number → number_of new frames ≡ Some number
+Keeps old new = (frames : List (List ℕ)) (number : ℕ) → sequence_number old frames ≡ Some number → sequence_number new frames ≡ Some number
 
 -- no two sequences have the same number
-abbrev pub AreTold : (List (List ℕ) → Option ℕ) → Type 0
-AreTold numbers = (one other : List (List ℕ)) (number : ℕ) → numbers one ≡ Some number → numbers other ≡ Some number → one ≡ other
+abbrev pub AreNumberedApart : (List (List ℕ) → Option ℕ) → Type 0
+AreNumberedApart numbers = (one other : List (List ℕ)) (number : ℕ) → numbers one ≡ Some number → numbers other ≡ Some number → one ≡ other
 
 -- the numbers of the sequences that begin these frames, the shortest first
 pub record Traces (numbers : List (List ℕ) → Option ℕ) (trace : List ℕ) (frames : List (List ℕ)) : Type 0 where
@@ -73,20 +73,20 @@ abbrev pub one_more : (ℕ → List (List ℕ)) → ℕ → List ℕ → ℕ →
 one_more frames connection frame other = if connection == other then frames other ++ (frame ∷ []) else frames other
 
 -- the end of a connection in the log at this place, with what passed there
-abbrev pub row_of : ℕ → ℕ × PassedFrame → Row
-row_of place entry = record { end = record { log = place; connection = entry.0 }; passed = entry.1 }
+abbrev pub end_of_passage : ℕ → ℕ × PassedFrame → EndRow
+end_of_passage place entry = record { end = record { log = place; connection = entry.0 }; passed = entry.1 }
 
 -- all ends in the logs before a place, in order
-pub record AreRows (numbers : List (List ℕ) → Option ℕ) (logs : List Log) (limit : ℕ) (rows : List Row) : Type 0 where
-  pub traced : (k : ℕ) (row : Row) → slice_get rows k ≡ Some row → IsPassed numbers row.passed (sent_at logs row.end) (received_at logs row.end)
-  pub just : (k : ℕ) (row : Row) → slice_get rows k ≡ Some row → IsEnd logs row.end × (row.end.log < limit)
-  pub sorted : (j k : ℕ) (one other : Row) → j < k → slice_get rows j ≡ Some one → slice_get rows k ≡ Some other → IsBefore one.end other.end
-  pub all : (end : LogEnd) → IsEnd logs end → end.log < limit → (k : ℕ) × (row : Row) × (slice_get rows k ≡ Some row) × (row.end ≡ end)
+pub record AreRows (numbers : List (List ℕ) → Option ℕ) (logs : List Log) (limit : ℕ) (rows : List EndRow) : Type 0 where
+  pub traced : (k : ℕ) (row : EndRow) → slice_get rows k ≡ Some row → IsPassed numbers row.passed (sent_at logs row.end) (received_at logs row.end)
+  pub just : (k : ℕ) (row : EndRow) → slice_get rows k ≡ Some row → IsEnd logs row.end × (row.end.log < limit)
+  pub sorted : (j k : ℕ) (one other : EndRow) → j < k → slice_get rows j ≡ Some one → slice_get rows k ≡ Some other → EndIsBefore one.end other.end
+  pub all : (end : LogEnd) → IsEnd logs end → end.log < limit → (k : ℕ) × (row : EndRow) × (slice_get rows k ≡ Some row) × (row.end ≡ end)
 
 -- all ends in the logs, in order
 pub record IsOfLogs (rows : Rows) : Type 0 where
   pub numbers : List (List ℕ) → Option ℕ
-  pub told : AreTold numbers
+  pub told : AreNumberedApart numbers
   pub are : AreRows numbers rows.logs.now (length rows.logs.now) rows.rows.items
 
 -- ---- ends by their places

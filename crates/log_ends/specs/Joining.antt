@@ -1,7 +1,7 @@
 -- What is found of the ends in a list of logs: which two are the ends of one connection, or an end of which this can't be told.
 use Rattle.std.specs.Prelude.{◌≡◌, ◌⊎◌, ℕ, ◌<◌, List, Option, Some, None, slice_get}
 use Rattle.vat_log.specs.Log.{Log}
-use Rattle.log_ends.specs.Ends.{IsEnd, IsBefore, Fits, AreAlike}
+use Rattle.log_ends.specs.Ends.{IsEnd, EndIsBefore, Fits, AreAlike}
 use Rattle.log_ends.specs.declared.log_end.LogEnd.{LogEnd}
 use Rattle.log_ends.specs.declared.log_end.EndPair.{EndPair}
 use Rattle.log_ends.specs.declared.joining.Joining.{Joining}
@@ -38,10 +38,10 @@ IsPaired pairs end = (number : ℕ) × Has pairs number end
 -- is in no earlier pair.
 pub record ArePairs (logs : List Log) (pairs : List EndPair) : Type 0 where
   pub fit : (number : ℕ) (pair : EndPair) → slice_get pairs number ≡ Some pair → Fits logs pair.first pair.second
-  pub in_order : (number : ℕ) (pair : EndPair) → slice_get pairs number ≡ Some pair → IsBefore pair.first pair.second
+  pub in_order : (number : ℕ) (pair : EndPair) → slice_get pairs number ≡ Some pair → EndIsBefore pair.first pair.second
   pub once : (m n : ℕ) (end : LogEnd) → Has pairs m end → Has pairs n end → m ≡ n
-  pub rising : (m n : ℕ) (one other : EndPair) → m < n → slice_get pairs m ≡ Some one → slice_get pairs n ≡ Some other → IsBefore one.first other.first
-  pub nearest : (number : ℕ) (pair : EndPair) (end : LogEnd) → slice_get pairs number ≡ Some pair → Fits logs pair.first end → IsBefore end pair.second → (earlier : ℕ) × (earlier < number) × Has pairs earlier end
+  pub rising : (m n : ℕ) (one other : EndPair) → m < n → slice_get pairs m ≡ Some one → slice_get pairs n ≡ Some other → EndIsBefore one.first other.first
+  pub nearest : (number : ℕ) (pair : EndPair) (end : LogEnd) → slice_get pairs number ≡ Some pair → Fits logs pair.first end → EndIsBefore end pair.second → (earlier : ℕ) × (earlier < number) × Has pairs earlier end
 
 -- all ends are clear, and each is in a pair
 pub record IsJoined (logs : List Log) (pairs : List EndPair) : Type 0 where
@@ -54,15 +54,15 @@ pub record IsLeftOver (logs : List Log) (end : LogEnd) : Type 0 where
   pub clear : (other : LogEnd) → IsEnd logs other → IsClear logs other
   pub pairs : List EndPair
   pub are : ArePairs logs pairs
-  pub before : (other : LogEnd) → IsEnd logs other → IsBefore other end → IsPaired pairs other
-  pub begun : (number : ℕ) (pair : EndPair) → slice_get pairs number ≡ Some pair → IsBefore pair.first end
+  pub before : (other : LogEnd) → IsEnd logs other → EndIsBefore other end → IsPaired pairs other
+  pub begun : (number : ℕ) (pair : EndPair) → slice_get pairs number ≡ Some pair → EndIsBefore pair.first end
   pub free : IsPaired pairs end → ⊥
   pub taken : (other : LogEnd) → Fits logs end other → IsPaired pairs other
 
 -- the first end that isn't clear
 pub record IsFirstUnclear (logs : List Log) (end : LogEnd) : Type 0 where
   pub there : IsEnd logs end
-  pub before : (other : LogEnd) → IsEnd logs other → IsBefore other end → IsClear logs other
+  pub before : (other : LogEnd) → IsEnd logs other → EndIsBefore other end → IsClear logs other
 
 -- what is found
 abbrev pub IsFound : List Log → Joining → Type 0
@@ -74,11 +74,11 @@ IsFound logs (Ambiguous end) = IsEnd logs end × IsFirstUnclear logs end × IsAm
 pub record AreFirstAlike (logs : List Log) (pair : EndPair) : Type 0 where
   pub first_is : IsEnd logs pair.first
   pub second_is : IsEnd logs pair.second
-  pub in_order : IsBefore pair.first pair.second
+  pub in_order : EndIsBefore pair.first pair.second
   pub alike : AreAlike logs pair.first pair.second
-  pub earliest : (one other : LogEnd) → IsEnd logs one → IsEnd logs other → IsBefore one other → AreAlike logs one other → IsBefore one pair.first → ⊥
+  pub earliest : (one other : LogEnd) → IsEnd logs one → IsEnd logs other → EndIsBefore one other → AreAlike logs one other → EndIsBefore one pair.first → ⊥
 
 -- what is found of ends that are alike: two, or that there are none
 abbrev pub AreFoundAlike : List Log → Option EndPair → Type 0
 AreFoundAlike logs (Some pair) = AreFirstAlike logs pair
-AreFoundAlike logs None = (one other : LogEnd) → IsEnd logs one → IsEnd logs other → IsBefore one other → AreAlike logs one other → ⊥
+AreFoundAlike logs None = (one other : LogEnd) → IsEnd logs one → IsEnd logs other → EndIsBefore one other → AreAlike logs one other → ⊥

@@ -9,8 +9,8 @@ use Rattle.log_ends.specs.declared.log_end.LogEnd.{LogEnd}
 use Rattle.log_ends.specs.declared.log_end.EndPair.{EndPair}
 
 -- the new number of a connection
-abbrev pub number_in : BTreeMap ℕ ℕ → ℕ → ℕ
-number_in table connection = unwrap_or (get nat_cmp table connection) 0
+abbrev pub new_number_of : BTreeMap ℕ ℕ → ℕ → ℕ
+new_number_of table connection = unwrap_or (get nat_cmp table connection) 0
 
 -- an end has this number from now on, if it is in the log at this place
 pub record PutsEnd (place : ℕ) (end : LogEnd) (number : ℕ) (old new : BTreeMap ℕ ℕ) : Type 0 where

@@ -20,13 +20,13 @@ abbrev pub renumbered_log : (ℕ → ℕ) → ℕ → Log → Log
 renumbered_log number vat log = record { version = migrated_version log.version; vat = vat; records = map (renumbered_body number) log.records }
 
 -- no two logs have the same vat
-abbrev pub AreApart : List Log → Type 0
-AreApart logs = (i j : ℕ) (one other : Log) → slice_get logs i ≡ Some one → slice_get logs j ≡ Some other → one.vat ≡ other.vat → i ≡ j
+abbrev pub VatsAreApart : List Log → Type 0
+VatsAreApart logs = (i j : ℕ) (one other : Log) → slice_get logs i ≡ Some one → slice_get logs j ≡ Some other → one.vat ≡ other.vat → i ≡ j
 
 -- the vat of the log at this place: its own where no two logs have the same, and else its place counted from 1
 pub record IsVatAt (logs : List Log) (place vat : ℕ) : Type 0 where
-  pub own : AreApart logs → (log : Log) → slice_get logs place ≡ Some log → vat ≡ log.vat
-  pub counted : (AreApart logs → ⊥) → vat ≡ suc place
+  pub own : VatsAreApart logs → (log : Log) → slice_get logs place ≡ Some log → vat ≡ log.vat
+  pub counted : (VatsAreApart logs → ⊥) → vat ≡ suc place
 
 -- the end of a connection in the log at a place
 abbrev pub end_in : ℕ → ℕ → LogEnd

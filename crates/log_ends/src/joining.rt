@@ -12,7 +12,7 @@ use std::alloc::{AllocError, Global};
 use vat_log::VatLog;
 
 /// What is found of the ends in a list of logs.
-#[derive(Debug, Drop)]
+#[derive(Drop)]
 pub enum Joining {
     /// Each end is in one of these pairs.
     Joined(Vec<EndPair>),
@@ -152,7 +152,8 @@ fn pair(
     place: usize,
 ) -> Result<bool, AllocError>
     requires rows { IsOfLogs rows.now }
-    requires clear { (end : LogEnd) → IsEnd rows.now.logs.now end → IsClear rows.now.logs.now end }
+    requires clear { (end : LogEnd) → IsEnd rows.now.logs.now end
+        → IsClear rows.now.logs.now end }
     requires place { place < vec_len rows.now.rows }
     requires paired { HasPaired rows.now place taken.old.items pairs.old.items }
     ensures { IfOk result (λ goes_on. MatchBool goes_on
@@ -177,7 +178,8 @@ fn pair(
 /// The pairs, where all ends are clear, or the first end that is left over.
 fn paired(alloc: Global, rows: &Rows<'_>) -> Result<Joining, AllocError>
     requires rows { IsOfLogs rows.now }
-    requires clear { (end : LogEnd) → IsEnd rows.now.logs.now end → IsClear rows.now.logs.now end }
+    requires clear { (end : LogEnd) → IsEnd rows.now.logs.now end
+        → IsClear rows.now.logs.now end }
     ensures { IfOk result (IsFound rows.now.logs.now) }
 {
     let mut pairs = Vec::new(alloc);

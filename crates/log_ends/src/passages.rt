@@ -8,7 +8,7 @@ ghost use Rattle.vat_log.specs.declared.body.Body.{Body};
 ghost use Rattle.link_check.specs.Prefix.{frames_sent, frames_received};
 ghost use Rattle.vat_log.specs.Passages.{frame_sent, frame_received};
 ghost use Rattle.log_ends.specs.Ends.{Fits, AreAlike};
-ghost use Rattle.log_ends.specs.Glue.{number_of, IsSound, Keeps, IsPassed, HasPassed, one_more, row_of, IsOfLogs, end_at};
+ghost use Rattle.log_ends.specs.Glue.{sequence_number, IsSound, Keeps, IsPassed, HasPassed, one_more, end_of_passage, IsOfLogs, end_at};
 
 use crate::log_end::LogEnd;
 use crate::sequences::{Sequences, Trace};
@@ -26,7 +26,7 @@ pub(crate) struct PassedFrame {
 
 /// An end, with what passed there.
 #[derive(Drop)]
-pub(crate) struct Row {
+pub(crate) struct EndRow {
     pub(crate) end: LogEnd,
     pub(crate) passed: PassedFrame,
 }
@@ -35,7 +35,7 @@ pub(crate) struct Row {
 #[derive(Drop)]
 pub(crate) struct Rows<'a> {
     pub(crate) logs: &'a [VatLog],
-    pub(crate) rows: Vec<Row>,
+    pub(crate) rows: Vec<EndRow>,
 }
 
 /// What passed on a connection so far; it leaves the table.
@@ -67,8 +67,8 @@ fn push_sent(
     ensures sound { IsSound sequences.new }
     ensures keeps { Keeps sequences.old sequences.new }
     ensures ok { OnOk result ((sent received : ℕ → List (List ℕ))
-        → HasPassed (number_of sequences.old) table.old sent received
-        → HasPassed (number_of sequences.new) table.new (one_more sent connection frame.now) received) }
+        → HasPassed (sequence_number sequences.old) table.old sent received
+        → HasPassed (sequence_number sequences.new) table.new (one_more sent connection frame.now) received) }
 {
     let mut passed = taken(alloc, table, connection);
     passed.sent.push(sequences, frame)?;
@@ -88,8 +88,8 @@ fn push_received(
     ensures sound { IsSound sequences.new }
     ensures keeps { Keeps sequences.old sequences.new }
     ensures ok { OnOk result ((sent received : ℕ → List (List ℕ))
-        → HasPassed (number_of sequences.old) table.old sent received
-        → HasPassed (number_of sequences.new) table.new sent (one_more received connection frame.now)) }
+        → HasPassed (sequence_number sequences.old) table.old sent received
+        → HasPassed (sequence_number sequences.new) table.new sent (one_more received connection frame.now)) }
 {
     let mut passed = taken(alloc, table, connection);
     passed.received.push(sequences, frame)?;
@@ -108,9 +108,9 @@ fn push_body(
     ensures sound { IsSound sequences.new }
     ensures keeps { Keeps sequences.old sequences.new }
     ensures ok { OnOk result ((records : List Body)
-        → HasPassed (number_of sequences.old) table.old (λ q. filter_map (frame_sent q) records)
+        → HasPassed (sequence_number sequences.old) table.old (λ q. filter_map (frame_sent q) records)
         (λ q. filter_map (frame_received q) records)
-        → HasPassed (number_of sequences.new) table.new
+        → HasPassed (sequence_number sequences.new) table.new
         (λ q. filter_map (frame_sent q) (records ++ body.now ∷ []))
         (λ q. filter_map (frame_received q) (records ++ body.now ∷ []))) }
 {
@@ -141,10 +141,10 @@ fn push_record(
     requires within { index < length log.now.records }
     ensures sound { IsSound sequences.new }
     ensures keeps { Keeps sequences.old sequences.new }
-    ensures ok { OnOk result (HasPassed (number_of sequences.old) table.old
+    ensures ok { OnOk result (HasPassed (sequence_number sequences.old) table.old
         (λ q. filter_map (frame_sent q) (take index log.now.records))
         (λ q. filter_map (frame_received q) (take index log.now.records))
-        → HasPassed (number_of sequences.new) table.new
+        → HasPassed (sequence_number sequences.new) table.new
         (λ q. filter_map (frame_sent q) (take (index + 1) log.now.records))
         (λ q. filter_map (frame_received q) (take (index + 1) log.now.records))) }
 {
@@ -163,7 +163,7 @@ fn table_of(
     requires { IsSound sequences.old }
     ensures sound { IsSound sequences.new }
     ensures keeps { Keeps sequences.old sequences.new }
-    ensures ok { IfOk result (λ table. HasPassed (number_of sequences.new) table
+    ensures ok { IfOk result (λ table. HasPassed (sequence_number sequences.new) table
         (λ q. frames_sent q log.now) (λ q. frames_received q log.now)) }
 {
     let mut table = BTreeMap::new(alloc);
@@ -175,11 +175,12 @@ fn table_of(
 
 /// Puts the ends of the log at this place behind the others, in the order of the connections' numbers.
 fn push_table(
-    rows: &mut Vec<Row>,
+    rows: &mut Vec<EndRow>,
     place: usize,
     table: BTreeMap<u32, PassedFrame>,
 ) -> Result<(), AllocError>
-    ensures ok { OnOk result (rows.new.items ≡ rows.old.items ++ map (row_of place) table.entries) }
+    ensures ok { OnOk result
+        (rows.new.items ≡ rows.old.items ++ map (end_of_passage place) table.entries) }
     ensures ordered { IsOrdered nat_cmp table }
 {
     rows.reserve(table.len())?;
@@ -189,7 +190,7 @@ fn push_table(
             log: place,
             connection,
         };
-        rows.push(Row { end, passed })?;
+        rows.push(EndRow { end, passed })?;
     }
     Ok(())
 }

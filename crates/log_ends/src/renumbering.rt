@@ -9,8 +9,8 @@ ghost use Rattle.vat_log.specs.declared.body.Body.{Body};
 ghost use Rattle.vat_log.specs.declared.body.Body.TheVariants.{Send, Receive};
 ghost use Rattle.log_ends.specs.Ends.{IsEnd};
 ghost use Rattle.log_ends.specs.Joining.{IsPaired};
-ghost use Rattle.log_ends.specs.Numbers.{number_in, PutsEnd, AreNumbers, HasVatAt, HasNoVat};
-ghost use Rattle.log_ends.specs.Renumbering.{renumbered_body, renumbered_log, AreApart, IsVatAt, IsRenumbered, AreRenumbered};
+ghost use Rattle.log_ends.specs.Numbers.{new_number_of, PutsEnd, AreNumbers, HasVatAt, HasNoVat};
+ghost use Rattle.log_ends.specs.Renumbering.{renumbered_body, renumbered_log, VatsAreApart, IsVatAt, IsRenumbered, AreRenumbered};
 ghost use Rattle.log_ends.specs.declared.log_end.LogEnd.{LogEnd};
 
 use crate::log_end::{EndPair, LogEnd};
@@ -54,7 +54,7 @@ fn numbers_of(
 
 /// The new number of a connection.
 fn number_of(table: &BTreeMap<u32, u32>, connection: u32) -> u32
-    ensures { result ≡ number_in table.now connection }
+    ensures { result ≡ new_number_of table.now connection }
 {
     table.get(&connection).copied().unwrap_or(0)
 }
@@ -105,7 +105,7 @@ fn receiving(
 
 /// The same record, with the new number of its connection.
 fn renumbered_record(table: &BTreeMap<u32, u32>, entry: &Record) -> Result<Record, AllocError>
-    ensures { IfOk result (λ made. made ≡ renumbered_body (number_in table.now) entry.now) }
+    ensures { IfOk result (λ made. made ≡ renumbered_body (new_number_of table.now) entry.now) }
 {
     match entry.body() {
         Body::Send {
@@ -136,7 +136,7 @@ fn push_record(
     ensures version { writer.new.version ≡ writer.old.version }
     ensures ok { OnOk result ((body : Body) → slice_get log.now.records index ≡ Some body
         → writer.new.records ≡ writer.old.records
-        ++ renumbered_body (number_in table.now) body ∷ []) }
+        ++ renumbered_body (new_number_of table.now) body ∷ []) }
 {
     let Some(entry) = log.get(index) else {
         return Ok(());
@@ -169,7 +169,7 @@ fn renumbered(
     vat: u32,
     log: &VatLog,
 ) -> Result<VatLog, AllocError>
-    ensures { IfOk result (λ made. made ≡ renumbered_log (number_in table.now) vat log.now) }
+    ensures { IfOk result (λ made. made ≡ renumbered_log (new_number_of table.now) vat log.now) }
 {
     let mut writer = begun(alloc, vat, log);
     for index in 0..log.len() {
@@ -205,7 +205,7 @@ fn has_vat(logs: &[VatLog], begin: usize, vat: u32) -> bool
 
 /// Whether no two logs have the same vat.
 fn are_apart(logs: &[VatLog]) -> bool
-    ensures { MatchBool result (AreApart logs.now) (AreApart logs.now → ⊥) }
+    ensures { MatchBool result (VatsAreApart logs.now) (VatsAreApart logs.now → ⊥) }
 {
     for place in 0..logs.len() {
         let vat = logs[place].vat();
@@ -220,7 +220,7 @@ fn are_apart(logs: &[VatLog]) -> bool
 fn vat_at(logs: &[VatLog], place: usize, stays: bool) -> u32
     requires place { place < length logs.now }
     requires few { length logs.now < 2 ^ 32 }
-    requires stays { MatchBool stays (AreApart logs.now) (AreApart logs.now → ⊥) }
+    requires stays { MatchBool stays (VatsAreApart logs.now) (VatsAreApart logs.now → ⊥) }
     ensures { IsVatAt logs.now place result }
 {
     if stays {
@@ -240,7 +240,7 @@ fn renumbered_at(
     requires place { place < length logs.now }
     requires few_logs { length logs.now < 2 ^ 32 }
     requires few_pairs { length pairs.now < 2 ^ 32 }
-    requires stays { MatchBool stays (AreApart logs.now) (AreApart logs.now → ⊥) }
+    requires stays { MatchBool stays (VatsAreApart logs.now) (VatsAreApart logs.now → ⊥) }
     requires paired { (end : LogEnd) → IsEnd logs.now end → IsPaired pairs.now end }
     ensures { IfOk result (λ made. (old : Log) → slice_get logs.now place ≡ Some old
         → IsRenumbered logs.now pairs.now place old made) }

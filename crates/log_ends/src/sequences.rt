@@ -2,7 +2,7 @@
 
 ghost use Rattle.std.specs.Prelude.{◌≡◌, ℕ, ◌↔◌, ◌+◌, ◌∷◌, ◌++◌, [], List, Some, Option, length, IsTrue, IfOk, OnOk};
 ghost use Rattle.link_check.specs.Prefix.{IsPrefix};
-ghost use Rattle.log_ends.specs.Glue.{number_of, IsSound, Keeps, AreTold, Traces};
+ghost use Rattle.log_ends.specs.Glue.{sequence_number, IsSound, Keeps, AreNumberedApart, Traces};
 
 use bytes::Bytes;
 use std::alloc::{AllocError, Global};
@@ -30,8 +30,8 @@ impl Sequences {
         requires { IsSound self.old }
         ensures sound { IsSound self.new }
         ensures keeps { Keeps self.old self.new }
-        ensures ok { IfOk result (λ longer. (frames : List (List ℕ)) → number_of self.old frames ≡ Some number
-            → number_of self.new (frames ++ frame.now ∷ []) ≡ Some longer) }
+        ensures ok { IfOk result (λ longer. (frames : List (List ℕ)) → sequence_number self.old frames ≡ Some number
+            → sequence_number self.new (frames ++ frame.now ∷ []) ≡ Some longer) }
     {
         let key = (number, frame.clone()?);
         if let Some(known) = self.places.get(&key) {
@@ -69,8 +69,8 @@ impl Trace {
         ensures sound { IsSound sequences.new }
         ensures keeps { Keeps sequences.old sequences.new }
         ensures ok { OnOk result ((frames : List (List ℕ))
-            → Traces (number_of sequences.old) self.old.numbers.items frames
-            → Traces (number_of sequences.new) self.new.numbers.items (frames ++ frame.now ∷ [])) }
+            → Traces (sequence_number sequences.old) self.old.numbers.items frames
+            → Traces (sequence_number sequences.new) self.new.numbers.items (frames ++ frame.now ∷ [])) }
     {
         let so_far = self.numbers.last().copied().unwrap_or(0);
         let number = sequences.longer(so_far, frame)?;
@@ -87,7 +87,7 @@ impl Trace {
 
     /// Whether these frames are the first ones of the others.
     pub(crate) fn is_prefix_of(&self, other: &Trace) -> bool
-        ensures { (numbers : List (List ℕ) → Option ℕ) (ours others : List (List ℕ)) → AreTold numbers
+        ensures { (numbers : List (List ℕ) → Option ℕ) (ours others : List (List ℕ)) → AreNumberedApart numbers
             → Traces numbers self.now.numbers.items ours
             → Traces numbers other.now.numbers.items others → (IsTrue result ↔ IsPrefix ours others) }
     {
@@ -103,7 +103,7 @@ impl Trace {
 
     /// Whether both are the same frames.
     pub(crate) fn is_same(&self, other: &Trace) -> bool
-        ensures { (numbers : List (List ℕ) → Option ℕ) (ours others : List (List ℕ)) → AreTold numbers
+        ensures { (numbers : List (List ℕ) → Option ℕ) (ours others : List (List ℕ)) → AreNumberedApart numbers
             → Traces numbers self.now.numbers.items ours
             → Traces numbers other.now.numbers.items others → (IsTrue result ↔ (ours ≡ others)) }
     {

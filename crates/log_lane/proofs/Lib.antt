@@ -1,1 +1,3 @@
+pub mod Members
+pub mod Adding
 pub mod Reading

@@ -6,7 +6,7 @@ use Rattle.std.proofs.lemmas.List.{append_assoc, take-append-drop}
 use Rattle.vat_log.specs.Streams.{StreamSoFar}
 use Rattle.vat_log.specs.declared.body.Body.{Body}
 use Rattle.vat_rules.specs.Audited.{Audited}
-use Rattle.case_pass.specs.Lanes.{LaneSoFar, GoesOn, HasNext}
+use Rattle.turn_taking.specs.Lanes.{LaneSoFar, GoesOn, HasNext}
 use Rattle.log_lane.specs.Glue.{AreOfOne}
 use Rattle.log_lane.specs.Lanes.{ReadAhead, as_lane}
 use Rattle.log_lane.specs.declared.ending.Ending.{Ending}

@@ -3,7 +3,7 @@ use Rattle.std.specs.Prelude.{◌≡◌, ⊤, true, List, Option, Some, None, Ok
 use Rattle.vat_log.specs.Reading.{log_of}
 use Rattle.vat_log.specs.Streams.{StreamSoFar, StreamStopsBy}
 use Rattle.vat_log.specs.declared.body.Body.{Body}
-use Rattle.case_pass.specs.Lanes.{LaneSoFar}
+use Rattle.turn_taking.specs.Lanes.{LaneSoFar}
 use Rattle.log_lane.specs.declared.ending.Ending.{Ending}
 use Rattle.log_lane.specs.declared.ending.Ending.TheVariants.{Whole, Fault}
 

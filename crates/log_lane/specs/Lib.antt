@@ -1,2 +1,5 @@
+pub mod Used
+pub mod UsedOnce
+pub mod Slim
 pub mod Lanes
 pub mod Glue

@@ -10,7 +10,7 @@ use Rattle.std.proofs.lemmas.Option.{slice_get_past}
 use Rattle.vat_log.specs.Log.{Log}
 use Rattle.vat_log.specs.declared.body.Body.{Body}
 use Rattle.vat_log.specs.declared.body.Body.TheVariants.{Receive}
-use Rattle.merge_order.specs.Fits.{Part, sent_so_far, received_so_far, part_of, sent_by_the_others, may_follow, may_come_from, may_come, further, after, used_up, FitsFrom}
+use Rattle.merge_order.specs.Fits.{Part, sent_so_far, received_so_far, part_of, sent_by_the_others, may_come_behind, may_come_from, may_come, further, after, used_up, FitsFrom}
 use Rattle.vat_log.specs.Passages.{sends_frame}
 
 pub bool_cases : (b : Bool) → (b ≡ true) ⊎ (b ≡ false)
@@ -136,7 +136,7 @@ others_grow v connection w (p ∷ ps) =
 
 -- ---- what may come may still come
 
-follows_later : (v : ℕ) (ps qs : List Part) (own : Part) (o : Option Body) → ((connection : ℕ) → sent_by_the_others v connection ps ≤ sent_by_the_others v connection qs) → may_follow v ps own o ≡ true → may_follow v qs own o ≡ true
+follows_later : (v : ℕ) (ps qs : List Part) (own : Part) (o : Option Body) → ((connection : ℕ) → sent_by_the_others v connection ps ≤ sent_by_the_others v connection qs) → may_come_behind v ps own o ≡ true → may_come_behind v qs own o ≡ true
 follows_later v ps qs own None grows may = absurd (false≢true may)
 follows_later v ps qs own (Some (Receive connection call references frame)) grows may =
     lt-ltb _ _ (let lt = ltb-true (received_so_far connection own) (sent_by_the_others v connection ps) may in omega (arith, lt, grows connection))
@@ -173,7 +173,7 @@ used_part v (p ∷ ps) own used e =
       | inr other ↦ used_part v ps own both.1 (rw other at e)
     ]
 
-follows_left : (v : ℕ) (ps : List Part) (own : Part) (o : Option Body) → may_follow v ps own o ≡ true → o ≡ None → ⊥
+follows_left : (v : ℕ) (ps : List Part) (own : Part) (o : Option Body) → may_come_behind v ps own o ≡ true → o ≡ None → ⊥
 follows_left v ps own None may e = false≢true may
 follows_left v ps own (Some b) may e = absurd cc
 

@@ -5,4 +5,3 @@ pub mod Tables
 pub mod Totals
 pub mod Places
 pub mod Scheduling
-mod Beginning

@@ -10,9 +10,9 @@ use Rattle.vat_log.specs.declared.body.Body.{Body}
 use Rattle.vat_log.specs.declared.body.Body.TheVariants.{Send, Receive}
 use Rattle.merge_order.specs.declared.ready_vats.ReadyVats.{ReadyVats}
 use Rattle.merge_order.specs.declared.waiting_vats.WaitingVats.{WaitingVats}
-use Rattle.merge_order.specs.Fits.{Part, sent_so_far, received_so_far, part_of, sent_by_the_others, may_follow, may_come_from, may_come, further, after}
+use Rattle.merge_order.specs.Fits.{Part, sent_so_far, received_so_far, part_of, sent_by_the_others, may_come_behind, may_come_from, may_come, further, after}
 use Rattle.vat_log.specs.Passages.{sends_frame}
-use Rattle.merge_order.specs.Waits.{is_ready, waits, next_from, next_of, awaited_by, sent_by, IsQueued, IsPutOff, IsWoken, IsScheduled}
+use Rattle.merge_order.specs.Waits.{is_ready, waits, next_from, next_of, awaited_connection, sent_by, IsQueued, IsPutOff, IsWoken, IsScheduled}
 use Rattle.merge_order.proofs.Greedy.{eqb_apart, further_log, other_stays, own_moves, part_stays, others_own, others_more}
 use Rattle.merge_order.proofs.Steps.{rising_tail, rising_after}
 use Rattle.merge_order.proofs.Tables.{none_more, count_next}
@@ -45,7 +45,7 @@ may_part : (ps : List Part) (v : ℕ) → may_come ps v ≡ true → is_some (pa
 unfolding may_come
 may_part ps v may = may_part_from v ps (part_of v ps) may
 
-awaits_part : (o : Option Part) (connection : ℕ) → awaited_by (next_from o) ≡ Some connection → is_some o ≡ true
+awaits_part : (o : Option Part) (connection : ℕ) → awaited_connection (next_from o) ≡ Some connection → is_some o ≡ true
 awaits_part None connection e = absurd cc
 awaits_part (Some own) connection e = refl
 
@@ -90,7 +90,7 @@ queued_tried ps ready later waiting left v queued not off removed = record {
   awaits = λ u connection e.
       elim (cases_eq v u) [
         | inl same ↦
-            (let own = off.own connection (ap (λ (w : ℕ). awaited_by (next_of w ps)) same ∙ e) in
+            (let own = off.own connection (ap (λ (w : ℕ). awaited_connection (next_of w ps)) same ∙ e) in
             let there : waits left connection u ≡ true = subst (λ (w : ℕ). waits left connection w ≡ true) same own in
             ap (λ (b : Bool). is_ready later u || b) there ∙ or_true (is_ready later u))
         | inr apart ↦
@@ -152,10 +152,10 @@ others_same u v connection (p ∷ ps) rising silent =
 -- a vat waits where the step sends
 pub record IsAwaited (o sent : Option Body) : Type 0 where
   pub connection : ℕ
-  pub received : awaited_by o ≡ Some connection
+  pub received : awaited_connection o ≡ Some connection
   pub sends : sent_by sent ≡ Some connection
 
-comes_by : (u v : ℕ) (ps : List Part) (own : Part) (o : Option Body) → IsStrictlyIncreasing (map (λ q. q.log.vat) ps) → may_follow u (after v ps) own o ≡ true → (may_follow u ps own o ≡ true) ⊎ IsAwaited o (next_of v ps)
+comes_by : (u v : ℕ) (ps : List Part) (own : Part) (o : Option Body) → IsStrictlyIncreasing (map (λ q. q.log.vat) ps) → may_come_behind u (after v ps) own o ≡ true → (may_come_behind u ps own o ≡ true) ⊎ IsAwaited o (next_of v ps)
 comes_by u v ps own None rising may = absurd (false≢true may)
 comes_by u v ps own (Some (Receive connection call references frame)) rising may =
     elim (is_it (sent_by (next_of v ps)) connection) [
@@ -194,7 +194,7 @@ queued_after ps ready later waiting left v queued may step = record {
       elim (cases_eq u v) [
         | inl same ↦ ap (λ (b : Bool). b || waits left connection u) (step.still u (queued.comes u (ap (may_come ps) same ∙ may)))
         | inr apart ↦
-            elim (or_cases _ _ (queued.awaits u connection (sym (ap (λ (o : Option Part). awaited_by (next_from o)) (part_stays u v ps apart)) ∙ e))) [
+            elim (or_cases _ _ (queued.awaits u connection (sym (ap (λ (o : Option Part). awaited_connection (next_from o)) (part_stays u v ps apart)) ∙ e))) [
               | inl there ↦ ap (λ (b : Bool). b || waits left connection u) (step.still u there)
               | inr waiter ↦
                   elim (is_it (sent_by (next_of v ps)) connection) [

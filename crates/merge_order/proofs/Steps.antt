@@ -8,8 +8,8 @@ use Rattle.std.proofs.lemmas.List.{append-nil}
 use Rattle.vat_log.specs.declared.body.Body.{Body}
 use Rattle.vat_log.specs.declared.body.Body.TheVariants.{Receive}
 use Rattle.vat_log.specs.Log.{Log}
-use Rattle.merge_order.specs.declared.checking.OrderFinding.{OrderFinding}
-use Rattle.merge_order.specs.declared.checking.OrderFinding.TheVariants as findings
+use Rattle.merge_order.specs.declared.order_check.OrderFinding.{OrderFinding}
+use Rattle.merge_order.specs.declared.order_check.OrderFinding.TheVariants as findings
 use Rattle.merge_order.specs.Fits.{Part, received_so_far, part_of, sent_by_the_others, may_come_from, may_come, further, after, used_up, begin, FitsFrom, IsFitting, TakesLeastFrom, fault_from, finding_at, finding_of_order}
 use Rattle.merge_order.proofs.Greedy.{bool_cases, some_is, eqb_apart, further_cases, further_log, left_from, front}
 

@@ -8,8 +8,8 @@ use Rattle.vat_log.specs.Log.{Log}
 use Rattle.vat_log.specs.declared.body.Body.{Body}
 use Rattle.vat_log.specs.declared.body.Body.TheVariants.{Receive}
 use Rattle.vat_log.specs.Passages.{sends_frame, receives_frame}
-use Rattle.merge_order.specs.declared.checking.OrderFinding.{OrderFinding}
-use Rattle.merge_order.specs.declared.checking.OrderFinding.TheVariants as findings
+use Rattle.merge_order.specs.declared.order_check.OrderFinding.{OrderFinding}
+use Rattle.merge_order.specs.declared.order_check.OrderFinding.TheVariants as findings
 
 -- a log, and how many of its records came already
 pub record Part : Type 0 where
@@ -34,15 +34,15 @@ sent_by_the_others vat connection parts = sum_by (sent_so_far connection) (filte
 
 -- The next record of a vat may come, if there is one: a RECV where the others sent more frames on the connection than the
 -- vat received there, any other record always.
-abbrev pub may_follow : ℕ → List Part → Part → Option Body → Bool
-may_follow vat parts own None = false
-may_follow vat parts own (Some (Receive connection call references frame)) = nat_lt (received_so_far connection own) (sent_by_the_others vat connection parts)
-may_follow vat parts own (Some _) = true
+abbrev pub may_come_behind : ℕ → List Part → Part → Option Body → Bool
+may_come_behind vat parts own None = false
+may_come_behind vat parts own (Some (Receive connection call references frame)) = nat_lt (received_so_far connection own) (sent_by_the_others vat connection parts)
+may_come_behind vat parts own (Some _) = true
 
 -- the same, where the vat has a log
 abbrev pub may_come_from : ℕ → List Part → Option Part → Bool
 may_come_from vat parts None = false
-may_come_from vat parts (Some own) = may_follow vat parts own (slice_get own.log.records own.came)
+may_come_from vat parts (Some own) = may_come_behind vat parts own (slice_get own.log.records own.came)
 
 -- a step of this vat may come
 unfoldable pub may_come : List Part → ℕ → Bool
@@ -85,15 +85,6 @@ TakesLeastFrom parts (vat ∷ order) = IsTrue (may_come parts vat) × ((smaller 
 -- the order that takes the smallest vat number that may come at each step
 abbrev pub TakesLeast : List Log → List ℕ → Type 0
 TakesLeast logs order = TakesLeastFrom (begin logs) order
-
--- each step takes the smallest vat number that may come, until none may
-abbrev pub BeginsLeastFrom : List Part → List ℕ → Type 0
-BeginsLeastFrom parts [] = (vat : ℕ) → may_come parts vat ≡ false
-BeginsLeastFrom parts (vat ∷ order) = IsTrue (may_come parts vat) × ((smaller : ℕ) → smaller < vat → may_come parts smaller ≡ false) × BeginsLeastFrom (after vat parts) order
-
--- the order that takes the smallest vat number that may come at each step, as far as one may
-abbrev pub BeginsLeast : List Log → List ℕ → Type 0
-BeginsLeast logs order = BeginsLeastFrom (begin logs) order
 
 -- the first step that may not come, or the order's length where records are left
 unfoldable pub fault_from : List Part → List ℕ → Option ℕ

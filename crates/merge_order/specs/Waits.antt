@@ -38,9 +38,9 @@ abbrev pub next_of : ℕ → List Part → Option Body
 next_of vat parts = next_from (part_of vat parts)
 
 -- the connection on which a record receives a frame
-abbrev pub awaited_by : Option Body → Option ℕ
-awaited_by (Some (Receive connection call references frame)) = Some connection
-awaited_by _ = None
+abbrev pub awaited_connection : Option Body → Option ℕ
+awaited_connection (Some (Receive connection call references frame)) = Some connection
+awaited_connection _ = None
 
 -- the connection on which a record sends a frame
 abbrev pub sent_by : Option Body → Option ℕ
@@ -52,12 +52,12 @@ sent_by _ = None
 pub record IsQueued (parts : List Part) (ready : ReadyVats) (waiting : WaitingVats) : Type 0 where
   pub rising : IsStrictlyIncreasing (map (λ part. part.log.vat) parts)
   pub comes : (vat : ℕ) → may_come parts vat ≡ true → is_ready ready vat ≡ true
-  pub awaits : (vat connection : ℕ) → awaited_by (next_of vat parts) ≡ Some connection → (is_ready ready vat || waits waiting connection vat) ≡ true
+  pub awaits : (vat connection : ℕ) → awaited_connection (next_of vat parts) ≡ Some connection → (is_ready ready vat || waits waiting connection vat) ≡ true
 
 -- a vat that was tried waits now, where its next record is a RECV
 pub record IsPutOff (parts : List Part) (vat : ℕ) (old new : WaitingVats) : Type 0 where
   pub stays : (connection other : ℕ) → waits old connection other ≡ true → waits new connection other ≡ true
-  pub own : (connection : ℕ) → awaited_by (next_of vat parts) ≡ Some connection → waits new connection vat ≡ true
+  pub own : (connection : ℕ) → awaited_connection (next_of vat parts) ≡ Some connection → waits new connection vat ≡ true
 
 -- the vats that waited on the connection on which a frame was sent, if one was, are ready
 pub record IsWoken (sent : Option ℕ) (ready later : ReadyVats) (waiting left : WaitingVats) : Type 0 where
@@ -66,11 +66,11 @@ pub record IsWoken (sent : Option ℕ) (ready later : ReadyVats) (waiting left :
   pub apart : (connection vat : ℕ) → (sent ≡ Some connection → ⊥) → waits waiting connection vat ≡ true → waits left connection vat ≡ true
 
 -- the smallest vat number whose next record may come
-abbrev pub IsFirst : List Part → Option ℕ → Type 0
-IsFirst parts None = (vat : ℕ) → may_come parts vat ≡ false
-IsFirst parts (Some least) = (may_come parts least ≡ true) × ((vat : ℕ) → vat < least → may_come parts vat ≡ false)
+abbrev pub IsFirstToCome : List Part → Option ℕ → Type 0
+IsFirstToCome parts None = (vat : ℕ) → may_come parts vat ≡ false
+IsFirstToCome parts (Some least) = (may_come parts least ≡ true) × ((vat : ℕ) → vat < least → may_come parts vat ≡ false)
 
 -- the same, with the vat that comes first
 pub record IsScheduled (parts : List Part) (ready : ReadyVats) (waiting : WaitingVats) (first : Option ℕ) : Type 0 where
   pub queued : IsQueued parts ready waiting
-  pub least : IsFirst parts first
+  pub least : IsFirstToCome parts first

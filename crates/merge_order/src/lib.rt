@@ -6,20 +6,20 @@
 //! (the law of `proofs/Greedy.antt`); [`read_order`] and [`write_order`] are exact both ways.
 #![tactic(auto)]
 
-mod checking;
 mod connection_counts;
 mod cursor;
 mod error;
 mod format;
 mod making;
 mod order;
-mod progress;
+mod order_check;
+mod order_progress;
 mod ready_vats;
 mod schedule;
 mod waiting_vats;
 
-pub use checking::{OrderFinding, check_order};
 pub use error::OrderError;
 pub use format::{read_order, write_order};
-pub use making::{begin_order, make_order};
+pub use making::make_order;
 pub use order::Order;
+pub use order_check::{OrderFinding, check_order};

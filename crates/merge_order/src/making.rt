@@ -2,7 +2,7 @@
 
 ghost use Rattle.std.specs.Prelude.{◌≡◌, ℕ, List, None, map, IfOk, IfSome};
 ghost use Rattle.std.specs.Arc.{arc_value};
-ghost use Rattle.merge_order.specs.Fits.{IsRising, BeginsLeast, IsFitting, TakesLeast};
+ghost use Rattle.merge_order.specs.Fits.{IsRising, IsFitting, TakesLeast};
 
 use crate::order::Order;
 use crate::schedule::Schedule;
@@ -36,21 +36,4 @@ pub fn make_order(alloc: Global, logs: &[Arc<VatLog>]) -> Result<Option<Order>, 
     } else {
         Ok(None)
     }
-}
-
-/// The order that takes at each step the smallest vat number whose next record may come, as far as one may. The logs come by
-/// rising vat numbers, no two the same. The only error is want of memory.
-pub fn begin_order(alloc: Global, logs: &[Arc<VatLog>]) -> Result<Order, AllocError>
-    // The logs come by rising vat numbers, no two the same.
-    requires { IsRising (map arc_value logs.now) }
-    ensures { IfOk result (λ order. BeginsLeast (map arc_value logs.now) order) }
-{
-    let mut schedule = Schedule::new(alloc, logs)?;
-    let mut vats = Vec::new(alloc);
-    while let Some(vat) = schedule.least() {
-        vats.push(vat)?;
-        schedule.take(vat)?;
-    }
-    let order = Order::new(vats);
-    Ok(order)
 }

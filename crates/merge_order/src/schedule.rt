@@ -3,7 +3,7 @@
 ghost use Rattle.std.specs.Prelude.{◌≡◌, ◌+◌, ◌<◌, ◌^◌, ℕ, false, true, map, IfOk, OnOk, MatchOption};
 ghost use Rattle.std.specs.Arc.{arc_value};
 
-use crate::progress::Progress;
+use crate::order_progress::Progress;
 use crate::ready_vats::ReadyVats;
 use crate::waiting_vats::WaitingVats;
 use std::alloc::{AllocError, Global};

@@ -1,6 +1,6 @@
 //! What is called, with its names.
 
-use schema_names::{Interface, Names};
+use schema_names::{SchemaInterface, SchemaNames};
 use std::fmt;
 use std::fmt::{Display, Formatter};
 
@@ -15,15 +15,15 @@ pub(crate) enum Form {
 
 /// A method that is called, of an interface that has a name: `Store.open (0000000000001234 method 2)`, and without the
 /// method's name where it has none.
-#[derive(Clone, Copy, Debug)]
+#[derive(Clone, Copy)]
 pub struct Called<'a> {
-    interface: &'a Interface,
+    interface: &'a SchemaInterface,
     method: u16,
 }
 
 impl<'a> Called<'a> {
     /// The method of this number, of the interface of this one. None where the interface has no name.
-    pub fn of(names: &'a Names, interface: u64, method: u16) -> Option<Called<'a>> {
+    pub fn of(names: &'a SchemaNames, interface: u64, method: u16) -> Option<Called<'a>> {
         let interface = names.interface(interface)?;
         Some(Called { interface, method })
     }

@@ -1,7 +1,7 @@
 //! Texts with names.
 
 use crate::called::{Called, Form};
-use schema_names::Names;
+use schema_names::SchemaNames;
 use std::fmt;
 use std::fmt::{Display, Formatter};
 
@@ -24,7 +24,7 @@ fn digits_at_start(text: &str) -> usize {
 }
 
 /// The method with which a text begins, of an interface that has a name, and what stands behind it.
-fn called_at<'a, 'b>(names: &'a Names, text: &'b str) -> Option<(Called<'a>, &'b str)> {
+fn called_at<'a, 'b>(names: &'a SchemaNames, text: &'b str) -> Option<(Called<'a>, &'b str)> {
     let (interface, rest) = text.split_once(METHOD)?;
     if interface.len() != 16 {
         return None;
@@ -38,7 +38,7 @@ fn called_at<'a, 'b>(names: &'a Names, text: &'b str) -> Option<(Called<'a>, &'b
 /// Writes what stands behind the word for an interface, with the word or with names in its place.
 fn put_piece<W: fmt::Write>(
     f: &mut Formatter<W>,
-    names: &Names,
+    names: &SchemaNames,
     piece: &str,
     form: Form,
 ) -> fmt::Result {
@@ -54,7 +54,7 @@ fn put_piece<W: fmt::Write>(
 /// Writes a text of this form, in which each `interface I method N` has names, where the schema has them.
 fn put_text<W: fmt::Write>(
     f: &mut Formatter<W>,
-    names: &Names,
+    names: &SchemaNames,
     text: &str,
     form: Form,
 ) -> fmt::Result {
@@ -71,9 +71,9 @@ fn put_text<W: fmt::Write>(
 }
 
 /// A text for people, in which each `interface I method N` has names, where the schema has them.
-#[derive(Clone, Copy, Debug)]
+#[derive(Clone, Copy)]
 pub struct NamedText<'a> {
-    pub names: &'a Names,
+    pub names: &'a SchemaNames,
     pub text: &'a str,
 }
 
@@ -84,9 +84,9 @@ impl Display for NamedText<'_> {
 }
 
 /// The same of a document of SVG or HTML: names are text in it, whatever letters they have.
-#[derive(Clone, Copy, Debug)]
+#[derive(Clone, Copy)]
 pub struct NamedMarkup<'a> {
-    pub names: &'a Names,
+    pub names: &'a SchemaNames,
     pub text: &'a str,
 }
 

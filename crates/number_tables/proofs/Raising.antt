@@ -4,14 +4,14 @@ use Rattle.std.specs.Prelude.{unwrap_or, find, is_none, Result, Ok, Err, OnOk, i
 use Rattle.std.specs.Option.{option_or}
 use Rattle.std.proofs.lemmas.Bool.{cases_Bool, false≢true, ne_eqb, eqb-true, eqb-false}
 use Rattle.std.proofs.lemmas.List.Sums.{sum_by-cons}
-use Rattle.number_tables.specs.declared.life.Life.{Life}
+use Rattle.number_tables.specs.declared.life.NumberLife.{NumberLife}
 use Rattle.decoded_records.specs.declared.origin.Origin.{Origin}
 use Rattle.number_tables.specs.Types.{TableKey}
 use Rattle.decoded_records.specs.Past.{same_id}
 use Rattle.number_tables.specs.Glue.LifeTables.{raised_origin}
 use Rattle.decoded_records.proofs.Naming.{same_id_is, same_id_self}
 
-abbrev pub count_in : Option Life → ℕ
+abbrev pub count_in : Option NumberLife → ℕ
 count_in o = unwrap_or (option_map (λ life. life.count) o) 0
 
 pub apart_sym : (a b : TableKey) → same_id a b ≡ false → same_id b a ≡ false
@@ -21,7 +21,7 @@ apart_sym a b e = elim (cases_Bool (same_id b a)) [
 ]
 
 -- where a number had a life, what is written in its place is put there
-pub put_written : (old : TableKey → Option Life) (n : TableKey) (life w : Life) → Some life ≡ old n → (i : TableKey) →
+pub put_written : (old : TableKey → Option NumberLife) (n : TableKey) (life w : NumberLife) → Some life ≡ old n → (i : TableKey) →
     (if same_id n i then option_map (λ _. w) (old i) else old i) ≡ (if same_id n i then Some w else old i)
 put_written old n life w had i = at (same_id n i) refl
   where
@@ -33,7 +33,7 @@ pub if_ok : {A E P Q : Type 0} (r : Result A E) → OnOk r P → (P → Q) → O
 if_ok (Ok x) p f = f p
 if_ok (Err e) p f = tt
 
-module _ (old new : TableKey → Option Life) (n : TableKey) (w : Life)
+module _ (old new : TableKey → Option NumberLife) (n : TableKey) (w : NumberLife)
     (put : (i : TableKey) → new i ≡ (if same_id n i then Some w else old i)) (count_is : w.count ≡ count_in (old n) + 1) where
   at_it : new n ≡ Some w
   at_it = put n ∙ ap (λ b. if b then Some w else old n) (same_id_self n)

@@ -2,7 +2,7 @@
 
 ghost use Rattle.std.specs.Prelude.{◌≡◌, Option};
 ghost use Rattle.number_tables.specs.Types.{Request};
-ghost use Rattle.number_tables.specs.Glue.CallStates.{call_state_in, leaves, asked_after, after_change};
+ghost use Rattle.number_tables.specs.Glue.CallStates.{call_state_in, leaves, request_after, after_change};
 
 use decoded_records::Request;
 
@@ -38,7 +38,7 @@ pub(crate) struct CallEntry {
 impl CallEntry {
     /// This happens to the call.
     pub(crate) fn change(&mut self, step: CallChange)
-        ensures { (asked : Option Request) → call_state_in (asked_after step asked) self.new
+        ensures { (asked : Option Request) → call_state_in (request_after step asked) self.new
             ≡ after_change step (call_state_in asked self.old) }
     {
         match step {

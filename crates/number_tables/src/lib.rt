@@ -9,19 +9,19 @@
 
 mod by_connection;
 mod call_state;
-mod calls;
+mod call_table;
 mod exports_imports;
 mod life;
 mod question;
 mod question_answers;
-mod questions;
+mod question_table;
 
 pub use call_state::{CallChange, CallState};
-pub use calls::Calls;
+pub use call_table::Calls;
 pub use exports_imports::ExportsImports;
-pub use question::Question;
+pub use question::QuestionState;
 pub use question_answers::{
     call_of, given_back_by, is_finished, is_free, is_late, is_tail, is_taken, is_unfinished,
     is_unreturned, opening_call,
 };
-pub use questions::Questions;
+pub use question_table::Questions;

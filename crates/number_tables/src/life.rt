@@ -8,7 +8,7 @@ use std::alloc::AllocError;
 
 /// What is known of an export or import number, kept in little room since there is one for each number of a log.
 #[derive(Clone, Copy)]
-pub(crate) struct Life {
+pub(crate) struct NumberLife {
     /// How often it is held.
     pub(crate) count: u64,
     /// The number of the record where its life began; of no use where it isn't held, as all that follows.
@@ -23,10 +23,10 @@ pub(crate) struct Life {
     reference: u64,
 }
 
-impl Life {
+impl NumberLife {
     /// A number that is held so often, and whose life began so. A record's number or a place of 2^32 or more, which no
     /// log reaches, is answered as out of memory is.
-    pub(crate) fn new(count: u64, origin: Origin) -> Result<Life, AllocError>
+    pub(crate) fn new(count: u64, origin: Origin) -> Result<NumberLife, AllocError>
         ensures count { IfOk result (λ life. life.count ≡ count) }
         ensures origin { IfOk result (λ life. begun_at life ≡ origin) }
     {
@@ -34,7 +34,7 @@ impl Life {
         else {
             return Err(AllocError);
         };
-        Ok(Life {
+        Ok(NumberLife {
             count,
             number,
             place,
@@ -62,11 +62,11 @@ impl Life {
     }
 
     /// The same number, held so much less often, down to 0.
-    pub(crate) fn less(self, by: u64) -> Life
+    pub(crate) fn less(self, by: u64) -> NumberLife
         ensures count { result.count ≡ self.count - by }
         ensures origin { begun_at result ≡ begun_at self }
     {
-        Life {
+        NumberLife {
             count: self.count.saturating_sub(by),
             ..self
         }

@@ -6,7 +6,7 @@ ghost use Rattle.number_tables.specs.Glue.QuestionTables.{just_opened};
 use decoded_records::TableKeys;
 
 /// What is known of a question by its last opening and what came since.
-pub struct Question {
+pub struct QuestionState {
     /// The call noted beside its opening.
     pub(crate) call: u64,
     /// Whether its opening is a Call whose results are to be sent elsewhere.
@@ -27,7 +27,7 @@ pub struct Question {
     pub(crate) brought: TableKeys,
 }
 
-impl Drop for Question {
+impl Drop for QuestionState {
     fn drop(self) {
         let Self {
             call: _,
@@ -43,12 +43,12 @@ impl Drop for Question {
     }
 }
 
-impl Question {
+impl QuestionState {
     /// What is known of a question right after its opening, which introduced these numbers.
-    pub fn opened(call: u64, tail: bool, asked: TableKeys) -> Question
+    pub fn opened(call: u64, tail: bool, asked: TableKeys) -> QuestionState
         ensures { result ≡ just_opened call tail asked }
     {
-        Question {
+        QuestionState {
             call,
             tail,
             returned: false,

@@ -3,7 +3,7 @@
 ghost use Rattle.std.specs.Prelude.{◌≡◌};
 ghost use Rattle.number_tables.specs.Glue.QuestionTables.{question_at, free_in, unfinished_in, finished_in, unreturned_in, tail_in, taken_in, opening_call_in, call_by, late_by, given_back_by};
 
-use crate::questions::Questions;
+use crate::question_table::Questions;
 use decoded_records::{DecodedRecord, TableKey};
 use rpc_view::RpcMessage;
 

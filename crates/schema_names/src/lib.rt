@@ -6,17 +6,17 @@
 #![tactic(auto)]
 
 mod interface;
-mod layouts;
-mod name;
-mod names;
+mod name_list;
 mod nodes;
-mod reading;
 mod schema_error;
-mod structs;
+mod schema_layouts;
+mod schema_name;
+mod schema_reading;
+mod schema_structs;
 
 pub use cap_reader::{Limits, ReadError};
-pub use interface::{Interface, Methods};
-pub use name::Name;
-pub use names::Names;
-pub use reading::read_names;
+pub use interface::{Methods, SchemaInterface};
+pub use name_list::SchemaNames;
 pub use schema_error::SchemaError;
+pub use schema_name::SchemaName;
+pub use schema_reading::read_names;

@@ -2,18 +2,18 @@
 
 ghost use Rattle.std.specs.Prelude.{◌≡◌, ◌<◌, ℕ, drop, length};
 ghost use Rattle.cap_reader.specs.Places.{elements_at, list_len, sections_at, text_at};
-ghost use Rattle.schema_names.specs.Reading.{run};
-ghost use Rattle.schema_names.specs.Glue.{RunsInMemory, elements_of, optional};
-ghost use Rattle.schema_names.specs.Names.{is_letter, named, name_in as name_in_tree, method_in, methods_in, interface_in, node_in, each_node, nodes_in};
+ghost use Rattle.schema_names.specs.Reading.{run_schema};
+ghost use Rattle.schema_names.specs.Glue.{RunsSchemaInMemory, elements_listed, optional};
+ghost use Rattle.schema_names.specs.Names.{is_name_letter, named, name_behind as name_in_tree, method_in, methods_in, interface_in, node_in, each_node, nodes_in};
 
-use crate::interface::{Interface, Methods};
-use crate::layouts::{
+use crate::interface::{Methods, SchemaInterface};
+use crate::name_list::SchemaNames;
+use crate::schema_error::SchemaError;
+use crate::schema_layouts::{
     INTERFACE_METHODS, METHOD_NAME, NODE_DISPLAY_NAME, NODE_ID, NODE_PREFIX_LENGTH, NODE_TAG,
 };
-use crate::name::Name;
-use crate::names::Names;
-use crate::schema_error::SchemaError;
-use crate::structs::{element_in, list_in, text_in};
+use crate::schema_name::SchemaName;
+use crate::schema_structs::{element_in, list_in, text_in};
 use cap_frame::Frame;
 use cap_reader::{Limits, ListAt, StructAt, TextAt, u16_at, u32_at, u64_at};
 use std::alloc::Global;
@@ -23,7 +23,7 @@ const INTERFACE: u16 = 3;
 
 /// Whether a byte stands in a name: printable ASCII without the space.
 fn is_letter(byte: u8) -> bool
-    ensures { result ≡ is_letter byte }
+    ensures { result ≡ is_name_letter byte }
 {
     b'!' <= byte && byte <= b'~'
 }
@@ -37,9 +37,14 @@ fn length_of(frame: &Frame, text: &TextAt) -> u32
 
 /// The name that a text has behind so many bytes.
 #[tactic(auto, unfolding(crate::specs::Names::named, cap_reader::specs::Reading::pay_for))]
-fn copied(alloc: Global, frame: &Frame, text: &TextAt, prefix: u32) -> Result<Name, SchemaError>
-    ensures { (words : ℕ) → RunsInMemory (λ name. name) result words
-        (run (named (drop prefix (text_at frame.now text.now))) words) }
+fn copied(
+    alloc: Global,
+    frame: &Frame,
+    text: &TextAt,
+    prefix: u32,
+) -> Result<SchemaName, SchemaError>
+    ensures { (words : ℕ) → RunsSchemaInMemory (λ name. name) result words
+        (run_schema (named (drop prefix (text_at frame.now text.now))) words) }
 {
     let whole = length_of(frame, text);
     if whole <= prefix {
@@ -54,11 +59,11 @@ fn copied(alloc: Global, frame: &Frame, text: &TextAt, prefix: u32) -> Result<Na
         }
         name.push(byte as char)?;
     }
-    Ok(Name::new(name))
+    Ok(SchemaName::new(name))
 }
 
 /// The name at a pointer of a struct, behind so many bytes of its text.
-#[tactic(auto, using(crate::proofs::Running::run_then), unfolding(crate::specs::Names::name_in, crate::specs::Names::named, cap_reader::specs::Reading::pay_for, cap_reader::specs::Reading::and_then))]
+#[tactic(auto, using(crate::proofs::Running::run_then), unfolding(crate::specs::Names::name_behind, crate::specs::Names::named, cap_reader::specs::Reading::pay_for, cap_reader::specs::Reading::and_then))]
 fn name_in(
     alloc: Global,
     frame: &Frame,
@@ -66,9 +71,9 @@ fn name_in(
     n: u16,
     prefix: u32,
     limits: &mut Limits,
-) -> Result<Name, SchemaError>
-    ensures { RunsInMemory (λ name. name) result limits.new.words
-        (run (name_in_tree prefix ((sections_at frame.now place.now).child n)) limits.old.words) }
+) -> Result<SchemaName, SchemaError>
+    ensures { RunsSchemaInMemory (λ name. name) result limits.new.words
+        (run_schema (name_in_tree prefix ((sections_at frame.now place.now).child n)) limits.old.words) }
 {
     match text_in(frame, place, n, limits)? {
         Some(text) => copied(alloc, frame, &text, prefix),
@@ -84,10 +89,10 @@ fn method(
     list: &ListAt,
     i: u32,
     limits: &mut Limits,
-) -> Result<Name, SchemaError>
+) -> Result<SchemaName, SchemaError>
     requires { i < list_len list.now }
-    ensures { RunsInMemory (λ name. name) result limits.new.words
-        (run (method_in ((elements_at frame.now list.now).element i)) limits.old.words) }
+    ensures { RunsSchemaInMemory (λ name. name) result limits.new.words
+        (run_schema (method_in ((elements_at frame.now list.now).element i)) limits.old.words) }
 {
     let method = element_in(frame, list, i, limits)?;
     name_in(alloc, frame, &method, METHOD_NAME, 0, limits)
@@ -101,8 +106,8 @@ fn listed_methods(
     list: &ListAt,
     limits: &mut Limits,
 ) -> Result<Methods, SchemaError>
-    ensures { RunsInMemory (λ methods. methods) result limits.new.words
-        (run (methods_in (elements_at frame.now list.now)) limits.old.words) }
+    ensures { RunsSchemaInMemory (λ methods. methods) result limits.new.words
+        (run_schema (methods_in (elements_at frame.now list.now)) limits.old.words) }
 {
     let mut names = Vec::new(alloc);
     for i in 0..list.len() {
@@ -119,8 +124,8 @@ fn methods(
     list: &Option<ListAt>,
     limits: &mut Limits,
 ) -> Result<Methods, SchemaError>
-    ensures { RunsInMemory (λ methods. methods) result limits.new.words
-        (run (methods_in (elements_of frame.now list.now)) limits.old.words) }
+    ensures { RunsSchemaInMemory (λ methods. methods) result limits.new.words
+        (run_schema (methods_in (elements_listed frame.now list.now)) limits.old.words) }
 {
     match list {
         Some(list) => listed_methods(alloc, frame, list, limits),
@@ -135,16 +140,16 @@ fn interface(
     frame: &Frame,
     node: &StructAt,
     limits: &mut Limits,
-) -> Result<Interface, SchemaError>
-    ensures { RunsInMemory (λ interface. interface) result limits.new.words
-        (run (interface_in (sections_at frame.now node.now)) limits.old.words) }
+) -> Result<SchemaInterface, SchemaError>
+    ensures { RunsSchemaInMemory (λ interface. interface) result limits.new.words
+        (run_schema (interface_in (sections_at frame.now node.now)) limits.old.words) }
 {
     let prefix = u32_at(frame, node, NODE_PREFIX_LENGTH);
     let name = name_in(alloc, frame, node, NODE_DISPLAY_NAME, prefix, limits)?;
     let list = list_in(frame, node, INTERFACE_METHODS, limits)?;
     let methods = methods(alloc, frame, &list, limits)?;
     let id = u64_at(frame, node, NODE_ID);
-    Ok(Interface { id, name, methods })
+    Ok(SchemaInterface { id, name, methods })
 }
 
 /// The interface of an element of the nodes, None where it is another node.
@@ -155,10 +160,10 @@ fn node(
     list: &ListAt,
     i: u32,
     limits: &mut Limits,
-) -> Result<Option<Interface>, SchemaError>
+) -> Result<Option<SchemaInterface>, SchemaError>
     requires { i < list_len list.now }
-    ensures { RunsInMemory optional result limits.new.words
-        (run (node_in ((elements_at frame.now list.now).element i)) limits.old.words) }
+    ensures { RunsSchemaInMemory optional result limits.new.words
+        (run_schema (node_in ((elements_at frame.now list.now).element i)) limits.old.words) }
 {
     let node = element_in(frame, list, i, limits)?;
     if u16_at(frame, &node, NODE_TAG) != INTERFACE {
@@ -174,9 +179,9 @@ fn listed_nodes(
     frame: &Frame,
     list: &ListAt,
     limits: &mut Limits,
-) -> Result<Names, SchemaError>
-    ensures { RunsInMemory (λ names. names) result limits.new.words
-        (run (each_node (elements_at frame.now list.now)) limits.old.words) }
+) -> Result<SchemaNames, SchemaError>
+    ensures { RunsSchemaInMemory (λ names. names) result limits.new.words
+        (run_schema (each_node (elements_at frame.now list.now)) limits.old.words) }
 {
     let mut interfaces = Vec::new(alloc);
     for i in 0..list.len() {
@@ -184,7 +189,7 @@ fn listed_nodes(
             interfaces.push(interface)?;
         }
     }
-    Ok(Names::new(interfaces))
+    Ok(SchemaNames::new(interfaces))
 }
 
 /// The interfaces among the nodes of a list that was looked for.
@@ -194,9 +199,9 @@ pub fn nodes(
     frame: &Frame,
     list: &Option<ListAt>,
     limits: &mut Limits,
-) -> Result<Names, SchemaError>
-    ensures { RunsInMemory (λ names. names) result limits.new.words
-        (run (nodes_in (elements_of frame.now list.now)) limits.old.words) }
+) -> Result<SchemaNames, SchemaError>
+    ensures { RunsSchemaInMemory (λ names. names) result limits.new.words
+        (run_schema (nodes_in (elements_listed frame.now list.now)) limits.old.words) }
 {
     match list {
         Some(list) if list.len() != 0 => listed_nodes(alloc, frame, list, limits),

@@ -2,7 +2,7 @@
 
 ghost use Rattle.std.specs.Prelude.{◌≡◌};
 ghost use Rattle.schema_names.specs.declared.schema_error.SchemaError.TheVariants.{OutOfMemory, Frame};
-ghost use Rattle.schema_names.specs.Reading.{fault_of};
+ghost use Rattle.schema_names.specs.Reading.{schema_fault_of};
 
 use cap_frame::FrameError;
 use cap_reader::ReadError;
@@ -34,7 +34,7 @@ impl From<FrameError> for SchemaError {
 
 /// Running out of memory stays what it is; any other fault is that of a pointer.
 impl From<ReadError> for SchemaError {
-    ghost from_gives = { λ e error. error ≡ fault_of e };
+    ghost from_gives = { λ e error. error ≡ schema_fault_of e };
 
     fn from(e: ReadError) -> SchemaError {
         match e {

@@ -1,6 +1,6 @@
 -- The line of a case whose logs came in streams.
-use Rattle.std.proofs.Common.{◌≡◌, ◌⊎◌, ℕ, ◌-◌, ◌≤◌, Bool, true, false, List, [], ◌∷◌, length, map, Option, Some, None, refl, sym, ap, subst, ◌∙◌, arith, inl, inr}
-use Rattle.std.specs.Prelude.{IsSomeAnd, MatchOption, slice_get, sum_by}
+use Rattle.std.proofs.Common.{◌≡◌, ◌⊎◌, ℕ, ◌-◌, ◌≤◌, Bool, true, false, List, [], ◌∷◌, length, Option, Some, None, refl, sym, ap, subst, ◌∙◌, arith, inl, inr}
+use Rattle.std.specs.Prelude.{IsSomeAnd, MatchOption, slice_get}
 use Rattle.std.specs.List.{filter}
 use Rattle.std.specs.List.Sorted.{IsPermutation}
 use Rattle.std.specs.Option.{option_map}
@@ -16,7 +16,7 @@ use Rattle.vat_rules.specs.Audit.{Found}
 use Rattle.link_check.specs.Prefix.{Ends, IsOutcome}
 use Rattle.link_check.specs.declared.link_outcome.LinkOutcome.TheVariants.{Good}
 use Rattle.merge_order.specs.Fits.{IsFitting, finding_of_order}
-use Rattle.merge_order.specs.declared.checking.OrderFinding.TheVariants as findings_of
+use Rattle.merge_order.specs.declared.order_check.OrderFinding.TheVariants as findings_of
 use Rattle.turn_taking.specs.Turns.{Turns, order_of, AreAll, AreOf}
 use Rattle.turn_taking.specs.Orders.{AreLeft, AreStuck}
 use Rattle.turn_taking.proofs.Orders.{least_exists, turns_fit, stuck_turns, order_held, order_ends}
@@ -25,33 +25,32 @@ use Rattle.case_book.specs.Case.{Contents, IsCase}
 use Rattle.case_book.specs.Pieces.{IsAuditOf, IsComparisonOf}
 use Rattle.case_book.specs.Ties.{tie_fault_of}
 use Rattle.case_book.specs.declared.link.Link.{Link}
-use Rattle.case_pass.specs.Lanes.{LaneSoFar}
-use Rattle.case_pass.specs.Pass.{logs_of}
-use Rattle.case_pass.specs.Turned as pass
-use Rattle.case_pass.specs.Whole.{EndsBehind}
+use Rattle.turn_taking.specs.Lanes.{LaneSoFar}
+use Rattle.turn_taking.specs.Pass.{logs_of}
+use Rattle.turn_taking.specs.Turned as pass
+use Rattle.turn_taking.specs.WholeCase.{EndsBehind}
 use Rattle.lock_step.specs.Taking as taking
 use Rattle.lock_step.specs.Taking.{count_turns}
 use Rattle.lock_step.proofs.Counting as counting
-use Rattle.slim_case.specs.Slim as slim
-use Rattle.audit_core.specs.Checking.{IsKnown, known, AreLogsFound, IsCounted, delivered_by}
-use Rattle.audit_core.specs.Glue.{case_record_limit, under_way_on, IsBadFinding, IsFirstNot, AreBadEnds}
+use Rattle.log_lane.specs.Slim as slim
+use Rattle.audit_core.specs.Glue.{case_record_limit, IsBadFinding, IsFirstNot, AreBadEnds}
 use Rattle.audit_core.specs.Lines.{IsLineOf}
-use Rattle.audit_core.specs.Report.{AreGoodEnds, HoldsOfEach, IsGoodFinding, IsOrderFor, count_all, delivers}
-use Rattle.audit_core.specs.declared.report.Breach.TheVariants.{Order}
-use Rattle.audit_core.specs.declared.report.Report.{Report}
-use Rattle.audit_core.specs.declared.report.Report.TheVariants as report
-use Rattle.audit_core.proofs.FoundLines.{all_logs_good, bad_log_line, bad_link_line}
-use Rattle.audit_core.proofs.FoundOrder.{early_line_of, yes_line_of, order_fails, no_order}
-use Rattle.audit_core.proofs.FoundWhole.{counted}
-use Rattle.stream_audit.specs.Glue.{IsTakenSo, IsGoodBy, IsBrokenBy}
-use Rattle.stream_audit.specs.declared.reading.OrderFound.{OrderFound}
-use Rattle.stream_audit.specs.declared.reading.OrderFound.TheVariants.{Fits, Fails, NoOrder}
-use Rattle.stream_audit.proofs.Known.{at_known, known_each, known_first, EndsFound, ends_found}
+use Rattle.audit_core.specs.Report.{AreGoodEnds, HoldsOfEach, IsGoodFinding, IsOrderFor, count_all, records_delivery}
+use Rattle.case_report.specs.declared.report.Breach.TheVariants.{Order}
+use Rattle.case_report.specs.declared.report.Report.{Report}
+use Rattle.case_report.specs.declared.report.Report.TheVariants as report
+use Rattle.stream_audit.proofs.FoundLines.{AreLogsFound, all_logs_good, bad_log_line, bad_link_line}
+use Rattle.stream_audit.proofs.FoundOrder.{early_line_of, yes_line_of, order_fails, no_order}
+use Rattle.stream_audit.proofs.FoundWhole.{IsCounted, counted}
+use Rattle.stream_audit.specs.Glue.{IsTakenSo, IsGoodLinkBy, IsBrokenBy}
+use Rattle.stream_audit.specs.declared.reading_in_turns.OrderFound.{OrderFound}
+use Rattle.stream_audit.specs.declared.reading_in_turns.OrderFound.TheVariants.{Fits, Fails, NoOrder}
+use Rattle.stream_audit.proofs.Known.{EndsFound, ends_found}
 use Rattle.stream_audit.proofs.Permuted.{all_held, of_held, held_up, stuck_held, left_held}
 
 -- ---- counts
 
-delivers_too : (b : Body) → taking.delivers b ≡ delivers b
+delivers_too : (b : Body) → taking.passes_delivery b ≡ records_delivery b
 delivers_too (body.Deliver call object) = refl
 delivers_too _ = refl
 
@@ -67,10 +66,10 @@ same_filter {X} p q same (x ∷ xs) =
       | inr isnt ↦ rw (same x ∙ isnt, isnt) (same_filter p q same xs)
     ]
 
-same_count : (turns : Turns) → count_turns taking.delivers turns ≡ count_turns delivers turns
+same_count : (turns : Turns) → count_turns taking.passes_delivery turns ≡ count_turns records_delivery turns
 same_count turns =
-    sym (length-filter (λ turn. taking.delivers turn.1) turns) ∙ ap length (same_filter (λ (turn : ℕ × Body). taking.delivers turn.1) (λ turn. delivers turn.1) (λ turn. delivers_too turn.1) turns)
-    ∙ length-filter (λ turn. delivers turn.1) turns
+    sym (length-filter (λ turn. taking.passes_delivery turn.1) turns) ∙ ap length (same_filter (λ (turn : ℕ × Body). taking.passes_delivery turn.1) (λ turn. records_delivery turn.1) (λ turn. delivers_too turn.1) turns)
+    ∙ length-filter (λ turn. records_delivery turn.1) turns
 
 -- ---- what was taken
 
@@ -91,12 +90,12 @@ pub record FitsSo (held : Contents) (given : Option (List ℕ)) (fault : Option 
 
 -- what is told of the links, and read off it
 abbrev pub LinksTold : Turns → Option Report → List Link → Type 0
-LinksTold turns line links = MatchOption line (HoldsOfEach (IsGoodBy turns) links) (λ l. IsFirstNot (IsGoodBy turns) (IsBrokenBy turns l) links)
+LinksTold turns line links = MatchOption line (HoldsOfEach (IsGoodLinkBy turns) links) (λ l. IsFirstNot (IsGoodLinkBy turns) (IsBrokenBy turns l) links)
 
-pub links_told_good : (turns : Turns) (o : Option Report) (links now : List Link) → now ≡ links → o ≡ None → LinksTold turns o now → HoldsOfEach (IsGoodBy turns) links
+pub links_told_good : (turns : Turns) (o : Option Report) (links now : List Link) → now ≡ links → o ≡ None → LinksTold turns o now → HoldsOfEach (IsGoodLinkBy turns) links
 links_told_good turns o links now same is told = subst (λ (x : Option Report). LinksTold turns x links) is (subst (LinksTold turns o) same told)
 
-pub first_told_broken : (turns : Turns) (o : Option Report) (links now : List Link) (line : Report) → now ≡ links → o ≡ Some line → LinksTold turns o now → IsFirstNot (IsGoodBy turns) (IsBrokenBy turns line) links
+pub first_told_broken : (turns : Turns) (o : Option Report) (links now : List Link) (line : Report) → now ≡ links → o ≡ Some line → LinksTold turns o now → IsFirstNot (IsGoodLinkBy turns) (IsBrokenBy turns line) links
 first_told_broken turns o links now line same is told = subst (λ (x : Option Report). LinksTold turns x links) is (subst (LinksTold turns o) same told)
 
 -- which order it is doesn't matter to the order fault
@@ -154,7 +153,7 @@ module _ (lanes : List (Option LaneSoFar)) (logs : List Log) (held : Contents) (
   none_fits (Some order) so = absurd so
 
 module _ (lanes : List (Option LaneSoFar)) (logs : List Log) (held : Contents) (given : Option (List ℕ)) (found : OrderFound) (taken : taking.Taken) (so : IsTakenSo lanes (taking.turned taken) given found) (same : logs ≡ logs_of lanes)
-    (moved : IsPermutation logs held.logs) (case : IsCase held) (tied : tie_fault_of held ≡ None) (findings : List Found) (own : slim.logs_of findings ≡ held.logs)
+    (moved : IsPermutation logs held.logs) (case : IsCase held) (tied : tie_fault_of held ≡ None) (findings : List Found) (own : slim.logs_audited findings ≡ held.logs)
     (within : HoldsOfEach (λ (f : Found). f.limits ≡ default_limits) findings) where
   here : (P : List Log → Type 0) → P (logs_of lanes) → P logs
   here P p = subst P (sym same) p
@@ -164,24 +163,19 @@ module _ (lanes : List (Option LaneSoFar)) (logs : List Log) (held : Contents) (
 
   -- ---- logs
 
-  logs_found : AreLogsFound held.logs (map Some findings)
+  logs_found : AreLogsFound held.logs findings
   logs_found = record {
     rising = case.rising_vats;
     few = case.few_vats;
-    each = length-map findings Some ∙ sym (length-map findings (λ (f : Found). f.log)) ∙ ap length own;
+    each = sym (length-map findings (λ (f : Found). f.log)) ∙ ap length own;
     own = λ k one at. (
-        let x = at_known findings k (Some one) at in
-        let is = same_one x.0 one x.2 in
-        let there : slice_get held.logs k ≡ Some x.0.log = ap (λ (ls : List Log). slice_get ls k) (sym own) ∙ slice_get-map (λ (f : Found). f.log) findings k ∙ ap (option_map (λ (f : Found). f.log)) x.1 in
-        subst (λ (o : Option Log). IsSomeAnd o (λ log. IsAuditOf log one)) (sym there) (record { same_log = ap (λ (f : Found). f.log) (sym is); within = ap (λ (f : Found). f.limits) (sym is) ∙ within k x.0 x.1 })
+        let there : slice_get held.logs k ≡ Some one.log = ap (λ (ls : List Log). slice_get ls k) (sym own) ∙ slice_get-map (λ (f : Found). f.log) findings k ∙ ap (option_map (λ (f : Found). f.log)) at in
+        subst (λ (o : Option Log). IsSomeAnd o (λ log. IsAuditOf log one)) (sym there) (record { same_log = refl; within = within k one at })
         );
   }
-    where
-      same_one : (a b : Found) → ◌≡◌ {A = Option Found} (Some b) (Some a) → a ≡ b
-      same_one a b e = cc
 
   pub bad_log : (line : Report) → IsFirstNot IsGoodFinding (IsBadFinding line) findings → IsLineOf held given line
-  bad_log line first = bad_log_line held (map Some findings) logs_found line (known_first IsGoodFinding findings (IsBadFinding line) first) given
+  bad_log line first = bad_log_line held findings logs_found line first given
 
   -- ---- links
 
@@ -208,15 +202,12 @@ module _ (lanes : List (Option LaneSoFar)) (logs : List Log) (held : Contents) (
       none_some : (link : Link) → ◌≡◌ {A = Option Link} None (Some link) → ⊥
       none_some link e = cc
 
-  good_by : (link : Link) (ends : Ends) → IsComparisonOf held.logs link ends → IsGoodBy taken.all link → AreGoodEnds ends
+  good_by : (link : Link) (ends : Ends) → IsComparisonOf held.logs link ends → IsGoodLinkBy taken.all link → AreGoodEnds ends
   good_by link ends is good =
       let outcome : IsOutcome ends (Good good.0 good.1) = good.2.found held.logs ends all_taken is in
       record { at_first = outcome.at_first; at_second = outcome.at_second }
 
-  good_logs : HoldsOfEach IsGoodFinding findings → HoldsOfEach (IsKnown IsGoodFinding) (map Some findings)
-  good_logs each = known_each IsGoodFinding findings each
-
-  pub bad_link : (line : Report) → HoldsOfEach IsGoodFinding findings → IsFirstNot (IsGoodBy taken.all) (IsBrokenBy taken.all line) held.links → IsLineOf held given line
+  pub bad_link : (line : Report) → HoldsOfEach IsGoodFinding findings → IsFirstNot (IsGoodLinkBy taken.all) (IsBrokenBy taken.all line) held.links → IsLineOf held given line
   bad_link line each first =
       let its = ends_at first.place first.one first.there in
       let first_ends : IsFirstNot AreGoodEnds (AreBadEnds line) links.all = record {
@@ -231,29 +222,20 @@ module _ (lanes : List (Option LaneSoFar)) (logs : List Log) (held : Contents) (
           means = first.so.found.found held.logs its.0 all_taken its.2;
         };
       } in
-      bad_link_line held (map Some links.all) links.found line (all_logs_good held (map Some findings) logs_found (good_logs each)) (known_first AreGoodEnds links.all (AreBadEnds line) first_ends) given
+      bad_link_line held links.all links.found line (all_logs_good held findings logs_found each) first_ends given
 
   -- ---- a good case
 
-  module _ (logs_good : HoldsOfEach IsGoodFinding findings) (links_good : HoldsOfEach (IsGoodBy taken.all) held.links) where
+  module _ (logs_good : HoldsOfEach IsGoodFinding findings) (links_good : HoldsOfEach (IsGoodLinkBy taken.all) held.links) where
     ends_good : HoldsOfEach AreGoodEnds links.all
     ends_good k ends at = let link = links.each k ends at in good_by link.0 ends link.2 (links_good k link.0 link.1)
 
-    base : IsCounted held (sum_by (known delivered_by) (map Some findings)) (sum_by (known under_way_on) (map Some links.all))
-    base = counted held tied (map Some findings) (map Some links.all) logs_found links.found (good_logs logs_good) (known_each AreGoodEnds links.all ends_good) (sum_by (known delivered_by) (map Some findings))
-        (sum_by (known under_way_on) (map Some links.all)) (record { each = good_logs logs_good; sum = λ few. refl }) (record { each = known_each AreGoodEnds links.all ends_good; sum = λ few. refl })
-
-    module _ (delivered under_way : ℕ) (delivered_is : delivered ≡ count_turns taking.delivers taken.all) (under_way_is : under_way ≡ count_turns sends taken.all - count_turns receives taken.all) where
+    module _ (delivered under_way : ℕ) (delivered_is : delivered ≡ count_turns taking.passes_delivery taken.all) (under_way_is : under_way ≡ count_turns sends taken.all - count_turns receives taken.all) where
       all_counted : IsCounted held delivered under_way
-      all_counted = record {
-        all = base.all;
-        own = base.own;
-        good = base.good;
-        true = base.true;
-        delivered_are = λ few. delivered_is ∙ same_count taken.all ∙ counting.counted delivers held.logs taken.all case.rising_vats all_taken;
-        under_way_are = λ few. under_way_is ∙ ap (λ (n : ℕ). n - count_turns receives taken.all) (counting.counted sends held.logs taken.all case.rising_vats all_taken)
-            ∙ ap (λ (n : ℕ). count_all sends held.logs - n) (counting.counted receives held.logs taken.all case.rising_vats all_taken);
-      }
+      all_counted = counted held tied findings links.all logs_found links.found logs_good ends_good delivered under_way
+          (λ few. delivered_is ∙ same_count taken.all ∙ counting.counted records_delivery held.logs taken.all case.rising_vats all_taken)
+          (λ few. under_way_is ∙ ap (λ (n : ℕ). n - count_turns receives taken.all) (counting.counted sends held.logs taken.all case.rising_vats all_taken)
+          ∙ ap (λ (n : ℕ). count_all sends held.logs - n) (counting.counted receives held.logs taken.all case.rising_vats all_taken))
 
       -- by an order that fits
       pub early_line : (fault : Option (ℕ × ℕ)) → FitsSo held given fault → (vat at : ℕ) → fault ≡ Some (vat, at) → IsLineOf held given (report.Vat vat at Order)

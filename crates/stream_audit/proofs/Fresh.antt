@@ -13,14 +13,14 @@ use Rattle.vat_log.specs.declared.error.LogError.{LogError}
 use Rattle.vat_log.specs.declared.read_fault.ReadFault.{ReadFault}
 use Rattle.vat_rules.specs.Audit.{Found}
 use Rattle.audit_core.specs.Report.{HoldsOfEach}
-use Rattle.slim_case.specs.Slim as slim
-use Rattle.turn_taking.specs.Turns.{Turns, records_of, AreInOrder}
-use Rattle.case_pass.specs.Lanes.{LaneSoFar}
-use Rattle.case_pass.specs.Pass.{vat_of, logs_of, AreThere, IsLaneAt, IsPass}
-use Rattle.case_pass.specs.Turned.{Taken}
+use Rattle.log_lane.specs.Slim as slim
+use Rattle.turn_taking.specs.Turns.{Turns, records_taken, AreInOrder}
+use Rattle.turn_taking.specs.Lanes.{LaneSoFar}
+use Rattle.turn_taking.specs.Pass.{lane_vat, logs_of, AreThere, IsLaneAt, IsPass}
+use Rattle.turn_taking.specs.Turned.{Taken}
 use Rattle.log_lane.specs.Lanes.{ReadAhead, as_lane}
 use Rattle.stream_audit.specs.Glue.{so_far, AreApart, AreFoundIn}
-use Rattle.stream_audit.specs.Streamed.{AreFresh, AreWhole, CameWhole, CameToFault, IsFirstFault}
+use Rattle.stream_audit.specs.Streamed.{AreFresh, AreReadWhole, CameWhole, CameToFault, IsFirstFault}
 
 pub some_read : (a b : ReadAhead) → ◌≡◌ {A = Option ReadAhead} (Some a) (Some b) → a ≡ b
 some_read a b e = cc
@@ -65,12 +65,12 @@ begun lanes taken fresh apart none none_too = record {
         let same = some_read read.0 own.lane own.there in
         let records : lane.log.records ≡ [] = ap (λ (l : LaneSoFar). l.log.records) (sym read.2) ∙ ap (λ (r : ReadAhead). r.read.log.records) same ∙ own.none in
         let ahead : lane.ahead ≡ [] = ap (λ (l : LaneSoFar). l.ahead) (sym read.2) ∙ ap (λ (r : ReadAhead). r.ahead) same ∙ own.ahead in
-        records ∙ sym ahead ∙ ap (λ (t : Turns). records_of (vat_of lane) t ++ lane.ahead) (sym none_too)
+        records ∙ sym ahead ∙ ap (λ (t : Turns). records_taken (lane_vat lane) t ++ lane.ahead) (sym none_too)
         );
     apart = λ i j one other is is_too same. (
         let a = lane_seen lanes i one is in
         let b = lane_seen lanes j other is_too in
-        apart i j a.0 b.0 a.1 b.1 (ap vat_of a.2 ∙ same ∙ ap vat_of (sym b.2))
+        apart i j a.0 b.0 a.1 b.1 (ap lane_vat a.2 ∙ same ∙ ap lane_vat (sym b.2))
         );
     known = λ turn has. (
         let none = subst (λ (t : Turns). Contains t turn) none_too has in
@@ -82,25 +82,9 @@ begun lanes taken fresh apart none none_too = record {
   alike = λ free. none_too ∙ sym none;
 }
 
--- ---- the lane at a place
-
-pub lane_here : (lanes : List (Option ReadAhead)) (place : ℕ) (o : Option ReadAhead) (lane : ReadAhead) → place < length lanes → slice_get lanes place ≡ Some (Some lane) → o ≡ get_or lanes place o → o ≡ Some lane
-lane_here lanes place o lane lt at is = is ∙ same (get_or lanes place o) (Some lane) (sym (slice_get-get_or lanes place o lt) ∙ at)
-  where
-    same : (a b : Option ReadAhead) → ◌≡◌ {A = Option (Option ReadAhead)} (Some a) (Some b) → a ≡ b
-    same a b e = cc
-
-pub vat_says : (o : Option ReadAhead) (lane : ReadAhead) (v : ℕ) → o ≡ Some lane → IfSome (option_map as_lane o) (λ l. v ≡ l.log.vat) → v ≡ lane.read.log.vat
-vat_says o lane v is says = subst (λ (p : Option ReadAhead). IfSome (option_map as_lane p) (λ l. v ≡ l.log.vat)) is says
-
-pub inside : (lanes : List (Option ReadAhead)) (i : ℕ) (lane : ReadAhead) → slice_get lanes i ≡ Some (Some lane) → i < length lanes
-inside [] i lane at = absurd (let no : ⊥ = cc in no)
-inside (o ∷ lanes) zero lane at = omega arith
-inside (o ∷ lanes) (suc i) lane at = let lt = inside lanes i lane at in omega (arith, lt)
-
 -- ---- logs that came whole
 
-pub whole_more : (lanes : List (Option ReadAhead)) (logs : List Log) (lane : Option ReadAhead) (log : Log) → AreWhole lanes logs → CameWhole lane log → AreWhole (lanes ++ lane ∷ []) (logs ++ log ∷ [])
+pub whole_more : (lanes : List (Option ReadAhead)) (logs : List Log) (lane : Option ReadAhead) (log : Log) → AreReadWhole lanes logs → CameWhole lane log → AreReadWhole (lanes ++ lane ∷ []) (logs ++ log ∷ [])
 whole_more [] [] lane log whole came = (came, tt)
 whole_more [] (other ∷ logs) lane log whole came = absurd whole
 whole_more (o ∷ lanes) [] lane log whole came = absurd whole
@@ -137,10 +121,10 @@ pub found_more : (lanes : List (Option ReadAhead)) (place : ℕ) (d : Option Rea
     → IsLogOf (get_or lanes place d) found → AreFoundIn (take (place + 1) lanes) now
 found_more lanes place d findings now found lt is so log =
     subst (λ (ls : List (Option ReadAhead)). AreFoundIn ls now) (sym (take_more lanes place d lt)) (subst (AreFoundIn (take place lanes ++ get_or lanes place d ∷ [])) (sym is) (record {
-      whole = subst (AreWhole (take place lanes ++ get_or lanes place d ∷ [])) (sym (map-append (λ (f : Found). f.log) findings (found ∷ [])))
-          (whole_more (take place lanes) (slim.logs_of findings) (get_or lanes place d) found.log so.whole (record { read = log.0; there = log.1; over = log.4; spelled = log.5 ∙ as_read (sym log.2) }));
+      whole = subst (AreReadWhole (take place lanes ++ get_or lanes place d ∷ [])) (sym (map-append (λ (f : Found). f.log) findings (found ∷ [])))
+          (whole_more (take place lanes) (slim.logs_audited findings) (get_or lanes place d) found.log so.whole (record { read = log.0; there = log.1; over = log.4; spelled = log.5 ∙ as_read (sym log.2) }));
       within = each_more findings found so.within log.3;
-      same = map-append (λ (f : Found). f.log) findings (found ∷ []) ∙ ap (λ (l : Log). slim.logs_of findings ++ l ∷ []) log.2 ∙ logs_more (take place lanes) (slim.logs_of findings) log.0 so.same
+      same = map-append (λ (f : Found). f.log) findings (found ∷ []) ∙ ap (λ (l : Log). slim.logs_audited findings ++ l ∷ []) log.2 ∙ logs_more (take place lanes) (slim.logs_audited findings) log.0 so.same
           ∙ ap (λ (o : Option ReadAhead). logs_of (so_far (take place lanes ++ o ∷ []))) (sym log.1);
     }))
   where
@@ -150,7 +134,7 @@ found_more lanes place d findings now found lt is so log =
 pub first_fault : (lanes : List (Option ReadAhead)) (place : ℕ) (d : Option ReadAhead) (findings : List Found) (fault : ReadFault) → place < length lanes → AreFoundIn (take place lanes) findings
     → (lane : ReadAhead) × (get_or lanes place d ≡ Some lane) × StreamStopsBy fault lane.read → IsFirstFault lanes place fault
 first_fault lanes place d findings fault lt so why = record {
-  before = slim.logs_of findings;
+  before = slim.logs_audited findings;
   whole = so.whole;
   own = subst (λ (o : Option (Option ReadAhead)). IsSomeAnd o (λ lane. CameToFault lane fault)) (sym (slice_get-get_or lanes place d lt)) (record { read = why.0; there = why.1; stops = why.2 });
 }

@@ -1,8 +1,7 @@
--- What is found of each log and of each link of a case.
-use Rattle.std.proofs.Common.{◌≡◌, ℕ, suc, zero, Bool, true, false, List, [], ◌∷◌, length, map, Option, Some, None, refl, sym, ap, subst, ◌∙◌, arith, inl, inr}
+-- What is found of each link of a case.
+use Rattle.std.proofs.Common.{◌≡◌, ℕ, suc, zero, Bool, true, false, List, [], ◌∷◌, length, Option, Some, None, refl, sym, ap, subst, arith, inl, inr}
 use Rattle.std.specs.Prelude.{◌==◌, ◌||◌, Contains, IsSomeAnd, slice_get}
 use Rattle.std.proofs.lemmas.Bool.{cases_lt, eqb-true}
-use Rattle.std.proofs.lemmas.List.{length-map}
 use Rattle.vat_log.specs.Log.{Log}
 use Rattle.link_check.specs.Prefix.{Ends}
 use Rattle.case_book.specs.Case.{Contents, IsCase}
@@ -10,44 +9,7 @@ use Rattle.case_book.specs.Pieces.{IsComparisonOf}
 use Rattle.case_book.specs.Ties.{tie_fault_of, has_log}
 use Rattle.case_book.specs.declared.link.Link.{Link}
 use Rattle.case_book.proofs.Tied.{has_ends}
-use Rattle.audit_core.specs.Checking.{IsKnown, AreLinksFound}
-use Rattle.audit_core.specs.Glue.{HoldsBefore, IsFirstNot}
-use Rattle.audit_core.specs.Report.{HoldsOfEach}
-
--- ---- what is known at each place
-
-pub at_known : {X : Type 0} (xs : List X) (k : ℕ) (o : Option X) → slice_get (map Some xs) k ≡ Some o → (x : X) × (slice_get xs k ≡ Some x) × (o ≡ Some x)
-at_known [] k o at = absurd (let no : ⊥ = cc in no)
-at_known {X} (x ∷ xs) zero o at = (x, refl, same o (Some x) at)
-  where
-    same : (a b : Option X) → ◌≡◌ {A = Option (Option X)} (Some b) (Some a) → a ≡ b
-    same a b e = cc
-at_known (x ∷ xs) (suc k) o at = at_known xs k o at
-
-known_at : {X : Type 0} (xs : List X) (k : ℕ) (x : X) → slice_get xs k ≡ Some x → slice_get (map Some xs) k ≡ Some (Some x)
-known_at [] k x at = absurd (let no : ⊥ = cc in no)
-known_at (y ∷ xs) zero x at = ap Some at
-known_at (y ∷ xs) (suc k) x at = known_at xs k x at
-
-module _ {X : Type 0} (P : X → Type 0) (xs : List X) where
-  pub known_before : (n : ℕ) → HoldsBefore P xs n → HoldsBefore (IsKnown P) (map Some xs) n
-  known_before n before k o lt at =
-      let x = at_known xs k o at in
-      subst (IsKnown P) (sym x.2) (before k x.0 lt x.1)
-
-  pub known_each : HoldsOfEach P xs → HoldsOfEach (IsKnown P) (map Some xs)
-  known_each each k o at =
-      let x = at_known xs k o at in
-      subst (IsKnown P) (sym x.2) (each k x.0 x.1)
-
-  pub known_first : (Q : X → Type 0) → IsFirstNot P Q xs → IsFirstNot (IsKnown P) (IsKnown Q) (map Some xs)
-  known_first Q first = record {
-    place = first.place;
-    one = Some first.one;
-    there = known_at xs first.place first.one first.there;
-    before = known_before first.place first.before;
-    so = first.so;
-  }
+use Rattle.stream_audit.proofs.FoundLines.{AreLinksFound}
 
 -- ---- the ends of links
 
@@ -109,7 +71,7 @@ all_ends logs (link ∷ links) each =
 
 pub record EndsFound (held : Contents) : Type 0 where
   pub all : List Ends
-  pub found : AreLinksFound held (map Some all)
+  pub found : AreLinksFound held all
   pub each : (k : ℕ) (ends : Ends) → slice_get all k ≡ Some ends → (link : Link) × (slice_get held.links k ≡ Some link) × IsComparisonOf held.logs link ends
   pub many : length all ≡ length held.links
 
@@ -121,16 +83,12 @@ ends_found held case tied =
       found = record {
         rising = case.rising_links;
         few = case.few_links;
-        each = length-map all.0 Some ∙ all.1;
+        each = all.1;
         own = λ k one at. (
-            let x = at_known all.0 k (Some one) at in
-            let link = all.2 k x.0 x.1 in
-            subst (λ (o : Option Link). IsSomeAnd o (λ l. IsComparisonOf held.logs l one)) (sym link.1) (subst (IsComparisonOf held.logs link.0) (same_ends x.0 one x.2) link.2)
+            let link = all.2 k one at in
+            subst (λ (o : Option Link). IsSomeAnd o (λ l. IsComparisonOf held.logs l one)) (sym link.1) link.2
             );
       };
       each = all.2;
       many = all.1;
     }
-  where
-    same_ends : (a b : Ends) → ◌≡◌ {A = Option Ends} (Some b) (Some a) → a ≡ b
-    same_ends a b e = cc

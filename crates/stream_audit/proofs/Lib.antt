@@ -5,3 +5,6 @@ pub mod Permuted
 pub mod Known
 pub mod Answering
 pub mod Streaming
+pub mod FoundLines
+pub mod FoundWhole
+pub mod FoundOrder

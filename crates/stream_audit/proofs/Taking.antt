@@ -1,13 +1,13 @@
 -- What was taken, as a case keeps it.
 use Rattle.std.proofs.Common.{◌≡◌, ℕ, Bool, List, Option, Some, None, refl, sym, subst}
 use Rattle.std.specs.Option.{option_map}
-use Rattle.merge_order.specs.declared.checking.OrderFinding.{OrderFinding}
-use Rattle.case_pass.specs.Lanes.{LaneSoFar}
-use Rattle.case_pass.specs.Turned as pass
-use Rattle.case_pass.specs.Whole.{AreTaken, AreTakenBy}
+use Rattle.merge_order.specs.declared.order_check.OrderFinding.{OrderFinding}
+use Rattle.turn_taking.specs.Lanes.{LaneSoFar}
+use Rattle.turn_taking.specs.Turned as pass
+use Rattle.turn_taking.specs.WholeCase.{AreTaken, AreTakenBy}
 use Rattle.lock_step.specs.Taking.{Taken, turned}
 use Rattle.stream_audit.specs.Glue.{IsTakenSo}
-use Rattle.stream_audit.specs.declared.reading.OrderFound.{OrderFound}
+use Rattle.stream_audit.specs.declared.reading_in_turns.OrderFound.{OrderFound}
 
 seen : (o : Option Taken) (m : pass.Taken) → option_map turned o ≡ Some m → (more : Taken) × (o ≡ Some more) × (turned more ≡ m)
 seen None m is = absurd (let no : ⊥ = cc in no)

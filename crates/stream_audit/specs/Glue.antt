@@ -4,27 +4,27 @@ use Rattle.std.specs.Option.{option_map}
 use Rattle.cap_reader.specs.Defaults.{default_limits}
 use Rattle.vat_rules.specs.Audit.{Found}
 use Rattle.link_check.specs.declared.link_outcome.LinkOutcome.TheVariants.{Good, Broken as BrokenAt}
-use Rattle.merge_order.specs.declared.checking.OrderFinding.TheVariants as findings
+use Rattle.merge_order.specs.declared.order_check.OrderFinding.TheVariants as findings
 use Rattle.case_book.specs.declared.link.Link.{Link}
-use Rattle.case_pass.specs.Lanes.{LaneSoFar}
-use Rattle.case_pass.specs.Pass.{logs_of}
-use Rattle.case_pass.specs.Turned.{Taken}
-use Rattle.case_pass.specs.Whole.{AreTaken, AreTakenBy}
+use Rattle.turn_taking.specs.Lanes.{LaneSoFar}
+use Rattle.turn_taking.specs.Pass.{logs_of}
+use Rattle.turn_taking.specs.Turned.{Taken}
+use Rattle.turn_taking.specs.WholeCase.{AreTaken, AreTakenBy}
 use Rattle.vat_log.specs.Passages.{sends, receives}
 use Rattle.case_book.specs.Case.{Contents}
 use Rattle.lock_step.specs.Taking as taking
 use Rattle.lock_step.specs.Taking.{count_turns}
 use Rattle.lock_step.specs.Links.{IsFoundOf}
 use Rattle.log_lane.specs.Lanes.{ReadAhead, as_lane}
-use Rattle.slim_case.specs.Slim as slim
+use Rattle.log_lane.specs.Slim as slim
 use Rattle.turn_taking.specs.Turns.{Turns}
 use Rattle.audit_core.specs.Glue.{case_record_limit}
 use Rattle.audit_core.specs.Report.{HoldsOfEach}
-use Rattle.audit_core.specs.declared.report.Report.{Report}
-use Rattle.audit_core.specs.declared.report.Report.TheVariants as report
-use Rattle.stream_audit.specs.Streamed.{AreWhole}
-use Rattle.stream_audit.specs.declared.reading.OrderFound.{OrderFound}
-use Rattle.stream_audit.specs.declared.reading.OrderFound.TheVariants.{Fits, Fails, NoOrder}
+use Rattle.case_report.specs.declared.report.Report.{Report}
+use Rattle.case_report.specs.declared.report.Report.TheVariants as report
+use Rattle.stream_audit.specs.Streamed.{AreReadWhole}
+use Rattle.stream_audit.specs.declared.reading_in_turns.OrderFound.{OrderFound}
+use Rattle.stream_audit.specs.declared.reading_in_turns.OrderFound.TheVariants.{Fits, Fails, NoOrder}
 
 -- lanes, as a case has them
 abbrev pub so_far : List (Option ReadAhead) → List (Option LaneSoFar)
@@ -45,13 +45,13 @@ IsTakenSo lanes taken (Some order) NoOrder = ⊥
 
 -- what was found of the logs that came whole, within the default limits
 pub record AreFoundIn (lanes : List (Option ReadAhead)) (findings : List Found) : Type 0 where
-  pub whole : AreWhole lanes (slim.logs_of findings)
+  pub whole : AreReadWhole lanes (slim.logs_audited findings)
   pub within : HoldsOfEach (λ found. found.limits ≡ default_limits) findings
-  pub same : slim.logs_of findings ≡ logs_of (so_far lanes)
+  pub same : slim.logs_audited findings ≡ logs_of (so_far lanes)
 
 -- a link is good by these turns, and broken, with its line
-abbrev pub IsGoodBy : Turns → Link → Type 0
-IsGoodBy turns link = (delivered : ℕ) × (in_flight : ℕ) × IsFoundOf link turns (Good delivered in_flight)
+abbrev pub IsGoodLinkBy : Turns → Link → Type 0
+IsGoodLinkBy turns link = (delivered : ℕ) × (in_flight : ℕ) × IsFoundOf link turns (Good delivered in_flight)
 
 pub record IsBrokenBy (turns : Turns) (answer : Report) (link : Link) : Type 0 where
   pub end : ℕ
@@ -67,7 +67,7 @@ pub record IsYesOf (held : Contents) (taken : taking.Taken) (answer : Report) : 
   pub line : answer ≡ report.Yes (length held.logs) records delivered under_way []
   pub records_are : records ≡ length taken.all
   pub few : records ≤ case_record_limit
-  pub delivered_are : delivered ≡ count_turns taking.delivers taken.all
+  pub delivered_are : delivered ≡ count_turns taking.passes_delivery taken.all
   pub under_way_are : under_way ≡ count_turns sends taken.all - count_turns receives taken.all
 
 abbrev pub IsYesBy : Contents → Option taking.Taken → Report → Type 0

@@ -5,7 +5,7 @@ use Rattle.vat_log.specs.Reading.{log_of}
 use Rattle.vat_log.specs.Streams.{StreamStopsBy}
 use Rattle.vat_log.specs.declared.read_fault.ReadFault.{ReadFault}
 use Rattle.log_lane.specs.Lanes.{ReadAhead}
-use Rattle.case_book.specs.Case.{Contents, HoldsJust, IsCase, refusal_of}
+use Rattle.case_book.specs.Case.{Contents, HoldsJust, IsCase, case_refusal_of}
 use Rattle.case_book.specs.Ties.{tie_fault_of}
 use Rattle.case_book.specs.declared.link.Link.{Link}
 use Rattle.case_book.specs.declared.ties.TieFault.{TieFault}
@@ -13,7 +13,7 @@ use Rattle.case_book.specs.declared.ties.TieFault.TheVariants as tie
 use Rattle.audit_core.specs.Lines.{IsLineOf, LineMeansHeadline}
 use Rattle.audit_core.specs.Refusals.{worker_limit}
 use Rattle.audit_core.specs.Report.{HoldsOfEach}
-use Rattle.audit_core.specs.declared.report.Report.{Report}
+use Rattle.case_report.specs.declared.report.Report.{Report}
 use Rattle.stream_audit.specs.declared.error.StreamError.{StreamError}
 use Rattle.stream_audit.specs.declared.error.StreamError.TheVariants as error
 
@@ -35,10 +35,10 @@ pub record CameWhole (lane : Option ReadAhead) (log : Log) : Type 0 where
   pub spelled : log_of read.read.bytes ≡ Ok log
 
 -- these logs came whole, one in each lane
-abbrev pub AreWhole : List (Option ReadAhead) → List Log → Type 0
-AreWhole [] [] = ⊤
-AreWhole (lane ∷ lanes) (log ∷ logs) = CameWhole lane log × AreWhole lanes logs
-AreWhole _ _ = ⊥
+abbrev pub AreReadWhole : List (Option ReadAhead) → List Log → Type 0
+AreReadWhole [] [] = ⊤
+AreReadWhole (lane ∷ lanes) (log ∷ logs) = CameWhole lane log × AreReadWhole lanes logs
+AreReadWhole _ _ = ⊥
 
 -- a log has this fault, or can't be read
 pub record CameToFault (lane : Option ReadAhead) (fault : ReadFault) : Type 0 where
@@ -49,8 +49,8 @@ pub record CameToFault (lane : Option ReadAhead) (fault : ReadFault) : Type 0 wh
 -- the logs that came whole and these links make this case
 pub record MakeCase (lanes : List (Option ReadAhead)) (links : List Link) (held : Contents) : Type 0 where
   pub logs : List Log
-  pub whole : AreWhole lanes logs
-  pub accepted : refusal_of logs links ≡ None
+  pub whole : AreReadWhole lanes logs
+  pub accepted : case_refusal_of logs links ≡ None
   pub just : HoldsJust logs links held
   pub case : IsCase held
 
@@ -65,7 +65,7 @@ pub record IsLineOfStreams (lanes : List (Option ReadAhead)) (links : List Link)
 -- the first log that isn't whole stands at this place, and has this fault
 pub record IsFirstFault (lanes : List (Option ReadAhead)) (place : ℕ) (fault : ReadFault) : Type 0 where
   pub before : List Log
-  pub whole : AreWhole (take place lanes) before
+  pub whole : AreReadWhole (take place lanes) before
   pub own : IsSomeAnd (slice_get lanes place) (λ lane. CameToFault lane fault)
 
 -- the case that came doesn't tie up
@@ -79,7 +79,7 @@ abbrev pub IsRefusalOf : List (Option ReadAhead) → List Link → ℕ → Strea
 IsRefusalOf lanes links workers error.NoWorkers = workers ≡ 0
 IsRefusalOf lanes links workers error.TooManyWorkers = worker_limit < workers
 IsRefusalOf lanes links workers (error.Log place fault) = IsFirstFault lanes place fault
-IsRefusalOf lanes links workers (error.Refused fault) = (logs : List Log) × AreWhole lanes logs × (refusal_of logs links ≡ Some fault)
+IsRefusalOf lanes links workers (error.Refused fault) = (logs : List Log) × AreReadWhole lanes logs × (case_refusal_of logs links ≡ Some fault)
 IsRefusalOf lanes links workers (error.MissingLog connection) = IsUntied lanes links (tie.MissingLog connection)
 IsRefusalOf lanes links workers (error.SameEnds connection) = IsUntied lanes links (tie.SameEnds connection)
 IsRefusalOf lanes links workers error.OutOfMemory = Unit {0}

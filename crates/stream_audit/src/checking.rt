@@ -1,44 +1,41 @@
 //! The audit of a case whose logs come in streams.
 
 ghost use Rattle.std.specs.Prelude.{◌≡◌, ◌<◌, ℕ, Some, None, [], false, List, Option, IfOk, IfErr};
-ghost use Rattle.case_book.specs.Case.{HoldsJust, IsCase, refusal_of};
+ghost use Rattle.case_book.specs.Case.{HoldsJust, IsCase, case_refusal_of};
 ghost use Rattle.case_book.specs.Ties.{tie_fault_of};
 ghost use Rattle.audit_core.specs.Lines.{IsLineOf};
 ghost use Rattle.log_lane.specs.Lanes.{ReadAhead};
 ghost use Rattle.lock_step.specs.Taking.{Taken, turned};
 ghost use Rattle.std.specs.List.Sorted.{IsPermutation};
 ghost use Rattle.vat_log.specs.Log.{Log};
-ghost use Rattle.case_pass.specs.Lanes.{LaneSoFar};
-ghost use Rattle.case_pass.specs.Pass.{logs_of as case_logs};
-ghost use Rattle.slim_case.specs.Slim.{logs_of};
+ghost use Rattle.turn_taking.specs.Lanes.{LaneSoFar};
+ghost use Rattle.turn_taking.specs.Pass.{logs_of as case_logs};
+ghost use Rattle.log_lane.specs.Slim.{logs_audited};
 ghost use Rattle.stream_audit.specs.Glue.{IsTakenSo, IsYesBy};
-ghost use Rattle.stream_audit.specs.Streamed.{AreFresh, AreWhole, IsLineOfStreams, IsRefusalOf};
+ghost use Rattle.stream_audit.specs.Streamed.{AreFresh, AreReadWhole, IsLineOfStreams, IsRefusalOf};
 ghost use Rattle.stream_audit.specs.declared.error.StreamError.{StreamError};
 
-use crate::counting::{link_line, log_line};
 use crate::error::StreamError;
-use crate::reading::{OrderFound, are_apart, read_alone, read_in_turns, take_logs};
-use audit_core::{Breach, Report};
+use crate::first_lines::{link_line, log_line};
+use crate::reading_in_turns::{OrderFound, are_apart, read_alone, read_in_turns, take_logs};
+use audit_core::MAX_WORKERS;
 use byte_pieces::Pieces;
 use call_order::orders_have_one_fault;
 use case_book::{Link, TieFault};
+use case_report::{Breach, Report};
 use lock_step::CaseTurns;
-use log_lane::Lane;
+use log_lane::{LogLane, SlimCase, SlimLog};
 use merge_order::Order;
 use run_model::Run;
-use slim_case::{SlimCase, SlimLog};
 use std::alloc::{AllocError, Global};
 use std::thread::Threads;
 
-/// How many workers there may be.
-const MAX_WORKERS: u32 = 64;
-
 /// The case of these logs and links, if it ties up.
 fn tied_case(logs: Vec<SlimLog>, links: Vec<Link>) -> Result<SlimCase, StreamError>
-    ensures ok { IfOk result (λ case. (refusal_of (logs_of logs.items) links.items ≡ None)
-        × HoldsJust (logs_of logs.items) links.items case × IsCase case × (tie_fault_of case ≡ None)) }
+    ensures ok { IfOk result (λ case. (case_refusal_of (logs_audited logs.items) links.items ≡ None)
+        × HoldsJust (logs_audited logs.items) links.items case × IsCase case × (tie_fault_of case ≡ None)) }
     ensures err { IfErr result (λ error. (lanes : List (Option ReadAhead)) (workers : ℕ)
-        → AreWhole lanes (logs_of logs.items) → IsRefusalOf lanes links.items workers error) }
+        → AreReadWhole lanes (logs_audited logs.items) → IsRefusalOf lanes links.items workers error) }
 {
     let case = SlimCase::new(logs, links)?;
     match case.tie_fault() {
@@ -107,7 +104,7 @@ fn line_of(
 fn check_by_turns<R: Threads + Sync, P: Pieces + Send>(
     rt: &R,
     alloc: Global,
-    lanes: &mut [Lane<P>],
+    lanes: &mut [LogLane<P>],
     links: Vec<Link>,
     order: &Option<Order>,
     workers: usize,
@@ -141,7 +138,7 @@ fn check_by_turns<R: Threads + Sync, P: Pieces + Send>(
 pub fn check_streams<R: Threads + Sync, P: Pieces + Send>(
     rt: &R,
     alloc: Global,
-    lanes: &mut [Lane<P>],
+    lanes: &mut [LogLane<P>],
     links: Vec<Link>,
     order: Option<Order>,
     workers: u32,

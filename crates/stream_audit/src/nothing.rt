@@ -1,9 +1,9 @@
 //! Turns of which nothing is kept.
 
-ghost use Rattle.std.specs.Prelude.{◌≡◌, None, true};
+ghost use Rattle.std.specs.Prelude.{None, true};
 
-use case_pass::Turns;
 use std::alloc::AllocError;
+use turn_taking::Turns;
 use vat_log::Body;
 
 /// Turns of which nothing is kept, so that logs that make no case are only read to their ends.

@@ -3,15 +3,15 @@ use Rattle.std.proofs.Common.{◌≡◌, ℕ, zero, suc, ◌+◌, ◌<◌, ◌�
 use Rattle.std.specs.Prelude.{◌⊎◌, ◌==◌, All, Contains, nat_le, map}
 use Rattle.std.specs.Option.{option_map}
 use Rattle.std.proofs.lemmas.Bool.{false≢true, cases_eq, eq-eqb, le-leb, lt-leb}
-use Rattle.std.proofs.lemmas.List.{append-nil, append_cancel_left, reverse-append}
+use Rattle.std.proofs.lemmas.List.{append-nil, reverse-append}
 use Rattle.std.proofs.lemmas.List.Elements.{All-head, All-tail, Contains-get_or}
 use Rattle.vat_log.specs.Log.{Log}
 use Rattle.vat_log.specs.declared.body.Body.{Body}
-use Rattle.merge_order.specs.declared.checking.OrderFinding.TheVariants as findings
+use Rattle.merge_order.specs.declared.order_check.OrderFinding.TheVariants as findings
 use Rattle.merge_order.specs.Fits.{Part, may_come, after, used_up, begin, IsRising, FitsFrom, IsFitting, TakesLeastFrom, TakesLeast, fault_from, finding_at, finding_of_order}
 use Rattle.merge_order.proofs.Greedy.{bool_cases, front}
 use Rattle.merge_order.proofs.Steps.{left, falls, checked_none, checked_more, checked_fails, checked_left, finding_fits}
-use Rattle.turn_taking.specs.Turns.{Turns, records_of, order_of, may_follow, AreInOrder, AreOf, AreAll}
+use Rattle.turn_taking.specs.Turns.{Turns, records_taken, order_of, may_follow, AreInOrder, AreOf, AreAll}
 use Rattle.turn_taking.specs.Orders.{GoesOnWith, AreLeft, IsHeldUp, AreStuck}
 use Rattle.turn_taking.proofs.Parts.{behind, after_turn, comes, held_up}
 use Rattle.turn_taking.proofs.Counting.{records_more}
@@ -65,15 +65,15 @@ of_before logs v b turns are = record {
   taken = λ log there. (
       let begins = are.taken log there in
       let one = cond (v == log.vat) (b ∷ []) [] in
-      (one ++ begins.0, begins.1 ∙ ap (λ (l : List Body). l ++ begins.0) (records_more log.vat v b turns) ∙ append_assoc (records_of log.vat turns) one begins.0));
+      (one ++ begins.0, begins.1 ∙ ap (λ (l : List Body). l ++ begins.0) (records_more log.vat v b turns) ∙ append_assoc (records_taken log.vat turns) one begins.0));
   known = λ turn (i, lt, is). are.known turn (suc i, omega (arith, lt), is);
 }
 
 own_next : (logs : List Log) (v : ℕ) (b : Body) (turns : Turns) (log : Log) → AreOf logs ((v, b) ∷ turns) → Contains logs log → log.vat ≡ v → GoesOnWith turns log b
 own_next logs v b turns log are there vat =
     let begins = are.taken log there in
-    let own : records_of log.vat ((v, b) ∷ turns) ≡ records_of log.vat turns ++ b ∷ [] = records_more log.vat v b turns ∙ ap (λ (t : Bool). records_of log.vat turns ++ cond t (b ∷ []) []) (eq-eqb v log.vat (sym vat)) in
-    (begins.0, begins.1 ∙ ap (λ (l : List Body). l ++ begins.0) own ∙ append_assoc (records_of log.vat turns) (b ∷ []) begins.0)
+    let own : records_taken log.vat ((v, b) ∷ turns) ≡ records_taken log.vat turns ++ b ∷ [] = records_more log.vat v b turns ∙ ap (λ (t : Bool). records_taken log.vat turns ++ cond t (b ∷ []) []) (eq-eqb v log.vat (sym vat)) in
+    (begins.0, begins.1 ∙ ap (λ (l : List Body). l ++ begins.0) own ∙ append_assoc (records_taken log.vat turns) (b ∷ []) begins.0)
 
 -- the last turn may come next behind those before it
 turn_comes : (logs : List Log) (v : ℕ) (b : Body) (turns : Turns) → IsRising logs → AreInOrder ((v, b) ∷ turns) → AreOf logs ((v, b) ∷ turns) → may_come (behind turns logs) v ≡ true
@@ -126,41 +126,36 @@ steps logs (turn ∷ turns) rising ordered are =
 
 all_of : (logs : List Log) (turns : Turns) → AreAll logs turns → AreOf logs turns
 all_of logs turns all = record {
-  taken = λ log there. ([], all.taken log there ∙ sym (append-nil (records_of log.vat turns)));
+  taken = λ log there. ([], all.taken log there ∙ sym (append-nil (records_taken log.vat turns)));
   known = all.known;
 }
 
-used : (turns : Turns) (logs : List Log) → All (λ log. log.records ≡ records_of log.vat turns) logs → used_up (behind turns logs) ≡ true
+used : (turns : Turns) (logs : List Log) → All (λ log. log.records ≡ records_taken log.vat turns) logs → used_up (behind turns logs) ≡ true
 unfolding used_up
 used turns [] all = refl
 used turns (log ∷ logs) all =
-    let P = λ (l : Log). l.records ≡ records_of l.vat turns in
-    let head : nat_le (length log.records) (length (records_of log.vat turns)) ≡ true = le-leb _ _ (let same = ap length (All-head P log logs all) in omega arith) in
+    let P = λ (l : Log). l.records ≡ records_taken l.vat turns in
+    let head : nat_le (length log.records) (length (records_taken log.vat turns)) ≡ true = le-leb _ _ (let same = ap length (All-head P log logs all) in omega arith) in
     rw head (used turns logs (All-tail P log logs all))
 
 all_used : (logs : List Log) (turns : Turns) → AreAll logs turns → used_up (behind turns logs) ≡ true
 all_used logs turns all = used turns logs (λ i d lt. all.taken (get_or logs i d) (Contains-get_or logs i d lt))
 
-unused : (turns : Turns) (logs : List Log) (i : ℕ) (d : Log) → i < length logs → length (records_of (get_or logs i d).vat turns) < length (get_or logs i d).records → used_up (behind turns logs) ≡ false
+unused : (turns : Turns) (logs : List Log) (i : ℕ) (d : Log) → i < length logs → length (records_taken (get_or logs i d).vat turns) < length (get_or logs i d).records → used_up (behind turns logs) ≡ false
 unfolding used_up
 unused turns [] i d lt more = absurd (omega arith)
 unused turns (log ∷ logs) zero d lt more = rw (lt-leb _ _ more) refl
 unused turns (log ∷ logs) (suc i) d lt more =
     let later = unused turns logs i d (omega arith) more in
-    elim (bool_cases (nat_le (length log.records) (length (records_of log.vat turns)))) [
+    elim (bool_cases (nat_le (length log.records) (length (records_taken log.vat turns)))) [
       | inl le ↦ rw le later
       | inr gt ↦ rw gt refl
     ]
 
 left_unused : (logs : List Log) (turns : Turns) → AreLeft logs turns → used_up (behind turns logs) ≡ false
 left_unused logs turns (log, (i, lt, is), b, (rest, goes)) =
-    let more : length (records_of log.vat turns) < length log.records = omega (arith, ap length goes, length-append (records_of log.vat turns) (b ∷ rest)) in
-    unused turns logs i log lt (subst (λ (l : Log). length (records_of l.vat turns) < length l.records) (sym is) more)
-
--- where what is left of a log is known, and its first record may not follow, none may
-pub held_by_rest : (turns : Turns) (log : Log) (rest : List Body) → log.records ≡ records_of log.vat turns ++ rest → ((next : Body) (more : List Body) → rest ≡ next ∷ more → may_follow turns log.vat next ≡ false)
-    → (next : Body) → GoesOnWith turns log next → may_follow turns log.vat next ≡ false
-held_by_rest turns log rest is none next (more, goes) = none next more (append_cancel_left (records_of log.vat turns) rest (next ∷ more) (sym is ∙ goes))
+    let more : length (records_taken log.vat turns) < length log.records = omega (arith, ap length goes, length-append (records_taken log.vat turns) (b ∷ rest)) in
+    unused turns logs i log lt (subst (λ (l : Log). length (records_taken l.vat turns) < length l.records) (sym is) more)
 
 -- ---- the laws
 

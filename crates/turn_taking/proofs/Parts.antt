@@ -13,30 +13,27 @@ use Rattle.vat_log.specs.declared.body.Body.{Body}
 use Rattle.vat_log.specs.declared.body.Body.TheVariants.{Receive}
 use Rattle.vat_log.specs.Passages.{sends_frame, receives_frame}
 use Rattle.merge_order.specs.Fits as fits
-use Rattle.merge_order.specs.Fits.{Part, sent_so_far, received_so_far, part_of, sent_by_the_others, may_come_from, may_come, further, after, begin, IsRising}
+use Rattle.merge_order.specs.Fits.{Part, sent_so_far, received_so_far, part_of, sent_by_the_others, may_come_from, may_come, further, after, IsRising}
 use Rattle.merge_order.proofs.Greedy.{bool_cases, eqb_apart, further_cases, others_own, others_more}
 use Rattle.merge_order.proofs.Steps.{rising_tail, all_passed}
 use Rattle.merge_order.proofs.Totals.{part_at}
-use Rattle.turn_taking.specs.Turns.{Turns, records_of, received_by, sent_by_others, may_follow, AreOf}
+use Rattle.turn_taking.specs.Turns.{Turns, records_taken, received_by, sent_by_others, may_follow, AreOf}
 use Rattle.turn_taking.specs.Orders.{GoesOnWith, IsHeldUp}
 use Rattle.turn_taking.proofs.Counting.{count_records, count_of_vat}
 
 -- a log with as many of its records as its vat took
 abbrev pub part_behind : Turns → Log → Part
-part_behind turns log = record { log = log; came = length (records_of log.vat turns) }
+part_behind turns log = record { log = log; came = length (records_taken log.vat turns) }
 
 abbrev pub behind : Turns → List Log → List Part
 behind turns logs = map (part_behind turns) logs
-
-pub behind_none : (logs : List Log) → behind [] logs ≡ begin logs
-behind_none logs = refl
 
 -- ---- a turn is a step
 
 further_part : (v : ℕ) (b : Body) (turns : Turns) (log : Log) → further v (part_behind turns log) ≡ part_behind ((v, b) ∷ turns) log
 further_part v b turns log =
-    let old = length (records_of log.vat turns) in
-    let new = length (records_of log.vat ((v, b) ∷ turns)) in
+    let old = length (records_taken log.vat turns) in
+    let new = length (records_taken log.vat ((v, b) ∷ turns)) in
     let came : new ≡ old + cond (v == log.vat) 1 0 = count_records log.vat v b turns in
     let part : ℕ → Part = λ n. record { log = log; came = n } in
     elim (further_cases v (part_behind turns log)) [
@@ -61,42 +58,42 @@ after_turn v b turns (log ∷ logs) =
 
 -- each log begins with the records that its vat took
 abbrev pub AreBegun : Turns → List Log → Type 0
-AreBegun turns logs = All (λ log. (rest : List Body) × (log.records ≡ records_of log.vat turns ++ rest)) logs
+AreBegun turns logs = All (λ log. (rest : List Body) × (log.records ≡ records_taken log.vat turns ++ rest)) logs
 
 pub begun : (logs : List Log) (turns : Turns) → AreOf logs turns → AreBegun turns logs
 begun logs turns are i d lt = are.taken (get_or logs i d) (Contains-get_or logs i d lt)
 
-taken : (log : Log) (turns : Turns) → (rest : List Body) × (log.records ≡ records_of log.vat turns ++ rest) → take (length (records_of log.vat turns)) log.records ≡ records_of log.vat turns
-taken log turns (rest, is) = ap (take (length (records_of log.vat turns))) is ∙ take_at (records_of log.vat turns) rest _ refl
+taken : (log : Log) (turns : Turns) → (rest : List Body) × (log.records ≡ records_taken log.vat turns ++ rest) → take (length (records_taken log.vat turns)) log.records ≡ records_taken log.vat turns
+taken log turns (rest, is) = ap (take (length (records_taken log.vat turns))) is ∙ take_at (records_taken log.vat turns) rest _ refl
 
-sent_part : (k : ℕ) (log : Log) (turns : Turns) → (rest : List Body) × (log.records ≡ records_of log.vat turns ++ rest) → sent_so_far k (part_behind turns log) ≡ count_by (sends_frame k) (records_of log.vat turns)
+sent_part : (k : ℕ) (log : Log) (turns : Turns) → (rest : List Body) × (log.records ≡ records_taken log.vat turns ++ rest) → sent_so_far k (part_behind turns log) ≡ count_by (sends_frame k) (records_taken log.vat turns)
 sent_part k log turns begins = ap (count_by (sends_frame k)) (taken log turns begins)
 
-received_part : (k : ℕ) (log : Log) (turns : Turns) → (rest : List Body) × (log.records ≡ records_of log.vat turns ++ rest) → received_so_far k (part_behind turns log) ≡ received_by log.vat k turns
+received_part : (k : ℕ) (log : Log) (turns : Turns) → (rest : List Body) × (log.records ≡ records_taken log.vat turns ++ rest) → received_so_far k (part_behind turns log) ≡ received_by log.vat k turns
 received_part k log turns begins = ap (count_by (receives_frame k)) (taken log turns begins) ∙ count_of_vat (receives_frame k) log.vat turns
 
 -- the frames that the vats of some logs sent, but for one vat
 abbrev sent_of : ℕ → ℕ → Turns → List Log → ℕ
 sent_of v k turns [] = 0
-sent_of v k turns (log ∷ logs) = cond (log.vat == v) 0 (count_by (sends_frame k) (records_of log.vat turns)) + sent_of v k turns logs
+sent_of v k turns (log ∷ logs) = cond (log.vat == v) 0 (count_by (sends_frame k) (records_taken log.vat turns)) + sent_of v k turns logs
 
 sent_is : (v k : ℕ) (turns : Turns) (logs : List Log) → AreBegun turns logs → sent_by_the_others v k (behind turns logs) ≡ sent_of v k turns logs
 sent_is v k turns [] begins = refl
 sent_is v k turns (log ∷ logs) begins =
-    let P = λ (l : Log). (rest : List Body) × (l.records ≡ records_of l.vat turns ++ rest) in
+    let P = λ (l : Log). (rest : List Body) × (l.records ≡ records_taken l.vat turns ++ rest) in
     let later = sent_is v k turns logs (All-tail P log logs begins) in
     let own = sent_part k log turns (All-head P log logs begins) in
-    let count : Bool → ℕ = λ t. cond t 0 (count_by (sends_frame k) (records_of log.vat turns)) in
+    let count : Bool → ℕ = λ t. cond t 0 (count_by (sends_frame k) (records_taken log.vat turns)) in
     elim (cases_eq log.vat v) [
       | inl same ↦ let head : count (log.vat == v) ≡ 0 = ap count (eq-eqb _ _ same) in omega (arith, head, later, others_own v k (part_behind turns log) (behind turns logs) same)
       | inr other ↦
-          let head : count (log.vat == v) ≡ count_by (sends_frame k) (records_of log.vat turns) = ap count (eqb_apart _ _ other) in
+          let head : count (log.vat == v) ≡ count_by (sends_frame k) (records_taken log.vat turns) = ap count (eqb_apart _ _ other) in
           omega (arith, head, later, own, others_more v k (part_behind turns log) (behind turns logs) other)
     ]
 
 -- ---- one turn further, one of the logs goes on
 
-sent_by_one : (k u w : ℕ) (b : Body) (turns : Turns) → count_by (sends_frame k) (records_of u ((w, b) ∷ turns)) ≡ cond ((w == u) && sends_frame k b) 1 0 + count_by (sends_frame k) (records_of u turns)
+sent_by_one : (k u w : ℕ) (b : Body) (turns : Turns) → count_by (sends_frame k) (records_taken u ((w, b) ∷ turns)) ≡ cond ((w == u) && sends_frame k b) 1 0 + count_by (sends_frame k) (records_taken u turns)
 sent_by_one k u w b turns =
     omega (
       arith,
@@ -105,11 +102,11 @@ sent_by_one k u w b turns =
       sum_by-cons (λ (t : ℕ × Body). cond ((t.0 == u) && sends_frame k t.1) 1 0) (w, b) turns,
     )
 
-sent_by_other : (k u w : ℕ) (b : Body) (turns : Turns) → w ≢ u → count_by (sends_frame k) (records_of u ((w, b) ∷ turns)) ≡ count_by (sends_frame k) (records_of u turns)
-sent_by_other k u w b turns other = sent_by_one k u w b turns ∙ ap (λ (t : Bool). cond (t && sends_frame k b) 1 0 + count_by (sends_frame k) (records_of u turns)) (eqb_apart w u other) ∙ omega arith
+sent_by_other : (k u w : ℕ) (b : Body) (turns : Turns) → w ≢ u → count_by (sends_frame k) (records_taken u ((w, b) ∷ turns)) ≡ count_by (sends_frame k) (records_taken u turns)
+sent_by_other k u w b turns other = sent_by_one k u w b turns ∙ ap (λ (t : Bool). cond (t && sends_frame k b) 1 0 + count_by (sends_frame k) (records_taken u turns)) (eqb_apart w u other) ∙ omega arith
 
-sent_by_own : (k u w : ℕ) (b : Body) (turns : Turns) → w ≡ u → count_by (sends_frame k) (records_of u ((w, b) ∷ turns)) ≡ cond (sends_frame k b) 1 0 + count_by (sends_frame k) (records_of u turns)
-sent_by_own k u w b turns same = sent_by_one k u w b turns ∙ ap (λ (t : Bool). cond (t && sends_frame k b) 1 0 + count_by (sends_frame k) (records_of u turns)) (eq-eqb w u same)
+sent_by_own : (k u w : ℕ) (b : Body) (turns : Turns) → w ≡ u → count_by (sends_frame k) (records_taken u ((w, b) ∷ turns)) ≡ cond (sends_frame k b) 1 0 + count_by (sends_frame k) (records_taken u turns)
+sent_by_own k u w b turns same = sent_by_one k u w b turns ∙ ap (λ (t : Bool). cond (t && sends_frame k b) 1 0 + count_by (sends_frame k) (records_taken u turns)) (eq-eqb w u same)
 
 -- no log is the vat's
 abbrev IsOfNone : ℕ → List Log → Type 0
@@ -197,38 +194,38 @@ part_there turns logs log rising (i, lt, is) =
 
 -- what may come next by the parts is what may follow the turns
 follows : (logs : List Log) (turns : Turns) (log : Log) (b : Body) → IsRising logs → AreOf logs turns → Contains logs log
-    → fits.may_follow log.vat (behind turns logs) (part_behind turns log) (Some b) ≡ may_follow turns log.vat b
+    → fits.may_come_behind log.vat (behind turns logs) (part_behind turns log) (Some b) ≡ may_follow turns log.vat b
 follows logs turns log (Receive k call references frame) rising are there =
     let received = received_part k log turns (are.taken log there) in
     let sent = sent_others log.vat k logs turns rising are in
     ap (λ n. nat_lt n (sent_by_the_others log.vat k (behind turns logs))) received ∙ ap (nat_lt (received_by log.vat k turns)) sent
 follows logs turns log _ rising are there = refl
 
-next_there : (turns : Turns) (log : Log) (b : Body) → GoesOnWith turns log b → slice_get log.records (length (records_of log.vat turns)) ≡ Some b
+next_there : (turns : Turns) (log : Log) (b : Body) → GoesOnWith turns log b → slice_get log.records (length (records_taken log.vat turns)) ≡ Some b
 next_there turns log b (rest, is) =
-    let n = length (records_of log.vat turns) in
-    let lt : n < length log.records = omega (arith, ap length is, length-append (records_of log.vat turns) (b ∷ rest)) in
-    slice_get-get_or log.records n b lt ∙ ap Some (ap (λ (l : List Body). get_or l n b) is ∙ get_or_at (records_of log.vat turns) b rest b n refl)
+    let n = length (records_taken log.vat turns) in
+    let lt : n < length log.records = omega (arith, ap length is, length-append (records_taken log.vat turns) (b ∷ rest)) in
+    slice_get-get_or log.records n b lt ∙ ap Some (ap (λ (l : List Body). get_or l n b) is ∙ get_or_at (records_taken log.vat turns) b rest b n refl)
 
 pub comes : (logs : List Log) (turns : Turns) (log : Log) (b : Body) → IsRising logs → AreOf logs turns → Contains logs log → GoesOnWith turns log b → may_come (behind turns logs) log.vat ≡ may_follow turns log.vat b
 unfolding may_come
 comes logs turns log b rising are there next =
     let ps = behind turns logs in
     ap (may_come_from log.vat ps) (part_there turns logs log rising there)
-    ∙ ap (fits.may_follow log.vat ps (part_behind turns log)) (next_there turns log b next)
+    ∙ ap (fits.may_come_behind log.vat ps (part_behind turns log)) (next_there turns log b next)
     ∙ follows logs turns log b rising are there
 
 -- a log that has no more may not come
-ended : (logs : List Log) (turns : Turns) (log : Log) → IsRising logs → Contains logs log → log.records ≡ records_of log.vat turns → may_come (behind turns logs) log.vat ≡ false
+ended : (logs : List Log) (turns : Turns) (log : Log) → IsRising logs → Contains logs log → log.records ≡ records_taken log.vat turns → may_come (behind turns logs) log.vat ≡ false
 unfolding may_come
 ended logs turns log rising there is =
     let ps = behind turns logs in
-    let le : length log.records ≤ length (records_of log.vat turns) = omega (arith, ap length is) in
+    let le : length log.records ≤ length (records_taken log.vat turns) = omega (arith, ap length is) in
     ap (may_come_from log.vat ps) (part_there turns logs log rising there)
-    ∙ ap (fits.may_follow log.vat ps (part_behind turns log)) (slice_get_past log.records (length (records_of log.vat turns)) le)
+    ∙ ap (fits.may_come_behind log.vat ps (part_behind turns log)) (slice_get_past log.records (length (records_taken log.vat turns)) le)
 
-held_log : (logs : List Log) (turns : Turns) (log : Log) → IsRising logs → AreOf logs turns → Contains logs log → IsHeldUp logs turns log.vat → (rest : List Body) → log.records ≡ records_of log.vat turns ++ rest → may_come (behind turns logs) log.vat ≡ false
-held_log logs turns log rising are there held [] is = ended logs turns log rising there (is ∙ append-nil (records_of log.vat turns))
+held_log : (logs : List Log) (turns : Turns) (log : Log) → IsRising logs → AreOf logs turns → Contains logs log → IsHeldUp logs turns log.vat → (rest : List Body) → log.records ≡ records_taken log.vat turns ++ rest → may_come (behind turns logs) log.vat ≡ false
+held_log logs turns log rising are there held [] is = ended logs turns log rising there (is ∙ append-nil (records_taken log.vat turns))
 held_log logs turns log rising are there held (b ∷ rest) is = comes logs turns log b rising are there (rest, is) ∙ held log there refl b (rest, is)
 
 -- the log of a part

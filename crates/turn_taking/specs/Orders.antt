@@ -2,11 +2,11 @@
 use Rattle.std.specs.Prelude.{◌≡◌, ℕ, false, List, ◌∷◌, ◌++◌, Contains}
 use Rattle.vat_log.specs.Log.{Log}
 use Rattle.vat_log.specs.declared.body.Body.{Body}
-use Rattle.turn_taking.specs.Turns.{Turns, records_of, may_follow}
+use Rattle.turn_taking.specs.Turns.{Turns, records_taken, may_follow}
 
 -- a log goes on with this record behind the turns of its vat
 abbrev pub GoesOnWith : Turns → Log → Body → Type 0
-GoesOnWith turns log next = (rest : List Body) × (log.records ≡ records_of log.vat turns ++ next ∷ rest)
+GoesOnWith turns log next = (rest : List Body) × (log.records ≡ records_taken log.vat turns ++ next ∷ rest)
 
 -- records are left: one of the logs goes on
 abbrev pub AreLeft : List Log → Turns → Type 0

@@ -15,8 +15,8 @@ abbrev pub of_vat : ℕ → ℕ × Body → Option Body
 of_vat v turn = if turn.0 == v then Some turn.1 else None
 
 -- the records that a vat took, in their order
-abbrev pub records_of : ℕ → Turns → List Body
-records_of v turns = reverse (filter_map (of_vat v) turns)
+abbrev pub records_taken : ℕ → Turns → List Body
+records_taken v turns = reverse (filter_map (of_vat v) turns)
 
 -- the vat of each turn, in their order
 abbrev pub order_of : Turns → List ℕ
@@ -47,10 +47,10 @@ AreInOrder (turn ∷ before) = IsTrue (may_follow before turn.0 turn.1) × AreIn
 
 -- the turns are of these logs: each log begins with the records that its vat took, and each turn is of one of the logs
 pub record AreOf (logs : List Log) (turns : Turns) : Type 0 where
-  pub taken : (log : Log) → Contains logs log → (rest : List Body) × (log.records ≡ records_of log.vat turns ++ rest)
+  pub taken : (log : Log) → Contains logs log → (rest : List Body) × (log.records ≡ records_taken log.vat turns ++ rest)
   pub known : (turn : ℕ × Body) → Contains turns turn → (log : Log) × Contains logs log × (log.vat ≡ turn.0)
 
 -- they are all the records of these logs
 pub record AreAll (logs : List Log) (turns : Turns) : Type 0 where
-  pub taken : (log : Log) → Contains logs log → log.records ≡ records_of log.vat turns
+  pub taken : (log : Log) → Contains logs log → log.records ≡ records_taken log.vat turns
   pub known : (turn : ℕ × Body) → Contains turns turn → (log : Log) × Contains logs log × (log.vat ≡ turn.0)

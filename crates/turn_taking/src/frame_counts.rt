@@ -1,19 +1,19 @@
 //! What passed on a connection.
 
-ghost use Rattle.std.specs.Prelude.{◌≡◌, ◌+◌, ◌<◌, ◌^◌, ℕ, OnOk, OnErr};
+ghost use Rattle.std.specs.Prelude.{◌≡◌, ◌+◌, ◌<◌, ◌^◌, OnOk, OnErr};
 ghost use Rattle.turn_taking.specs.Glue.{passed_at, passed_of, IsBegun, IsRaisedFrames, IsPassedFrames, IsSameFrames};
 
-use crate::counts::Counts;
+use crate::vat_counts::VatCounts;
 use std::alloc::{AllocError, Global};
 
 /// One end of a connection: a vat, and how many frames it sent or received there.
 #[derive(Clone, Copy)]
-struct End {
+struct EndCount {
     vat: u32,
     passed: u64,
 }
 
-impl End {
+impl EndCount {
     /// How many frames the vat sent or received at this end: none at another vat's.
     fn of(&self, vat: u32) -> u64
         ensures { result ≡ passed_at self.now vat }
@@ -27,9 +27,9 @@ impl End {
 pub(crate) struct FrameCounts {
     /// How many frames were sent, by whichever vat.
     sent: u64,
-    first: End,
-    second: Option<End>,
-    others: Counts,
+    first: EndCount,
+    second: Option<EndCount>,
+    others: VatCounts,
 }
 
 impl FrameCounts {
@@ -39,9 +39,9 @@ impl FrameCounts {
     {
         FrameCounts {
             sent: u64::from(sends),
-            first: End { vat, passed: 1 },
+            first: EndCount { vat, passed: 1 },
             second: None,
-            others: Counts::new(alloc),
+            others: VatCounts::new(alloc),
         }
     }
 
@@ -76,7 +76,7 @@ impl FrameCounts {
             return Ok(());
         }
         match &mut self.second {
-            None => self.second = Some(End { vat, passed: 1 }),
+            None => self.second = Some(EndCount { vat, passed: 1 }),
             Some(end) if end.vat == vat => end.passed += 1,
             Some(_) => self.others.raise(vat)?,
         }

@@ -2,7 +2,7 @@
 
 ghost use Rattle.std.specs.Prelude.{◌≡◌, ℕ, List, ◌∷◌, ◌++◌, length};
 ghost use Rattle.merge_order.specs.Fits.{IsRising, IsFitting, TakesLeast, finding_of_order};
-ghost use Rattle.merge_order.specs.declared.checking.OrderFinding.TheVariants.{Fits, Fails};
+ghost use Rattle.merge_order.specs.declared.order_check.OrderFinding.TheVariants.{Fits, Fails};
 ghost use Rattle.turn_taking.specs.Turns.{Turns, order_of, AreInOrder, AreOf, AreAll};
 ghost use Rattle.turn_taking.specs.Orders.{AreLeft, IsHeldUp, AreStuck};
 ghost use Rattle.vat_log.specs.Log.{Log};

@@ -1,12 +1,11 @@
 //! The turns that were taken, and what may come next.
 
-ghost use Rattle.std.specs.Prelude.{◌≡◌, [], ◌∷◌, length, OnOk, OnErr};
-ghost use Rattle.turn_taking.specs.Turns.{records_of, may_follow, under_way};
+ghost use Rattle.std.specs.Prelude.{◌≡◌, [], ◌∷◌, OnOk, OnErr};
+ghost use Rattle.turn_taking.specs.Turns.{may_follow, under_way};
 
-use crate::tables::Tables;
+use crate::pass_tables::PassTables;
 use erased::Erased;
 use std::alloc::{AllocError, Global};
-use std::fmt::{self, Debug, Formatter, Write};
 use std::marker::Model;
 use vat_log::Body;
 
@@ -16,7 +15,7 @@ pub struct TurnsTaken {
     vats: Erased<u32>,
     records: Erased<Body>,
     count: u64,
-    tables: Tables,
+    tables: PassTables,
 }
 
 impl Drop for TurnsTaken {
@@ -42,14 +41,6 @@ impl Model for TurnsTaken {
     ghost invariant = { λ turns. AreTables (zip turns.vats.items turns.records.items) turns.count turns.tables };
 }
 
-impl Debug for TurnsTaken {
-    fn fmt<W: Write>(&self, f: &mut Formatter<W>) -> fmt::Result {
-        f.debug_struct("TurnsTaken")
-            .field("turns", &self.count)
-            .finish()
-    }
-}
-
 impl TurnsTaken {
     /// Before any turn. It takes no memory.
     pub fn new(alloc: Global) -> TurnsTaken
@@ -59,15 +50,8 @@ impl TurnsTaken {
             vats: Erased::new(),
             records: Erased::new(),
             count: 0,
-            tables: Tables::new(alloc),
+            tables: PassTables::new(alloc),
         }
-    }
-
-    /// How many turns were taken.
-    pub fn count(&self) -> u64
-        ensures { result ≡ length self.now }
-    {
-        self.count
     }
 
     /// How many frames the other vats sent on the connection beyond those that the vat received there.
@@ -86,13 +70,6 @@ impl TurnsTaken {
             Body::Receive { connection, .. } => self.under_way(vat, *connection) > 0,
             _ => true,
         }
-    }
-
-    /// How many records the vat took.
-    pub fn records_taken(&self, vat: u32) -> u64
-        ensures { result ≡ length (records_of vat self.now) }
-    {
-        self.tables.records(vat)
     }
 
     /// The vat takes a turn with this record, whether or not it may come next.

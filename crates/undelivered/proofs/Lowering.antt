@@ -5,7 +5,7 @@ use Rattle.std.specs.BTreeMap.{get}
 use Rattle.std.specs.Option.{option_map}
 use Rattle.std.proofs.lemmas.Bool.{cases_lt, eqb-true, eq-eqb, lt-ltb, le-ltb}
 use Rattle.undelivered.specs.Places.{lesser, has_at_most}
-use Rattle.undelivered.specs.Glue.{key_cmp, Waits, IsLastBefore, IsRising}
+use Rattle.undelivered.specs.Glue.{key_cmp, Waits, IsLastBefore, AreWaitsRising}
 use Rattle.undelivered.proofs.Places.{Place, split, option_split, has_means, has_not_means, lesser_chain}
 
 abbrev Noted : Type 0
@@ -46,13 +46,6 @@ none_yet reference turn place r t known =
         | inl h ↦ let k : ltb t turn ≡ false = le-ltb t turn le in sym (inside reference turn turn place r t known h le ∙ rw k refl)
         | inr h ↦ sym (elsewhere reference turn turn place r t known h)
       ]
-    ]
-
-apart : (n c : ℕ) → (n ≡ c → ⊥) → eqb n c ≡ false
-apart n c ne =
-    elim (split (eqb n c)) [
-      | inl h ↦ absurd (ne (eqb-true n c h))
-      | inr h ↦ h
     ]
 
 abbrev some_noted : Noted → Option Noted
@@ -142,7 +135,7 @@ kept_low u place h true = ap some_noted h
 kept_low u place h false = refl
 
 -- a place that is noted at a turn before is at most this one
-is_low : (first waits : Waits) (reference below turn earlier : ℕ) (place : Place) (until : Noted) → IsRising first → Lowers reference below turn place first waits
+is_low : (first waits : Waits) (reference below turn earlier : ℕ) (place : Place) (until : Noted) → AreWaitsRising first → Lowers reference below turn place first waits
     → IsLastBefore waits reference below (Some (earlier, until)) → has_at_most until place ≡ true → (r t : ℕ) (u : Noted) → r ≡ reference → t < below → get key_cmp first (r, t) ≡ Some u → lesser u (Some place) ≡ u
 is_low first waits reference below turn earlier place until rising so_far last low r t u same lt found =
     let was : get key_cmp waits (r, t) ≡ Some u = so_far r t ∙ outside reference below turn place r t (get key_cmp first (r, t)) lt ∙ found in
@@ -164,7 +157,7 @@ is_low first waits reference below turn earlier place until rising so_far last l
     ]
 
 -- at a turn before: nothing is noted there, or a place that is at most this one
-low_or_none : (first waits : Waits) (reference below turn earlier : ℕ) (place : Place) (until : Noted) → IsRising first → Lowers reference below turn place first waits
+low_or_none : (first waits : Waits) (reference below turn earlier : ℕ) (place : Place) (until : Noted) → AreWaitsRising first → Lowers reference below turn place first waits
     → IsLastBefore waits reference below (Some (earlier, until)) → has_at_most until place ≡ true → (r t : ℕ) → r ≡ reference → t < below
     → get key_cmp first (r, t) ≡ cond (ltb t turn) (lower place (get key_cmp first (r, t))) (get key_cmp first (r, t))
 low_or_none first waits reference below turn earlier place until rising so_far last low r t same lt =
@@ -179,7 +172,7 @@ low_or_none first waits reference below turn earlier place until rising so_far l
     ]
 
 -- the rest has lesser places
-pub rest_is_low : (first waits : Waits) (reference below turn earlier : ℕ) (place : Place) (until : Noted) → IsRising first → below ≤ turn → Lowers reference below turn place first waits
+pub rest_is_low : (first waits : Waits) (reference below turn earlier : ℕ) (place : Place) (until : Noted) → AreWaitsRising first → below ≤ turn → Lowers reference below turn place first waits
     → IsLastBefore waits reference below (Some (earlier, until)) → has_at_most until place ≡ true → (r t : ℕ) → get key_cmp waits (r, t) ≡ lowered_all reference turn place r t (get key_cmp first (r, t))
 rest_is_low first waits reference below turn earlier place until rising within so_far last low r t =
     let known = get key_cmp first (r, t) in

@@ -232,8 +232,8 @@ not_yet (s ∷ before) each legal = (not_yet_at before s each.1 legal.0, not_yet
 -- ---- what is told of a vat's calls
 
 -- what is delivered was told
-told_delivered_step : (v n : ℕ) (before : PastSteps) (s : Step) → (list_any (delivers_call (call v n)) before ≡ false → list_any (told.delivers n) (moments_of v before) ≡ false)
-    → list_any (delivers_call (call v n)) (s ∷ before) ≡ false → list_any (told.delivers n) (moments_of v (s ∷ before)) ≡ false
+told_delivered_step : (v n : ℕ) (before : PastSteps) (s : Step) → (list_any (delivers_call (call v n)) before ≡ false → list_any (told.tells_delivery n) (moments_of v before) ≡ false)
+    → list_any (delivers_call (call v n)) (s ∷ before) ≡ false → list_any (told.tells_delivery n) (moments_of v (s ∷ before)) ≡ false
 told_delivered_step v n before (Deliver w d o) rest h =
     let parts = or_parts (is_same_call d (call v n)) (list_any (delivers_call (call v n)) before) h in
     elim (split (eqb d.maker v)) [
@@ -248,7 +248,7 @@ told_delivered_step v n before (Make w m cap r i t) rest h =
 told_delivered_step v n before (Host w o) rest h = rest h
 told_delivered_step v n before _ rest h = rest h
 
-told_delivered : (v n : ℕ) (past : PastSteps) → list_any (delivers_call (call v n)) past ≡ false → list_any (told.delivers n) (moments_of v past) ≡ false
+told_delivered : (v n : ℕ) (past : PastSteps) → list_any (delivers_call (call v n)) past ≡ false → list_any (told.tells_delivery n) (moments_of v past) ≡ false
 told_delivered v n [] h = refl
 told_delivered v n (s ∷ before) h = told_delivered_step v n before s (told_delivered v n before) h
 
@@ -335,8 +335,8 @@ and_no : (a : Bool) → (a && false) ≡ false
 and_no true = refl
 and_no false = refl
 
-through_step : (v r : ℕ) (c : Name) (before : PastSteps) (s : Step) → list_any (makes_through v r c) before ≡ (eqb v c.maker && list_any (told.makes_through r c.number) (moments_of c.maker before))
-    → list_any (makes_through v r c) (s ∷ before) ≡ (eqb v c.maker && list_any (told.makes_through r c.number) (moments_of c.maker (s ∷ before)))
+through_step : (v r : ℕ) (c : Name) (before : PastSteps) (s : Step) → list_any (makes_through v r c) before ≡ (eqb v c.maker && list_any (told.tells_making_through r c.number) (moments_of c.maker before))
+    → list_any (makes_through v r c) (s ∷ before) ≡ (eqb v c.maker && list_any (told.tells_making_through r c.number) (moments_of c.maker (s ∷ before)))
 through_step v r c before (Make w m cap q i t) rest =
     elim (split (eqb w c.maker)) [
       | inl k ↦ elim (split (eqb v c.maker)) [
@@ -351,7 +351,7 @@ through_step v r c before (Make w m cap q i t) rest =
           let first : makes_through v r c (Make w m cap q i t) ≡ false = rw k (and_no (eqb w v && eqb q r)) in
           let here : list_any (makes_through v r c) (Make w m cap q i t ∷ before) ≡ list_any (makes_through v r c) before = ap (λ (b : Bool). b || list_any (makes_through v r c) before) first in
           let same : moments_of c.maker (Make w m cap q i t ∷ before) ≡ moments_of c.maker before = rw k refl in
-          here ∙ rest ∙ ap (λ (past : PastCalls). eqb v c.maker && list_any (told.makes_through r c.number) past) (sym same)
+          here ∙ rest ∙ ap (λ (past : PastCalls). eqb v c.maker && list_any (told.tells_making_through r c.number) past) (sym same)
     ]
 through_step v r c before (Deliver w d o) rest =
     elim (split (eqb d.maker c.maker)) [
@@ -361,13 +361,13 @@ through_step v r c before (Deliver w d o) rest =
 through_step v r c before (Host w o) rest = rest
 through_step v r c before _ rest = rest
 
-through : (v r : ℕ) (c : Name) (past : PastSteps) → list_any (makes_through v r c) past ≡ (eqb v c.maker && list_any (told.makes_through r c.number) (moments_of c.maker past))
+through : (v r : ℕ) (c : Name) (past : PastSteps) → list_any (makes_through v r c) past ≡ (eqb v c.maker && list_any (told.tells_making_through r c.number) (moments_of c.maker past))
 through v r c [] = sym (and_no (eqb v c.maker))
 through v r c (s ∷ before) = through_step v r c before s (through v r c before)
 
 -- of two calls of one vat, which is told to be made first; those of two vats are never told so
 abbrev TellsFirst : Name → Name → PastSteps → Type 0
-TellsFirst d c past = is_made_before d c past ≡ (eqb c.maker d.maker && told.is_made_before d.number c.number (moments_of d.maker past))
+TellsFirst d c past = is_made_before d c past ≡ (eqb c.maker d.maker && told.is_made_earlier d.number c.number (moments_of d.maker past))
 
 spread : (e n l t : Bool) → (((e && n) && l) || (e && t)) ≡ (e && ((n && l) || t))
 spread true true true t = refl
@@ -381,7 +381,7 @@ first_step d c before (Make w m cap r i t) rest =
     elim (split (eqb w d.maker)) [
       | inl k ↦
           let maker : eqb w c.maker ≡ eqb c.maker d.maker = ap (λ (x : ℕ). eqb x c.maker) (eqb-true w d.maker k) ∙ swap d.maker c.maker in
-          rw (behind, k, rest, maker) (spread (eqb c.maker d.maker) (eqb m c.number) (list_any (told.makes_through r d.number) (moments_of d.maker before)) (told.is_made_before d.number c.number (moments_of d.maker before)))
+          rw (behind, k, rest, maker) (spread (eqb c.maker d.maker) (eqb m c.number) (list_any (told.tells_making_through r d.number) (moments_of d.maker before)) (told.is_made_earlier d.number c.number (moments_of d.maker before)))
       | inr k ↦ rw (behind, k, and_no (is_same_call (call w m) c)) rest
     ]
 first_step d c before (Deliver w x o) rest =
@@ -441,15 +441,15 @@ settles_before whole s before not settles = λ c d h. settles c d (or_right (del
 abbrev ByVat : PastSteps → Place → Type 0
 ByVat past p = (v : ℕ) × In p (told.early (moments_of v past))
 
-told_here : (whole before : PastSteps) (d : Name) → Settles whole before → spots (λ c. is_made_before d c whole) before ≡ places_of (λ n. told.is_made_before d.number n (moments_of d.maker before)) (moments_of d.maker before)
+told_here : (whole before : PastSteps) (d : Name) → Settles whole before → spots (λ c. is_made_before d c whole) before ≡ places_of (λ n. told.is_made_earlier d.number n (moments_of d.maker before)) (moments_of d.maker before)
 told_here whole before d settles =
-    spots_told d.maker (λ c. is_made_before d c whole) (λ n. told.is_made_before d.number n (moments_of d.maker before)) before (λ c h. settles c d h ∙ tells_first d c before)
+    spots_told d.maker (λ c. is_made_before d c whole) (λ n. told.is_made_earlier d.number n (moments_of d.maker before)) before (λ c h. settles c d h ∙ tells_first d c before)
 
 -- what was early stays so
 by_vat_more : (before : PastSteps) (s : Step) (p : Place) → ByVat before p → ByVat (s ∷ before) p
 by_vat_more before (Deliver w d o) p both =
     elim (split (eqb d.maker both.0)) [
-      | inl k ↦ (both.0, rw k (in_second p (places_of (λ n. told.is_made_before d.number n (moments_of both.0 before)) (moments_of both.0 before)) (told.early (moments_of both.0 before)) both.1))
+      | inl k ↦ (both.0, rw k (in_second p (places_of (λ n. told.is_made_earlier d.number n (moments_of both.0 before)) (moments_of both.0 before)) (told.early (moments_of both.0 before)) both.1))
       | inr k ↦ (both.0, rw k both.1)
     ]
 by_vat_more before (Make w m cap r i t) p both =
@@ -466,8 +466,8 @@ found_told_step whole before (Deliver w d o) p settles rest h =
     elim (in_parts p (spots (λ c. is_made_before d c whole) before) (found whole before) h) [
       | inl x ↦
           let own : eqb d.maker d.maker ≡ true = eq-eqb d.maker d.maker refl in
-          let here : In p (places_of (λ n. told.is_made_before d.number n (moments_of d.maker before)) (moments_of d.maker before)) = subst (In p) same x in
-          (d.maker, rw own (in_first p (places_of (λ n. told.is_made_before d.number n (moments_of d.maker before)) (moments_of d.maker before)) (told.early (moments_of d.maker before)) here))
+          let here : In p (places_of (λ n. told.is_made_earlier d.number n (moments_of d.maker before)) (moments_of d.maker before)) = subst (In p) same x in
+          (d.maker, rw own (in_first p (places_of (λ n. told.is_made_earlier d.number n (moments_of d.maker before)) (moments_of d.maker before)) (told.early (moments_of d.maker before)) here))
       | inr x ↦ by_vat_more before (Deliver w d o) p (rest x)
     ]
 found_told_step whole before (Make w m cap r i t) p settles rest h = by_vat_more before (Make w m cap r i t) p (rest h)
@@ -486,8 +486,8 @@ told_found_step whole before (Deliver w d o) p settles rest both =
     elim (split (eqb d.maker both.0)) [
       | inl k ↦
           let maker : d.maker ≡ both.0 = eqb-true d.maker both.0 k in
-          let mine : List Place = places_of (λ n. told.is_made_before d.number n (moments_of both.0 before)) (moments_of both.0 before) in
-          let same : spots (λ c. is_made_before d c whole) before ≡ mine = subst (λ (x : ℕ). spots (λ c. is_made_before d c whole) before ≡ places_of (λ n. told.is_made_before d.number n (moments_of x before)) (moments_of x before)) maker (told_here whole before d settles) in
+          let mine : List Place = places_of (λ n. told.is_made_earlier d.number n (moments_of both.0 before)) (moments_of both.0 before) in
+          let same : spots (λ c. is_made_before d c whole) before ≡ mine = subst (λ (x : ℕ). spots (λ c. is_made_before d c whole) before ≡ places_of (λ n. told.is_made_earlier d.number n (moments_of x before)) (moments_of x before)) maker (told_here whole before d settles) in
           elim (in_parts p mine (told.early (moments_of both.0 before)) (rw k at both.1)) [
             | inl x ↦ in_first p (spots (λ c. is_made_before d c whole) before) (found whole before) (subst (In p) (sym same) x)
             | inr x ↦ all (rest (both.0, x))

@@ -6,8 +6,8 @@ use Rattle.std.proofs.lemmas.Bool.{cases_lt, eq-eqb}
 use Rattle.std.proofs.lemmas.Bool.Decides.{nat_tests}
 use Rattle.run_model.specs.Early.{IsAtMost}
 use Rattle.run_model.specs.Steps.{OneOf}
-use Rattle.undelivered.specs.Places.{is_at_most, has_at_most, lesser, least}
-use Rattle.undelivered.specs.Order.{PastCalls, delivers, places_of}
+use Rattle.undelivered.specs.Places.{is_at_most, has_at_most, lesser, least_place}
+use Rattle.undelivered.specs.Order.{PastCalls, tells_delivery, places_of}
 use Rattle.undelivered.specs.declared.moment.Moment.TheVariants.{Made, Delivered}
 
 abbrev pub Place : Type 0
@@ -141,9 +141,9 @@ has_not_means (Some a) p h = takes_second a p h
 
 -- ---- the least
 
-pub least_append : (xs ys : List Place) → least (xs ++ ys) ≡ lesser (least xs) (least ys)
+pub least_append : (xs ys : List Place) → least_place (xs ++ ys) ≡ lesser (least_place xs) (least_place ys)
 least_append [] ys = refl
-least_append (x ∷ xs) ys = ap (λ u. lesser (Some x) u) (least_append xs ys) ∙ sym (lesser_regroup (Some x) (least xs) (least ys))
+least_append (x ∷ xs) ys = ap (λ u. lesser (Some x) u) (least_append xs ys) ∙ sym (lesser_regroup (Some x) (least_place xs) (least_place ys))
 
 lesser_some : (p : Place) (u : Option Place) → (x : Place) × (lesser (Some p) u ≡ Some x)
 lesser_some p None = (p, refl)
@@ -153,9 +153,9 @@ lesser_some p (Some q) =
       | inr h ↦ (q, takes_second p q h)
     ]
 
-pub none_least : (ps : List Place) → least ps ≡ None → ps ≡ []
+pub none_least : (ps : List Place) → least_place ps ≡ None → ps ≡ []
 none_least [] e = refl
-none_least (p ∷ ps) e = let some = (lesser_some p (least ps)).1 in absurd cc
+none_least (p ∷ ps) e = let some = (lesser_some p (least_place ps)).1 in absurd cc
 
 all_at_most : (a b : Place) (ps : List Place) → is_at_most a b ≡ true → AllByRecursion (λ p. is_at_most b p ≡ true) ps → AllByRecursion (λ p. is_at_most a p ≡ true) ps
 all_at_most a b [] h all = tt
@@ -168,30 +168,30 @@ mean_at_most a (p ∷ ps) all = (at_most_means a p all.0, mean_at_most a ps all.
 abbrev IsLeast : List Place → Place → Type 0
 IsLeast ps place = OneOf (λ p. p ≡ place) ps × AllByRecursion (λ p. is_at_most place p ≡ true) ps
 
-is_least : (ps : List Place) (place : Place) → least ps ≡ Some place → IsLeast ps place
+is_least : (ps : List Place) (place : Place) → least_place ps ≡ Some place → IsLeast ps place
 is_least [] place e = absurd cc
 is_least (p ∷ ps) place e =
-    elim (option_split (least ps)) [
+    elim (option_split (least_place ps)) [
       | inl none ↦
           let empty : ps ≡ [] = none_least ps none in
-          let step : lesser (Some p) (least ps) ≡ some p = rw none refl in
+          let step : lesser (Some p) (least_place ps) ≡ some p = rw none refl in
           let same : p ≡ place = cc (step, e) in
           subst (λ (xs : List Place). IsLeast (p ∷ xs) place) (sym empty) (inl same, (subst (λ (q : Place). is_at_most q p ≡ true) same (at_most_itself p), tt))
       | inr found ↦
           let below = is_least ps found.0 found.1 in
           elim (split (is_at_most p found.0)) [
             | inl h ↦
-                let step : lesser (Some p) (least ps) ≡ some p = ap (λ u. lesser (Some p) u) found.1 ∙ takes_first p found.0 h in
+                let step : lesser (Some p) (least_place ps) ≡ some p = ap (λ u. lesser (Some p) u) found.1 ∙ takes_first p found.0 h in
                 let same : p ≡ place = cc (step, e) in
                 subst (λ (q : Place). IsLeast (p ∷ ps) q) same (inl refl, (at_most_itself p, all_at_most p found.0 ps h below.1))
             | inr h ↦
-                let step : lesser (Some p) (least ps) ≡ some found.0 = ap (λ u. lesser (Some p) u) found.1 ∙ takes_second p found.0 h in
+                let step : lesser (Some p) (least_place ps) ≡ some found.0 = ap (λ u. lesser (Some p) u) found.1 ∙ takes_second p found.0 h in
                 let same : found.0 ≡ place = cc (step, e) in
                 subst (λ (q : Place). IsLeast (p ∷ ps) q) same (inr below.0, (at_most_total p found.0 h, below.1))
           ]
     ]
 
-pub least_means : (ps : List Place) (place : Place) → least ps ≡ Some place → OneOf (λ p. p ≡ place) ps × AllByRecursion (IsAtMost place) ps
+pub least_means : (ps : List Place) (place : Place) → least_place ps ≡ Some place → OneOf (λ p. p ≡ place) ps × AllByRecursion (IsAtMost place) ps
 least_means ps place e = let l = is_least ps place e in (l.0, mean_at_most place ps l.1)
 
 -- ---- the places of some deliveries
@@ -199,17 +199,17 @@ least_means ps place e = let l = is_least ps place e in (l.0, mean_at_most place
 same_number : (n : ℕ) → eqb n n ≡ true
 same_number n = eq-eqb n n refl
 
-pub delivered_more : (c n : ℕ) (p : Place) (before : PastCalls) → list_any (delivers c) before ≡ true → list_any (delivers c) (Delivered n p ∷ before) ≡ true
+pub delivered_more : (c n : ℕ) (p : Place) (before : PastCalls) → list_any (tells_delivery c) before ≡ true → list_any (tells_delivery c) (Delivered n p ∷ before) ≡ true
 delivered_more c n p before h =
     elim (split (eqb n c)) [
       | inl k ↦ rw k refl
       | inr k ↦ rw (k, h) refl
     ]
 
-pub delivered_here : (n : ℕ) (p : Place) (before : PastCalls) → list_any (delivers n) (Delivered n p ∷ before) ≡ true
+pub delivered_here : (n : ℕ) (p : Place) (before : PastCalls) → list_any (tells_delivery n) (Delivered n p ∷ before) ≡ true
 delivered_here n p before = rw (same_number n) refl
 
-pub places_same : (f g : ℕ → Bool) (past : PastCalls) → ((c : ℕ) → list_any (delivers c) past ≡ true → f c ≡ g c) → places_of f past ≡ places_of g past
+pub places_same : (f g : ℕ → Bool) (past : PastCalls) → ((c : ℕ) → list_any (tells_delivery c) past ≡ true → f c ≡ g c) → places_of f past ≡ places_of g past
 places_same f g [] same = refl
 places_same f g (Made n r ∷ before) same = places_same f g before same
 places_same f g (Delivered n p ∷ before) same =
@@ -217,7 +217,7 @@ places_same f g (Delivered n p ∷ before) same =
     let rest : places_of f before ≡ places_of g before = places_same f g before (λ c h. same c (delivered_more c n p before h)) in
     rw (here, rest) refl
 
-pub places_none : (f : ℕ → Bool) (past : PastCalls) → ((c : ℕ) → list_any (delivers c) past ≡ true → f c ≡ false) → places_of f past ≡ []
+pub places_none : (f : ℕ → Bool) (past : PastCalls) → ((c : ℕ) → list_any (tells_delivery c) past ≡ true → f c ≡ false) → places_of f past ≡ []
 places_none f [] none = refl
 places_none f (Made n r ∷ before) none = places_none f before none
 places_none f (Delivered n p ∷ before) none =
@@ -225,12 +225,12 @@ places_none f (Delivered n p ∷ before) none =
     rw here (places_none f before (λ c h. none c (delivered_more c n p before h)))
 
 -- among more places the least is at most as great
-pub least_of_more : (f g : ℕ → Bool) (past : PastCalls) → ((c : ℕ) → g c ≡ true → f c ≡ true) → lesser (least (places_of f past)) (least (places_of g past)) ≡ least (places_of f past)
+pub least_of_more : (f g : ℕ → Bool) (past : PastCalls) → ((c : ℕ) → g c ≡ true → f c ≡ true) → lesser (least_place (places_of f past)) (least_place (places_of g past)) ≡ least_place (places_of f past)
 least_of_more f g [] more = refl
 least_of_more f g (Made n r ∷ before) more = least_of_more f g before more
 least_of_more f g (Delivered n p ∷ before) more =
-    let F = least (places_of f before) in
-    let G = least (places_of g before) in
+    let F = least_place (places_of f before) in
+    let G = least_place (places_of g before) in
     let rest : lesser F G ≡ F = least_of_more f g before more in
     elim (split (g n)) [
       | inl h ↦

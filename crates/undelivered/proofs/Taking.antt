@@ -5,8 +5,8 @@ use Rattle.std.specs.BTreeMap.{get, Updates}
 use Rattle.std.specs.Option.{option_map}
 use Rattle.std.specs.Ordering.{nat_cmp}
 use Rattle.undelivered.specs.Places.{lesser}
-use Rattle.undelivered.specs.Glue.{key_cmp, Waits, made_of, wait_of, IsRising, lowered, IsTaken, IsDelivered}
-use Rattle.undelivered.specs.declared.tables.Tables.{Tables}
+use Rattle.undelivered.specs.Glue.{key_cmp, Waits, made_of, wait_of, AreWaitsRising, lowered, IsTaken, IsDelivered}
+use Rattle.undelivered.specs.declared.wait_tables.WaitTables.{WaitTables}
 use Rattle.undelivered.proofs.Places.{Place, split}
 use Rattle.undelivered.proofs.Keys.{turns_put, waits_put}
 use Rattle.undelivered.proofs.Lowering.{nothing_lowered}
@@ -43,14 +43,14 @@ still m n r t gone q s u there =
           sym same ∙ there
     ]
 
-rising_still : (m n : Waits) (r t : ℕ) → Updates key_cmp m n (r, t) None → IsRising m → IsRising n
+rising_still : (m n : Waits) (r t : ℕ) → Updates key_cmp m n (r, t) None → AreWaitsRising m → AreWaitsRising n
 rising_still m n r t gone rising = λ q a b u w lt first second. rising q a b u w lt (still m n r t gone q a u first) (still m n r t gone q b w second)
 
 abbrev LowersBefore : ℕ → ℕ → Place → Waits → Waits → Type 0
-LowersBefore r t p waits new = IsRising waits → (q s : ℕ) → get key_cmp new (q, s)
+LowersBefore r t p waits new = AreWaitsRising waits → (q s : ℕ) → get key_cmp new (q, s)
     ≡ cond (eqb q r && ltb s t) (option_map (λ until. lesser until (Some p)) (get key_cmp waits (q, s))) (get key_cmp waits (q, s))
 
-all_lowered : (m n o : Waits) (r t : ℕ) (p : Place) → Updates key_cmp m n (r, t) None → LowersBefore r t p n o → IsRising m → (q s : ℕ) → get key_cmp o (q, s) ≡ lowered r t p q s (get key_cmp m (q, s))
+all_lowered : (m n o : Waits) (r t : ℕ) (p : Place) → Updates key_cmp m n (r, t) None → LowersBefore r t p n o → AreWaitsRising m → (q s : ℕ) → get key_cmp o (q, s) ≡ lowered r t p q s (get key_cmp m (q, s))
 all_lowered m n o r t p gone lower rising q s =
     let after = waits_put m n r t None gone q s in
     let low = lower (rising_still m n r t gone rising) q s in
@@ -65,7 +65,7 @@ all_lowered m n o r t p gone lower rising q s =
     ]
 
 -- a call that waited was taken out, and the place noted
-pub delivered_tables : (old new : Tables) (call : ℕ) (p : Place) (a b : ℕ) (u : Noted) (waits : Waits) → made_of old call ≡ Some (a, b) → wait_of old a b ≡ Some u
+pub delivered_tables : (old new : WaitTables) (call : ℕ) (p : Place) (a b : ℕ) (u : Noted) (waits : Waits) → made_of old call ≡ Some (a, b) → wait_of old a b ≡ Some u
     → Updates nat_cmp old.turns new.turns call None → Updates key_cmp old.waiting waits (a, b) None → LowersBefore a b p waits new.waiting → new.fault ≡ lesser old.fault u → IsDelivered call p old new
 delivered_tables old new call p a b u waits known there turns gone lower fault = λ r t until turn wait.
     let here : IsTaken call p a b u old new = record {
@@ -83,7 +83,7 @@ delivered_tables old new call p a b u waits known there turns gone lower fault =
     subst (λ (w : Noted). IsTaken call p r t w old new) third two
 
 -- a call of which nothing is noted didn't wait
-pub none_delivered : (old new : Tables) (call : ℕ) (p : Place) (a b : ℕ) → made_of old call ≡ Some (a, b) → wait_of old a b ≡ None → IsDelivered call p old new
+pub none_delivered : (old new : WaitTables) (call : ℕ) (p : Place) (a b : ℕ) → made_of old call ≡ Some (a, b) → wait_of old a b ≡ None → IsDelivered call p old new
 none_delivered old new call p a b known gone = λ r t until turn wait.
     let same : (a, b) ≡ (r, t) = ap key_in (sym known ∙ turn) in
     let first : a ≡ r = ap (λ (k : Key). k.0) same in

@@ -3,8 +3,8 @@ use Rattle.std.proofs.Common.{◌≡◌, ℕ, ◌<◌, ◌≤◌, Bool, true, fa
 use Rattle.std.specs.Prelude.{◌&&◌, ◌||◌}
 use Rattle.std.specs.List.{list_any}
 use Rattle.std.proofs.lemmas.Bool.{eqb-true, eq-eqb, lt-ltb, le-ltb}
-use Rattle.undelivered.specs.Glue.{turn_of, call_at, is_behind}
-use Rattle.undelivered.specs.Order.{PastCalls, AreOnce, makes, makes_through, delivers, is_made_before}
+use Rattle.undelivered.specs.Glue.{turn_of, call_made_at, is_behind}
+use Rattle.undelivered.specs.Order.{PastCalls, AreOnce, makes, tells_making_through, tells_delivery, is_made_earlier}
 use Rattle.undelivered.specs.declared.moment.Moment.TheVariants.{Made, Delivered}
 use Rattle.undelivered.proofs.Places.{split}
 
@@ -102,7 +102,7 @@ not_here q r at t lt =
       | inr k ↦ rw k refl
     ]
 
-pub call_below : (r t : ℕ) (past : PastCalls) (c : ℕ) → call_at r t past ≡ Some c → t < length past
+pub call_below : (r t : ℕ) (past : PastCalls) (c : ℕ) → call_made_at r t past ≡ Some c → t < length past
 call_below r t [] c e = absurd cc
 call_below r t (Made n q ∷ before) c e =
     elim (split (is_here q r (length before) t)) [
@@ -111,7 +111,7 @@ call_below r t (Made n q ∷ before) c e =
     ]
 call_below r t (Delivered n p ∷ before) c e = let below = call_below r t before c e in omega arith
 
-pub call_is_made : (r t : ℕ) (past : PastCalls) (c : ℕ) → call_at r t past ≡ Some c → list_any (makes c) past ≡ true
+pub call_is_made : (r t : ℕ) (past : PastCalls) (c : ℕ) → call_made_at r t past ≡ Some c → list_any (makes c) past ≡ true
 call_is_made r t [] c e = absurd cc
 call_is_made r t (Made n q ∷ before) c e =
     elim (split (is_here q r (length before) t)) [
@@ -125,7 +125,7 @@ call_is_made r t (Made n q ∷ before) c e =
     ]
 call_is_made r t (Delivered n p ∷ before) c e = call_is_made r t before c e
 
-pub call_of_turn : (c : ℕ) (past : PastCalls) (r t : ℕ) → turn_of c past ≡ Some (r, t) → call_at r t past ≡ Some c
+pub call_of_turn : (c : ℕ) (past : PastCalls) (r t : ℕ) → turn_of c past ≡ Some (r, t) → call_made_at r t past ≡ Some c
 call_of_turn c [] r t e = absurd cc
 call_of_turn c (Made n q ∷ before) r t e =
     elim (split (eqb n c)) [
@@ -143,7 +143,7 @@ call_of_turn c (Delivered n p ∷ before) r t e = call_of_turn c before r t e
 pair_turn : (q s r t : ℕ) → q ≡ r → s ≡ t → some_turn q s ≡ some_turn r t
 pair_turn q s r t e f = cc
 
-pub turn_of_call : (r t : ℕ) (past : PastCalls) (c : ℕ) → AreOnce past → call_at r t past ≡ Some c → turn_of c past ≡ Some (r, t)
+pub turn_of_call : (r t : ℕ) (past : PastCalls) (c : ℕ) → AreOnce past → call_made_at r t past ≡ Some c → turn_of c past ≡ Some (r, t)
 turn_of_call r t [] c once e = absurd cc
 turn_of_call r t (Made n q ∷ before) c once e =
     elim (split (is_here q r (length before) t)) [
@@ -153,13 +153,13 @@ turn_of_call r t (Made n q ∷ before) c once e =
           let place = here_means q r (length before) t k in
           rw same (pair_turn q (length before) r t place.0 place.1)
       | inr k ↦
-          let old : call_at r t before ≡ Some c = rw k at e in
+          let old : call_made_at r t before ≡ Some c = rw k at e in
           let l = other_than_new n c before once.0 (call_is_made r t before c old) in
           rw l (turn_of_call r t before c once.1 old)
     ]
 turn_of_call r t (Delivered n p ∷ before) c once e = turn_of_call r t before c once.2 e
 
-pub delivered_is_made : (c : ℕ) (past : PastCalls) → AreOnce past → list_any (delivers c) past ≡ true → list_any (makes c) past ≡ true
+pub delivered_is_made : (c : ℕ) (past : PastCalls) → AreOnce past → list_any (tells_delivery c) past ≡ true → list_any (makes c) past ≡ true
 delivered_is_made c [] once h = absurd cc
 delivered_is_made c (Made n r ∷ before) once h =
     let rest = delivered_is_made c before once.1 h in
@@ -175,14 +175,14 @@ delivered_is_made c (Delivered n p ∷ before) once h =
 
 -- ---- made before, by turns
 
-never_made : (c d : ℕ) (past : PastCalls) → list_any (makes d) past ≡ false → is_made_before c d past ≡ false
+never_made : (c d : ℕ) (past : PastCalls) → list_any (makes d) past ≡ false → is_made_earlier c d past ≡ false
 never_made c d [] h = refl
 never_made c d (Made n r ∷ before) h =
     let here : eqb n d ≡ false = or_false_first (eqb n d) (list_any (makes d) before) h in
     rw here (never_made c d before (or_false_second (eqb n d) (list_any (makes d) before) h))
 never_made c d (Delivered n p ∷ before) h = never_made c d before h
 
-nothing_before : (c d : ℕ) (past : PastCalls) → list_any (makes c) past ≡ false → (r : ℕ) → list_any (makes_through r c) past ≡ false
+nothing_before : (c d : ℕ) (past : PastCalls) → list_any (makes c) past ≡ false → (r : ℕ) → list_any (tells_making_through r c) past ≡ false
 nothing_before c d [] h r = refl
 nothing_before c d (Made n q ∷ before) h r =
     let here : eqb n c ≡ false = or_false_first (eqb n c) (list_any (makes c) before) h in
@@ -193,7 +193,7 @@ nothing_before c d (Made n q ∷ before) h r =
     ]
 nothing_before c d (Delivered n p ∷ before) h r = nothing_before c d before h r
 
-none_before : (c d : ℕ) (past : PastCalls) → list_any (makes c) past ≡ false → is_made_before c d past ≡ false
+none_before : (c d : ℕ) (past : PastCalls) → list_any (makes c) past ≡ false → is_made_earlier c d past ≡ false
 none_before c d [] h = refl
 none_before c d (Made n q ∷ before) h =
     let here : eqb n c ≡ false = or_false_first (eqb n c) (list_any (makes c) before) h in
@@ -207,7 +207,7 @@ none_before c d (Made n q ∷ before) h =
 none_before c d (Delivered n p ∷ before) h = none_before c d before h
 
 -- a call with a turn was made through that reference alone
-made_through : (c : ℕ) (past : PastCalls) (r t q : ℕ) → AreOnce past → turn_of c past ≡ Some (r, t) → list_any (makes_through q c) past ≡ eqb q r
+made_through : (c : ℕ) (past : PastCalls) (r t q : ℕ) → AreOnce past → turn_of c past ≡ Some (r, t) → list_any (tells_making_through q c) past ≡ eqb q r
 made_through c [] r t q once e = absurd cc
 made_through c (Made n s ∷ before) r t q once e =
     elim (split (eqb n c)) [
@@ -242,7 +242,7 @@ not_behind r t c past le =
       | inr h ↦ let none = no_turn c past h in rw none refl
     ]
 
-pub before_is_behind : (d c : ℕ) (past : PastCalls) (r t : ℕ) → AreOnce past → turn_of d past ≡ Some (r, t) → is_made_before d c past ≡ is_behind r t (turn_of c past)
+pub before_is_behind : (d c : ℕ) (past : PastCalls) (r t : ℕ) → AreOnce past → turn_of d past ≡ Some (r, t) → is_made_earlier d c past ≡ is_behind r t (turn_of c past)
 before_is_behind d c [] r t once e = absurd cc
 before_is_behind d c (Made n q ∷ before) r t once e =
     elim (split (eqb n c)) [

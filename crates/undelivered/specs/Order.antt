@@ -15,26 +15,26 @@ makes c (Made d reference) = d == c
 makes c (Delivered d place) = false
 
 -- it makes this call through this reference
-abbrev pub makes_through : ℕ → ℕ → Moment → Bool
-makes_through r c (Made d reference) = (reference == r) && (d == c)
-makes_through r c (Delivered d place) = false
+abbrev pub tells_making_through : ℕ → ℕ → Moment → Bool
+tells_making_through r c (Made d reference) = (reference == r) && (d == c)
+tells_making_through r c (Delivered d place) = false
 
 -- it delivers this call
-abbrev pub delivers : ℕ → Moment → Bool
-delivers c (Made d reference) = false
-delivers c (Delivered d place) = d == c
+abbrev pub tells_delivery : ℕ → Moment → Bool
+tells_delivery c (Made d reference) = false
+tells_delivery c (Delivered d place) = d == c
 
 -- No call is made or delivered twice, and none is delivered before it is made.
 abbrev pub AreOnce : PastCalls → Type 0
 AreOnce [] = ⊤
 AreOnce (Made c reference ∷ before) = (list_any (makes c) before ≡ false) × AreOnce before
-AreOnce (Delivered c place ∷ before) = (list_any (makes c) before ≡ true) × (list_any (delivers c) before ≡ false) × AreOnce before
+AreOnce (Delivered c place ∷ before) = (list_any (makes c) before ≡ true) × (list_any (tells_delivery c) before ≡ false) × AreOnce before
 
 -- two calls were made through one reference, the first of them before the second
-abbrev pub is_made_before : ℕ → ℕ → PastCalls → Bool
-is_made_before c d [] = false
-is_made_before c d (Made n reference ∷ before) = ((n == d) && list_any (makes_through reference c) before) || is_made_before c d before
-is_made_before c d (Delivered n place ∷ before) = is_made_before c d before
+abbrev pub is_made_earlier : ℕ → ℕ → PastCalls → Bool
+is_made_earlier c d [] = false
+is_made_earlier c d (Made n reference ∷ before) = ((n == d) && list_any (tells_making_through reference c) before) || is_made_earlier c d before
+is_made_earlier c d (Delivered n place ∷ before) = is_made_earlier c d before
 
 -- where the calls are delivered that pass a test
 abbrev pub places_of : (ℕ → Bool) → PastCalls → List (ℕ × ℕ)
@@ -47,7 +47,7 @@ places_of test (Delivered c place ∷ before) = if test c then place ∷ places_
 abbrev pub early : PastCalls → List (ℕ × ℕ)
 early [] = []
 early (Made c reference ∷ before) = early before
-early (Delivered d place ∷ before) = places_of (λ c. is_made_before d c before) before ++ early before
+early (Delivered d place ∷ before) = places_of (λ c. is_made_earlier d c before) before ++ early before
 
 -- the calls keep their order; or this is the least place where they don't
 abbrev pub IsFault : PastCalls → Option (ℕ × ℕ) → Type 0

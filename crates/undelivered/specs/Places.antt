@@ -17,6 +17,6 @@ lesser (Some a) None = Some a
 lesser (Some a) (Some b) = if is_at_most a b then Some a else Some b
 
 -- the least of some
-abbrev pub least : List (ℕ × ℕ) → Option (ℕ × ℕ)
-least [] = None
-least (p ∷ ps) = lesser (Some p) (least ps)
+abbrev pub least_place : List (ℕ × ℕ) → Option (ℕ × ℕ)
+least_place [] = None
+least_place (p ∷ ps) = lesser (Some p) (least_place ps)

@@ -11,12 +11,12 @@
 
 mod laws;
 mod moment;
-mod place;
-mod tables;
+mod place_order;
 mod undelivered;
-mod waiting;
+mod wait_tables;
+mod waits;
 
 pub use laws::runs_break_where_their_vats_do;
 pub use moment::Moment;
-pub use place::lesser;
+pub use place_order::lesser;
 pub use undelivered::Undelivered;

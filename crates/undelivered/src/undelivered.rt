@@ -4,10 +4,9 @@ ghost use Rattle.std.specs.Prelude.{◌≡◌, [], ◌∷◌, OnOk, OnErr};
 ghost use Rattle.undelivered.specs.Order.{AreOnce, IsFault};
 
 use crate::moment::Moment;
-use crate::tables::Tables;
+use crate::wait_tables::WaitTables;
 use erased::Erased;
 use std::alloc::{AllocError, Global};
-use std::fmt::{self, Debug, Formatter, Write};
 use std::marker::Model;
 
 /// What was told of the calls of one vat, and where their order is broken. Contracts see it as the list of the moments, the
@@ -15,7 +14,7 @@ use std::marker::Model;
 pub struct Undelivered {
     past: Erased<Moment>,
     count: u64,
-    tables: Tables,
+    tables: WaitTables,
 }
 
 impl Drop for Undelivered {
@@ -40,14 +39,6 @@ impl Model for Undelivered {
     ghost invariant = { λ calls. AreTables calls.past.items calls.count calls.tables };
 }
 
-impl Debug for Undelivered {
-    fn fmt<W: Write>(&self, f: &mut Formatter<W>) -> fmt::Result {
-        f.debug_struct("Undelivered")
-            .field("moments", &self.count)
-            .finish()
-    }
-}
-
 impl Undelivered {
     /// Before anything is told. It takes no memory.
     pub fn new(alloc: Global) -> Undelivered
@@ -56,7 +47,7 @@ impl Undelivered {
         Undelivered {
             past: Erased::new(),
             count: 0,
-            tables: Tables::new(alloc),
+            tables: WaitTables::new(alloc),
         }
     }
 

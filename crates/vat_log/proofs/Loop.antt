@@ -7,7 +7,7 @@ use Rattle.std.proofs.lemmas.List.Elements.{All-push}
 use Rattle.vat_log.specs.declared.error.LogError.{LogError}
 use Rattle.vat_log.specs.declared.error.LogError.TheVariants.{BadMagic, Short, BadKind, ZeroNumber, TooLong, OutOfMemory}
 use Rattle.vat_log.specs.declared.body.Body.{Body}
-use Rattle.vat_log.specs.declared.kind.RecordKind.{RecordKind}
+use Rattle.vat_log.specs.declared.spelling.kind.RecordKind.{RecordKind}
 use Rattle.vat_log.specs.declared.version.LogVersion.{LogVersion}
 use Rattle.vat_log.specs.Reading.{◌>>=◌, Fails, count_at, many_at, list_at, kind_at, fields_at, records_at}
 

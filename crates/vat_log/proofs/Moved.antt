@@ -9,8 +9,8 @@ use Rattle.std.proofs.Math.Seq.{drop-append-add}
 use Rattle.vat_log.specs.declared.body.Body.TheVariants as body
 use Rattle.vat_log.specs.declared.error.LogError.{LogError}
 use Rattle.vat_log.specs.declared.error.LogError.TheVariants.{BadMagic, Short, BadKind, ZeroNumber, TooLong, OutOfMemory}
-use Rattle.vat_log.specs.declared.kind.RecordKind.{RecordKind}
-use Rattle.vat_log.specs.declared.kind.RecordKind.TheVariants.{Host, Vow, Fulfil, Break, Make, Field, Deliver, Answer, Fault, Send, Receive, AnswerBy}
+use Rattle.vat_log.specs.declared.spelling.kind.RecordKind.{RecordKind}
+use Rattle.vat_log.specs.declared.spelling.kind.RecordKind.TheVariants.{Host, Vow, Fulfil, Break, Make, Field, Deliver, Answer, Fault, Send, Receive, AnswerBy}
 use Rattle.vat_log.specs.declared.version.LogVersion.{LogVersion}
 use Rattle.vat_log.specs.Fits.{count_limit, frame_limit, record_limit}
 use Rattle.vat_log.specs.Reading.{◌>>=◌, number_at, nonzero_at, count_at, many_at, list_at, path_at, answered_at, frame_at, passage_at, host_at, vow_at, fulfil_at, break_at, make_at, field_at, deliver_at, answer_at, fault_at, send_at, receive_at, answer_by_at, fields_at, kind_with, known_kind, kind_at}

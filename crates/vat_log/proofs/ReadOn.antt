@@ -6,7 +6,7 @@ use Rattle.std.specs.List.{slice_range}
 use Rattle.vat_log.specs.declared.body.Body.{Body}
 use Rattle.vat_log.specs.declared.error.LogError.{LogError}
 use Rattle.vat_log.specs.declared.error.LogError.TheVariants.{BadMagic, Short, BadKind, ZeroNumber, TooLong, OutOfMemory}
-use Rattle.vat_log.specs.declared.kind.RecordKind.{RecordKind}
+use Rattle.vat_log.specs.declared.spelling.kind.RecordKind.{RecordKind}
 use Rattle.vat_log.specs.declared.version.LogVersion.{LogVersion}
 use Rattle.vat_log.specs.Fits.{record_limit, LogFits}
 use Rattle.vat_log.specs.Log.{Log}

@@ -5,22 +5,19 @@
 //! `specs/Spelling.antt`, how bytes are read and which fault is first in `specs/Reading.antt`, what a log can hold in
 //! `specs/Fits.antt`, with which logs bytes begin in `specs/Runs.antt`, and what may be said of bytes of which more may come
 //! in `specs/Streams.antt`. [`parse_log`] and [`write_log`] answer exactly what these say, and a [`VatLog`] is what its bytes
-//! spell. A [`LogReader`] gives a log's records one after another and keeps none, behind its [`LogHeader`]; a [`LogStream`]
-//! does the same where the bytes come in pieces, of which it keeps what isn't read yet. [`salvage_log`] gives the longest run
+//! spell. A [`LogStream`] gives a log's records one after another and keeps none, behind its [`LogHeader`]; where the bytes come
+//! in pieces it keeps what isn't read yet. [`salvage_log`] gives the longest run
 //! of whole records, as a [`SpelledLog`], of which the bytes alone are kept.
 //!
 //! All three versions are read. Version 2 is written, or version 3 where a runtime speaks the later edition of rpc.capnp
-//! ([`write_later_log`], [`LogWriter::later`]). [`migrate`] makes a version 2 log of one of version 1, and [`raise`] a
-//! version 3 log of any; [`migrate_bytes`] and [`raise_bytes`] make the same of bytes, and keep no record. A [`LogWriter`] is for a runtime of one thread, which writes its log record by record.
+//! ([`write_later_log`], [`LogWriter::later`]). [`migrate`] makes a version 2 log of one of version 1; [`migrate_bytes`]
+//! makes the same of bytes, and [`raise_bytes`] a version 3 log of those of any, and they keep no record. A [`LogWriter`] is for a runtime of one thread, which writes its log record by record.
 #![tactic(auto)]
 
 mod body;
 mod error;
-mod fields;
 mod header;
-mod kind;
 mod laws;
-mod limits;
 mod log;
 mod log_stream;
 mod migrating;
@@ -28,24 +25,21 @@ mod passage;
 mod passing;
 mod read_fault;
 mod reader;
-mod reading;
 mod record;
 mod spelled_log;
-mod storing;
+mod spelling;
 mod version;
 mod writer;
-mod writing;
 
 pub use body::{Body, References, ResultReferences};
 pub use error::LogError;
 pub use header::LogHeader;
 pub use laws::{one_spelling, runs_of_one_log};
-pub use log::{Salvaged, VatLog, migrate, parse_log, raise, salvage_log};
+pub use log::{Salvaged, VatLog, migrate, parse_log, salvage_log};
 pub use log_stream::LogStream;
 pub use migrating::{migrate_bytes, raise_bytes};
 pub use read_fault::ReadFault;
-pub use reader::LogReader;
 pub use record::Record;
 pub use spelled_log::SpelledLog;
-pub use storing::{write_later_log, write_lent_later_log, write_lent_log, write_log};
+pub use spelling::storing::{write_later_log, write_lent_later_log, write_lent_log, write_log};
 pub use writer::LogWriter;

@@ -6,8 +6,8 @@ ghost use Rattle.std.specs.Int.{w32};
 ghost use Rattle.vat_log.specs.Reading.{Fails, GivesInMemory, version_at, header_of, log_of};
 ghost use Rattle.vat_log.specs.Fits.{record_limit, Fits, IsWide, LogFits};
 ghost use Rattle.vat_log.specs.Ends.{AreEnds};
-ghost use Rattle.vat_log.specs.Log.{Log, version_number, later_version};
-ghost use Rattle.vat_log.specs.Migrated.{migrated, raised};
+ghost use Rattle.vat_log.specs.Log.{Log, version_number};
+ghost use Rattle.vat_log.specs.Migrated.{migrated};
 ghost use Rattle.vat_log.specs.Reader.{EndsBy};
 ghost use Rattle.vat_log.specs.Runs.{BeginsWith, IsLongestRun, with_records};
 ghost use Rattle.vat_log.specs.Spelling.{count_width, log_bytes};
@@ -17,9 +17,9 @@ use crate::header::LogHeader;
 use crate::reader::LogReader;
 use crate::record::Record;
 use crate::spelled_log::SpelledLog;
-use crate::storing::{lend, log_with_lent};
+use crate::spelling::body_writing::written_log;
+use crate::spelling::storing::{lend, log_with_lent};
 use crate::version::LogVersion;
-use crate::writing::written_log;
 use bytes::Bytes;
 use std::alloc::{AllocError, Global};
 use std::marker::Model;
@@ -277,16 +277,6 @@ pub(crate) fn log_with(
     }
 }
 
-/// The log with the same vat and records, in a version whose counts have 32 bits. The only error is that memory ran out.
-fn in_version(alloc: Global, version: LogVersion, log: &VatLog) -> Result<VatLog, LogError>
-    requires { count_width version ≡ w32 }
-    ensures ok { IfOk result (λ made. made ≡ record log.now { version = version }) }
-    ensures err { IfErr result (λ e. e ≡ LogError.OutOfMemory) }
-{
-    let lent = lend(alloc, &log.records)?;
-    log_with_lent(alloc, version, log.vat, &lent)
-}
-
 /// The log with the same vat and records in a version of today: in version 2 where it is of version 1. It is judged as
 /// before, so a log of version 2 or 3 stays as it is.
 ///
@@ -299,20 +289,6 @@ pub fn migrate(alloc: Global, log: &VatLog) -> Result<VatLog, LogError>
     ensures same { 2 ≤ version_number log.now.version → IfOk result (λ made. made ≡ log.now) }
     ensures err { IfErr result (λ e. e ≡ LogError.OutOfMemory) }
 {
-    in_version(alloc, log.version.migrated(), log)
-}
-
-/// The version 3 log with the same vat and records: for the log of a runtime that spoke the later edition of rpc.capnp,
-/// where it was written in version 1 or 2 (docs/FORMATS.md). More may be good of it than of the log before.
-///
-/// # Errors
-///
-/// `OutOfMemory` alone.
-pub fn raise(alloc: Global, log: &VatLog) -> Result<VatLog, LogError>
-    ensures ok { IfOk result (λ made. made ≡ raised log.now) }
-    // A log of version 3 stays as it is, and so do its bytes.
-    ensures same { log.now.version ≡ later_version → IfOk result (λ made. made ≡ log.now) }
-    ensures err { IfErr result (λ e. e ≡ LogError.OutOfMemory) }
-{
-    in_version(alloc, LogVersion::Three, log)
+    let lent = lend(alloc, &log.records)?;
+    log_with_lent(alloc, log.version.migrated(), log.vat, &lent)
 }

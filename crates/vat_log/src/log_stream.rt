@@ -10,12 +10,12 @@ ghost use Rattle.vat_log.specs.Windows.{StopsHere};
 
 use crate::body::Body;
 use crate::error::LogError;
-use crate::fields::u32_at;
 use crate::header::LogHeader;
-use crate::kind::read_kind;
-use crate::limits::MAX_RECORDS;
 use crate::read_fault::{ReadFault, Stop};
 use crate::record::Record;
+use crate::spelling::fields::u32_at;
+use crate::spelling::kind::read_kind;
+use crate::spelling::log_limits::MAX_RECORDS;
 use crate::version::{LogVersion, read_version};
 use byte_pieces::{NoMore, Pieces};
 use bytes::Bytes;

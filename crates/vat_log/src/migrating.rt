@@ -10,8 +10,8 @@ ghost use Rattle.vat_log.specs.Spelling.{count_width};
 use crate::error::LogError;
 use crate::reader::LogReader;
 use crate::spelled_log::SpelledLog;
+use crate::spelling::body_writing::{put_body, put_header};
 use crate::version::LogVersion;
-use crate::writing::{put_body, put_header};
 use bytes::Bytes;
 use std::alloc::Global;
 
@@ -52,7 +52,9 @@ pub fn migrate_bytes(alloc: Global, bytes: Bytes) -> Result<SpelledLog, LogError
     respelled(alloc, reader.log_version().migrated(), reader)
 }
 
-/// What [`raise`](crate::raise) makes of the log that these bytes spell, in the same way.
+/// The version 3 log with the same vat and records as the one that these bytes spell: for the log of a runtime that spoke the
+/// later edition of rpc.capnp, where it was written in version 1 or 2 (docs/FORMATS.md). More may be good of it than of the log
+/// before. A log of version 3 stays as it is. It is made record by record, and none is kept.
 ///
 /// # Errors
 ///

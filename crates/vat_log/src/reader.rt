@@ -1,7 +1,6 @@
 //! Reading a log record by record.
 
 ghost use Rattle.std.specs.Prelude.{◌≡◌, ◌<◌, ◌^◌, Ok, Err, All, length, IfOk, IfErr, MatchOption};
-ghost use Rattle.vat_log.specs.Log.{version_number};
 ghost use Rattle.vat_log.specs.Parsed.{IsParsed};
 ghost use Rattle.vat_log.specs.Reading.{header_of, log_of};
 ghost use Rattle.vat_log.specs.Runs.{BeginsWith, IsLongestRun, StopsBy, with_record};
@@ -9,21 +8,20 @@ ghost use Rattle.vat_log.specs.Spelling.{log_bytes};
 
 use crate::body::Body;
 use crate::error::LogError;
-use crate::fields::u32_at;
 use crate::header::LogHeader;
 use crate::record::Record;
 use crate::spelled_log::SpelledLog;
+use crate::spelling::fields::u32_at;
 use crate::version::{LogVersion, read_version};
 use bytes::Bytes;
 use erased::Erased;
 use std::alloc::{AllocError, Global};
-use std::fmt::{self, Debug, Formatter, Write};
 use std::marker::Model;
 
 /// A log that is read record by record, so that no more than one of its records need be kept. To a contract it is the
 /// bytes, and the log with the records that were given so far.
 #[derive(Drop)]
-pub struct LogReader {
+pub(crate) struct LogReader {
     bytes: Bytes,
     version: LogVersion,
     vat: u32,
@@ -51,22 +49,13 @@ impl Model for LogReader {
         (record { version = reader.version; vat = reader.vat; records = reverse reader.given.items }) reader.at };
 }
 
-impl Debug for LogReader {
-    fn fmt<W: Write>(&self, f: &mut Formatter<W>) -> fmt::Result {
-        f.debug_struct("LogReader")
-            .field("vat", &self.vat)
-            .field("records", &self.count)
-            .finish()
-    }
-}
-
 impl LogReader {
     /// The reader of these bytes, before the first record. It takes no memory.
     ///
     /// # Errors
     ///
     /// The fault of the header, by which no log begins: `BadMagic`, or `Short(8)` where the vat is cut.
-    pub fn new(bytes: Bytes) -> Result<LogReader, LogError>
+    pub(crate) fn new(bytes: Bytes) -> Result<LogReader, LogError>
         ensures bytes { IfOk result (λ reader. reader.bytes ≡ bytes) }
         ensures header { IfOk result (λ reader. header_of bytes ≡ Ok reader.log) }
         ensures begun { IfOk result (λ reader. BeginsWith bytes reader.log) }
@@ -84,36 +73,11 @@ impl LogReader {
         })
     }
 
-    /// The version of the format in which the log stands: 1, 2 or 3.
-    pub fn version(&self) -> u32
-        ensures { result ≡ version_number self.now.log.version }
-    {
-        self.version.number()
-    }
-
     /// The vat whose log this is.
-    pub fn vat(&self) -> u32
+    pub(crate) fn vat(&self) -> u32
         ensures { result ≡ self.now.log.vat }
     {
         self.vat
-    }
-
-    /// What stands in front of the log's records.
-    pub fn header(&self) -> LogHeader
-        ensures version { result.version ≡ self.now.log.version }
-        ensures vat { result.vat ≡ self.now.log.vat }
-    {
-        LogHeader {
-            version: self.version,
-            vat: self.vat,
-        }
-    }
-
-    /// How many records were given so far, 4,294,967,295 at most.
-    pub fn given(&self) -> usize
-        ensures { result ≡ length self.now.log.records }
-    {
-        self.count
     }
 
     /// The next record, or none at the end. Memory is asked for what the record itself keeps.
@@ -122,7 +86,7 @@ impl LogReader {
     ///
     /// The first fault of the log, with the offset that [`parse_log`](crate::parse_log) gives; or `OutOfMemory`, where a
     /// growth was refused. The reader stays in front of the record, so it can be asked again.
-    pub fn next(&mut self, alloc: Global) -> Result<Option<Record>, LogError>
+    pub(crate) fn next(&mut self, alloc: Global) -> Result<Option<Record>, LogError>
         ensures bytes { self.new.bytes ≡ self.old.bytes }
         // What was given is a run of whole records with which the bytes begin.
         ensures begun { BeginsWith self.new.bytes self.new.log }

@@ -10,9 +10,9 @@ ghost use Rattle.vat_log.specs.Windows.{record_at};
 
 use crate::body::{Body, References, ResultReferences};
 use crate::error::LogError;
-use crate::kind::{RecordKind, read_kind};
-use crate::limits::{MAX_COUNT, MAX_FRAME, MAX_RECORDS};
-use crate::reading::body_of;
+use crate::spelling::body_reading::body_of;
+use crate::spelling::kind::{RecordKind, read_kind};
+use crate::spelling::log_limits::{MAX_COUNT, MAX_FRAME, MAX_RECORDS};
 use crate::version::LogVersion;
 use bytes::Bytes;
 use cap_frame::Path;

@@ -7,9 +7,9 @@ ghost use Rattle.vat_log.specs.Log.{written_version, later_version};
 ghost use Rattle.vat_log.specs.Spelling.{count_width};
 
 use crate::error::LogError;
-use crate::limits::MAX_RECORDS;
 use crate::log::{VatLog, log_with};
 use crate::record::Record;
+use crate::spelling::log_limits::MAX_RECORDS;
 use crate::version::LogVersion;
 use std::alloc::Global;
 use std::marker::Model;

@@ -5,8 +5,7 @@
 //! `specs/OfResults.antt`, `specs/OfPromises.antt` and `specs/OfConnections.antt`, and of `vat_view` where a state of
 //! numbers asks for them itself; `specs/Rules.antt` lists
 //! them in their order. The outcome of a log is said in `specs/First.antt` and `specs/Audit.antt`, and [`audit_vat`]
-//! answers just that; [`audit_slim`] answers the same and keeps no record, [`audit_bytes`] reads the log as it is judged, and a
-//! [`VatAudit`] takes its records one after another. Laws of good logs: each record turns only views that stay ([`good_records_turn_once`]), and each opening of a question has at most one Return and one Finish
+//! answers just that; a [`VatAudit`] takes the records of a log one after another, keeps none, and answers the same. Laws of good logs: each record turns only views that stay ([`good_records_turn_once`]), and each opening of a question has at most one Return and one Finish
 //! ([`good_openings_are_closed_once`]). A log is read and judged by the edition of rpc.capnp that its version says
 //! ([`edition_of`]), and one that is good by it is good by the later edition, and tells the same ([`good_logs_are_good`]).
 #![tactic(auto)]
@@ -34,7 +33,6 @@ pub use laws::{
 };
 pub use outcome::{Outcome, Why};
 pub use rule::Rule;
-pub use slim::audit::{audit_bytes, audit_slim};
 pub use slim::finding::{SlimFinding, SlimOutcome};
 pub use slim::story::SlimStory;
 pub use slim::vat_audit::VatAudit;

@@ -12,7 +12,7 @@ use crate::by_ticket::{in_order, lend};
 use crate::error::CloseError;
 use crate::intake::Intake;
 use crate::lane::Lane;
-use crate::ticket_word::{Closing, Looking, Opening, SeatKnowledge, TICKET, TicketWord, WORDS};
+use crate::ticket_word::{Closing, Looking, SeatKnowledge, SeatSplit, TICKET, TicketWord, WORDS};
 use atomic_table::Seat;
 use rtrb::RingBuffer;
 use std::alloc::{AllocError, Global};
@@ -117,7 +117,7 @@ impl Tap {
         let mut opened = Vec::new(alloc);
         for number in 0..lanes {
             let (sending, receiving) = RingBuffer::new(alloc, ring)?;
-            let theirs = word.shared.split_seat::<Opening>(&mut seat);
+            let theirs = word.shared.split_seat::<SeatSplit>(&mut seat);
             opened.push(Lane {
                 word: Arc::try_clone(&word)?,
                 seat: theirs,

@@ -28,9 +28,9 @@ impl TableRule<(), SeatKnowledge, u64> for TicketRule {
 }
 
 /// A lane's seat is split from the tap's.
-pub struct Opening;
+pub struct SeatSplit;
 
-impl Split<SeatKnowledge> for Opening {
+impl Split<SeatKnowledge> for SeatSplit {
     ghost use Rattle.vat_tap.specs.Glue.Rule.{without_share, a_share};
 
     ghost left = { without_share };

@@ -2,11 +2,11 @@
 use Rattle.std.proofs.Common.{◌≡◌, ◌+◌, ◌≤◌, inl, inr, refl, sym, ◌∙◌, ap, ap₂, subst, ℕ, List, [], ◌∷◌, map, length, count_by, Bool, true, false, not, ◌&&◌, ◌||◌, Option, Some, None, if◌then◌else◌, option_map, option_and_then, arith}
 use Rattle.std.specs.Prelude.{is_some, Decides, slice_get, Result, Ok, Err, IfOk}
 use Rattle.std.proofs.lemmas.Bool.{cases_Bool, and_parts, false≢true}
-use Rattle.number_tables.specs.declared.questions.Questions.{Questions}
+use Rattle.number_tables.specs.declared.question_table.Questions.{Questions}
 use Rattle.number_tables.specs.declared.exports_imports.ExportsImports.{ExportsImports}
 use Rattle.vat_view.specs.declared.record.introduced.Introduced.{Introduced}
 use Rattle.vat_view.specs.declared.tables.references.BoundReferences.{BoundReferences}
-use Rattle.number_tables.specs.declared.calls.Calls.{Calls}
+use Rattle.number_tables.specs.declared.call_table.Calls.{Calls}
 use Rattle.vat_view.specs.Types.{Descriptor, Target, Imported, Promised, TakeFrom, Return, Finish, DecodedRecord, Wire, View, FieldOf, TableKey}
 use Rattle.decoded_records.specs.Past.{Past, Point, point, id, same_id, last_since, Each}
 use Rattle.decoded_records.specs.Questions.{opens, returns, finishes, releases, takes_results, opening, return_of, is_opened, is_returned, is_returned_lightly, is_finished, is_released, is_tail, is_taken, is_unfinished, is_unreturned, is_late, closes, call_at, call_of}
@@ -18,7 +18,7 @@ use Rattle.decoded_records.specs.Bindings.{is_bound}
 use Rattle.vat_view.specs.Sound.{IsSound}
 use Rattle.number_tables.specs.Glue.QuestionTables.{question_at, late_by, given_back_by, results_released_in, params_introduced_in, results_introduced_in, free_in, finished_in, tail_in, taken_in, opening_call_in, call_by}
 use Rattle.vat_view.specs.Glue.Tables.{bound_at, count_released, origins_if, origins, first_in, AreBegun, view_by}
-use Rattle.number_tables.specs.Glue.LifeTables.{count_at}
+use Rattle.number_tables.specs.Glue.LifeTables.{held_count_at}
 use Rattle.vat_view.specs.Glue.Asking.{target_by, targeted_by, taken_from_by, given_by}
 use Rattle.vat_view.specs.Glue.Kept.{AreKept}
 use Rattle.decoded_records.proofs.Naming.{same_id_is}
@@ -198,7 +198,7 @@ module _ (past : Past) (questions : Questions) (lives : ExportsImports) (bound :
   given_known : (e : DecodedRecord) (i : TableKey) → given_by (question_at questions) i e ≡ gives_back i past e
   given_known e i = ap (λ ids. count_by (same_id i) ids + count_released i e) (closed_is e) ∙ sym (gives_parts i past e)
 
-  pub gives_decided : (e : DecodedRecord) (b : Bool) → Decides b ((i : TableKey) → given_by (question_at questions) i e ≤ count_at lives i) → Decides b (GivesBackHeld past e)
+  pub gives_decided : (e : DecodedRecord) (b : Bool) → Decides b ((i : TableKey) → given_by (question_at questions) i e ≤ held_count_at lives i) → Decides b (GivesBackHeld past e)
   gives_decided e b decides = (
     λ good i. (let all = decides.0 good i in let same = given_known e i in let count = kept.tabled.tabled.counted i in omega (arith, all, same, count)),
     λ held_so. decides.1 (λ i. let one = held_so i in let same = given_known e i in let count = kept.tabled.tabled.counted i in omega (arith, one, same, count)),

@@ -5,8 +5,8 @@ use Rattle.std.specs.List.{zip, cons_option}
 use Rattle.std.specs.Option.{option_or, option_to_list}
 use Rattle.std.proofs.lemmas.List.Sums.{sum_by-cons}
 use Rattle.std.proofs.lemmas.Bool.{and_parts, cases_Bool, false≢true, not-true, eqb-true, or_parts}
-use Rattle.number_tables.specs.declared.question.Question.{Question}
-use Rattle.number_tables.specs.declared.questions.Questions.{Questions}
+use Rattle.number_tables.specs.declared.question.QuestionState.{QuestionState}
+use Rattle.number_tables.specs.declared.question_table.Questions.{Questions}
 use Rattle.number_tables.specs.declared.exports_imports.ExportsImports.{ExportsImports}
 use Rattle.vat_view.specs.declared.record.introduced.Introduced.{Introduced}
 use Rattle.vat_view.specs.declared.tables.references.BoundReferences.{BoundReferences}
@@ -225,7 +225,7 @@ module _ (before : Past) (questions : Questions) (lives : ExportsImports) (begun
 
 -- ---- references that a record binds are new
 
-pub keys_new : (named : ℕ → Option View) (lives : ExportsImports) (begun : Introduced) (known : TableKey → Option Question) (e : DecodedRecord) (q : ℕ) → contains q (new_references e) ≡ false →
+pub keys_new : (named : ℕ → Option View) (lives : ExportsImports) (begun : Introduced) (known : TableKey → Option QuestionState) (e : DecodedRecord) (q : ℕ) → contains q (new_references e) ≡ false →
     contains q (map (λ x. x.0) (bindings named lives begun known e)) ≡ false
 keys_new named lives begun known (Host r object) q h = h
 keys_new named lives begun known (Vow r) q h = h
@@ -238,7 +238,7 @@ append_nothing : {A : Type 0} (xs : List A) → xs ++ [] ≡ xs
 append_nothing [] = refl
 append_nothing (x ∷ xs) = ap (λ l. x ∷ l) (append_nothing xs)
 
-pub bindings_apart : (named : ℕ → Option View) (lives : ExportsImports) (begun : Introduced) (known : TableKey → Option Question) (e : DecodedRecord) (q : ℕ) (v : Option View) → contains q (new_references e) ≡ false →
+pub bindings_apart : (named : ℕ → Option View) (lives : ExportsImports) (begun : Introduced) (known : TableKey → Option QuestionState) (e : DecodedRecord) (q : ℕ) (v : Option View) → contains q (new_references e) ≡ false →
     bound_by q (bindings named lives begun known e) v ≡ v
 bindings_apart named lives begun known e q v h =
     bound_apart q (bindings named lives begun known e) [] v

@@ -7,7 +7,7 @@ use Rattle.std.specs.BTreeMap.Range.{range_contains}
 use Rattle.std.proofs.lemmas.Bool.{and_parts, false≢true, eqb-true, eq-eqb, lt-ltb, ltb-true}
 use Rattle.std.proofs.lemmas.Slice.Eq.{bytes_eq-Decides}
 use Rattle.std.proofs.lemmas.List.Folds.{Any-from_list_any}
-use Rattle.number_tables.specs.declared.calls.Calls.{Calls}
+use Rattle.number_tables.specs.declared.call_table.Calls.{Calls}
 use Rattle.vat_view.specs.declared.tables.turns.goal_key.GoalKey.{GoalKey}
 use Rattle.vat_view.specs.declared.tables.waits.queued_call.QueuedCall.{QueuedCall}
 use Rattle.vat_view.specs.declared.tables.waits.waiting_calls.Receipt.{Receipt}

@@ -2,7 +2,7 @@
 use Rattle.std.proofs.Common.{◌≡◌, refl, ◌∙◌, ap, true, not, Option, Some, None, option_map}
 use Rattle.std.specs.Prelude.{is_some}
 use Rattle.std.proofs.lemmas.Bool.{and_parts, false≢true}
-use Rattle.number_tables.specs.declared.question.Question.{Question}
+use Rattle.number_tables.specs.declared.question.QuestionState.{QuestionState}
 use Rattle.vat_view.specs.Types.{Return, Finish, DecodedRecord, Wire, TableKey}
 use Rattle.decoded_records.specs.Past.{Past, Point, id}
 use Rattle.decoded_records.specs.Questions.{asks_elsewhere, noted_call, opening, return_of, is_opened, is_returned, is_returned_lightly, is_finished, is_released, is_taken, is_unfinished, is_late, closes}
@@ -12,7 +12,7 @@ use Rattle.vat_view.specs.Glue.Tables.{question_known}
 use Rattle.number_tables.specs.Glue.QuestionTables.{results_released_in, params_introduced_in, results_introduced_in, late_by, given_back_by}
 
 -- what is known of a question at an opening
-abbrev pub known_from : TableKey → Past → Point → Question
+abbrev pub known_from : TableKey → Past → Point → QuestionState
 known_from q past p = record {
   call = noted_call p.event;
   tail = asks_elsewhere p.event;
@@ -37,7 +37,7 @@ pub asked_at : (q : TableKey) (past : Past) (o : Option Point) → params_introd
 asked_at q past (Some p) = refl
 asked_at q past None = refl
 
-module _ (known : TableKey → Option Question) (before : Past) (same : (q : TableKey) → known q ≡ question_known q before) where
+module _ (known : TableKey → Option QuestionState) (before : Past) (same : (q : TableKey) → known q ≡ question_known q before) where
   pub late_known : (e : DecodedRecord) → UsesQuestions before e → late_by known e ≡ is_late before e
   late_known (Wire s k c rs (Return q release outcome light)) h = let i : TableKey = id k (not s) q in
       ap (λ o. results_released_in o) (same i) ∙ released_at i before (opening i before) (and_parts (is_opened i before) (not (is_returned i before)) h.returned_once).0

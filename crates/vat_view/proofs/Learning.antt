@@ -4,12 +4,12 @@ use Rattle.std.specs.Prelude.{Result, Ok, Err, OnErr, is_err, count_by}
 use Rattle.std.specs.List.{filter_map}
 use Rattle.std.specs.Option.{option_or}
 use Rattle.std.proofs.lemmas.Bool.{false≢true}
-use Rattle.number_tables.specs.declared.questions.Questions.{Questions}
+use Rattle.number_tables.specs.declared.question_table.Questions.{Questions}
 use Rattle.number_tables.specs.declared.exports_imports.ExportsImports.{ExportsImports}
 use Rattle.vat_view.specs.declared.record.introduced.Introduced.{Introduced}
 use Rattle.vat_view.specs.declared.record.introduced.Introduced.TheVariants.{Nothing}
 use Rattle.decoded_records.specs.declared.origin.Origin.{Origin}
-use Rattle.number_tables.specs.declared.question.Question.{Question}
+use Rattle.number_tables.specs.declared.question.QuestionState.{QuestionState}
 use Rattle.vat_view.specs.declared.tables.references.BoundReferences.{BoundReferences}
 use Rattle.vat_view.specs.Types.{DecodedRecord, Wire, View, TableKey}
 use Rattle.decoded_records.specs.Past.{Past, same_id}
@@ -21,7 +21,7 @@ use Rattle.decoded_records.specs.Glue.Parts.{has_message}
 use Rattle.vat_view.specs.Glue.Plain.{own_bindings, received_bindings}
 use Rattle.number_tables.specs.Glue.QuestionTables.{question_at, given_back_by, late_by}
 use Rattle.vat_view.specs.Glue.Tables.{noted_by, count_released, bound_at, bound_by, bound_from, view_by, origins_if, origins, first_in, AreBegun, bindings, IsTabled, AreTabled, IsFit}
-use Rattle.number_tables.specs.Glue.LifeTables.{count_at, origin_at}
+use Rattle.number_tables.specs.Glue.LifeTables.{held_count_at, origin_at}
 use Rattle.decoded_records.specs.Glue.Origins.{origins_from}
 use Rattle.vat_view.proofs.Knowing.{late_known}
 use Rattle.vat_view.proofs.Stepping.{tabled_close}
@@ -38,7 +38,7 @@ begun_now before e questions lives begun late number tabled uses is_late place s
     starts i ∙ ap₂ (λ b n. first_in i (origins_if b n e)) (is_late ∙ late_known (question_at questions) before tabled.known e uses) place
 
 -- a message binds references where it is received alone
-pub received_all : (named : ℕ → Option View) (lives : ExportsImports) (begun : Introduced) (known : TableKey → Option Question) (e : DecodedRecord) → has_message e ≡ true →
+pub received_all : (named : ℕ → Option View) (lives : ExportsImports) (begun : Introduced) (known : TableKey → Option QuestionState) (e : DecodedRecord) → has_message e ≡ true →
     received_bindings named lives begun known e ≡ bindings named lives begun known e
 received_all named lives begun known (Wire false k c rs m) h = refl
 received_all named lives begun known (Wire true k c rs m) h = refl
@@ -83,11 +83,11 @@ own_introduces : (before : Past) (e : DecodedRecord) → has_message e ≡ false
 own_introduces before (Wire s k c rs m) h = absurd (false≢true (sym h))
 own_introduces before _ h = (refl, refl)
 
-own_notes : (q : TableKey) (known : Option Question) (e : DecodedRecord) → has_message e ≡ false → known ≡ noted_by e [] q known
+own_notes : (q : TableKey) (known : Option QuestionState) (e : DecodedRecord) → has_message e ≡ false → known ≡ noted_by e [] q known
 own_notes q known (Wire s k c rs m) h = absurd (false≢true (sym h))
 own_notes q known _ h = refl
 
-own_gives : (known : TableKey → Option Question) (i : TableKey) (e : DecodedRecord) → has_message e ≡ false → (count_by (same_id i) (given_back_by known e) ≡ 0) × (count_released i e ≡ 0)
+own_gives : (known : TableKey → Option QuestionState) (i : TableKey) (e : DecodedRecord) → has_message e ≡ false → (count_by (same_id i) (given_back_by known e) ≡ 0) × (count_released i e ≡ 0)
 own_gives known i (Wire s k c rs m) h = absurd (false≢true (sym h))
 own_gives known i _ h = (refl, refl)
 
@@ -99,11 +99,11 @@ own_tabled : (before : Past) (e : DecodedRecord) (questions : Questions) (lives 
     IsTabled (e ∷ before) questions lives
 own_tabled before e questions lives own tabled uses gives =
     let none = own_introduces before e own in
-    tabled_close before e questions questions lives lives tabled uses gives [] none.0 [] none.1 (λ i. as_it_was (count_at lives i == 0) (origin_at lives i)) (own_opens e own) (λ q. own_notes q (question_at questions q) e own)
+    tabled_close before e questions questions lives lives tabled uses gives [] none.0 [] none.1 (λ i. as_it_was (held_count_at lives i == 0) (origin_at lives i)) (own_opens e own) (λ q. own_notes q (question_at questions q) e own)
     (λ i. let less = own_gives (question_at questions) i e own in let back = less.0 in let released = less.1 in omega (arith, back, released))
 
 -- the references that it binds
-own_listed : (named : ℕ → Option View) (lives : ExportsImports) (known : TableKey → Option Question) (e : DecodedRecord) → has_message e ≡ false →
+own_listed : (named : ℕ → Option View) (lives : ExportsImports) (known : TableKey → Option QuestionState) (e : DecodedRecord) → has_message e ≡ false →
     own_bindings e ≡ bindings named lives Nothing known e
 own_listed named lives known (Wire s k c rs m) h = absurd (false≢true (sym h))
 own_listed named lives known _ h = refl
@@ -132,7 +132,7 @@ module _ (before : Past) (e : DecodedRecord) (plain : descriptors e ≡ []) wher
   begins_none = either (is_late before e) [] ∙ ap (λ l. if is_late before e then [] else origins_from (length before) e 0 0 l) (sym plain)
 
 -- it binds nothing, where it has a message
-plain_listed : (named : ℕ → Option View) (lives : ExportsImports) (begun : Introduced) (known : TableKey → Option Question) (e : DecodedRecord) → has_message e ≡ true → descriptors e ≡ [] →
+plain_listed : (named : ℕ → Option View) (lives : ExportsImports) (begun : Introduced) (known : TableKey → Option QuestionState) (e : DecodedRecord) → has_message e ≡ true → descriptors e ≡ [] →
     [] ≡ bindings named lives begun known e
 plain_listed named lives begun known (Wire false k c rs m) h plain = ap (λ l. bound_from (view_by named lives begun known (Wire false k c rs m)) rs 0 l) (sym plain)
 plain_listed named lives begun known (Wire true k c rs m) h plain = refl

@@ -2,13 +2,13 @@
 use Rattle.std.proofs.Common.{◌≡◌, ◌==◌, ◌<◌, inl, inr, refl, sym, ◌∙◌, ap, ap₂, subst, ℕ, ◌∷◌, length, Bool, true, false, Option, Some, None, if◌then◌else◌, option_map, option_and_then}
 use Rattle.std.specs.Prelude.{Decides, is_some}
 use Rattle.std.proofs.lemmas.Bool.{cases_Bool, eqb-true, false≢true}
-use Rattle.number_tables.specs.declared.questions.Questions.{Questions}
+use Rattle.number_tables.specs.declared.question_table.Questions.{Questions}
 use Rattle.number_tables.specs.declared.exports_imports.ExportsImports.{ExportsImports}
 use Rattle.vat_view.specs.declared.tables.references.BoundReferences.{BoundReferences}
-use Rattle.number_tables.specs.declared.calls.Calls.{Calls}
+use Rattle.number_tables.specs.declared.call_table.Calls.{Calls}
 use Rattle.vat_view.specs.declared.tables.waits.waiting_calls.Receipt.{Receipt}
 use Rattle.vat_view.specs.declared.tables.waits.waiting_calls.WaitingCalls.{WaitingCalls}
-use Rattle.number_tables.specs.declared.question.Question.{Question}
+use Rattle.number_tables.specs.declared.question.QuestionState.{QuestionState}
 use Rattle.vat_view.specs.declared.tables.waits.loopbacks.Unechoed.{Unechoed}
 use Rattle.vat_view.specs.declared.tables.waits.embargoes.Embargoes.{Embargoes}
 use Rattle.vat_view.specs.Types.{Return, Exception, Canceled, Disembargo, Sender, DecodedRecord, Wire, View, TableKey}
@@ -208,7 +208,7 @@ nothing_there : {A : Type 0} (o : Option A) → is_some o ≡ false → o ≡ No
 nothing_there (Some x) h = absurd (false≢true (sym h))
 nothing_there None h = refl
 
-module _ (named : ℕ → Option View) (lives : ExportsImports) (known : TableKey → Option Question) (number : ℕ) (e : DecodedRecord) where
+module _ (named : ℕ → Option View) (lives : ExportsImports) (known : TableKey → Option QuestionState) (number : ℕ) (e : DecodedRecord) where
   pub changes_loopbacks : is_some (sender_loopback e) ≡ true → (looped : Option (TableKey × Unechoed)) → looped ≡ looped_by named lives known number e →
       change_of_loopbacks looped ≡ change_by named lives known number e
   changes_loopbacks asks looped is_looped =

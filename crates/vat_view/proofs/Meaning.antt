@@ -2,7 +2,7 @@
 use Rattle.std.proofs.Common.{◌≡◌, ◌<◌, ◌≤◌, inl, inr, refl, sym, ◌∙◌, ap, ℕ, ◌==◌, Bool, true, false, not, ◌&&◌, ◌||◌, Option, Some, None, if◌then◌else◌, option_map, option_and_then, arith}
 use Rattle.std.specs.Prelude.{find, is_some}
 use Rattle.std.proofs.lemmas.Bool.{cases_Bool, ltb-true, ltb-false, eq-eqb}
-use Rattle.number_tables.specs.declared.questions.Questions.{Questions}
+use Rattle.number_tables.specs.declared.question_table.Questions.{Questions}
 use Rattle.number_tables.specs.declared.exports_imports.ExportsImports.{ExportsImports}
 use Rattle.vat_view.specs.Types.{View, TableKey}
 use Rattle.decoded_records.specs.Past.{Past, Point, last_answer}
@@ -11,7 +11,7 @@ use Rattle.decoded_records.specs.Lives.{Birth, birth, begins, held, is_in_life}
 use Rattle.decoded_records.specs.Views.{view_given, number_view, placed_references}
 use Rattle.vat_view.specs.Glue.Tables.{question_known, origin_of, view_from, number_by, IsTabled}
 use Rattle.number_tables.specs.Glue.QuestionTables.{call_by}
-use Rattle.number_tables.specs.Glue.LifeTables.{count_at, origin_at, held_origin}
+use Rattle.number_tables.specs.Glue.LifeTables.{held_count_at, origin_at, held_origin}
 use Rattle.vat_view.proofs.Knowing.{known_from}
 use Rattle.number_tables.proofs.Raising.{positive}
 
@@ -28,12 +28,12 @@ given named ours None = refl
 pub held_known : (past : Past) (questions : Questions) (lives : ExportsImports) → IsTabled past questions lives → (i : TableKey) → held_origin lives i ≡ option_map origin_of (birth i past)
 held_known past questions lives tabled i = elim (cases_Bool (is_in_life i past)) [
   | inl alive ↦
-      let some : (count_at lives i == 0) ≡ false =
-      positive (count_at lives i) (let more : 0 < held i past = ltb-true 0 (held i past) alive in let same = tabled.counted i in omega (arith, more, same)) in
+      let some : (held_count_at lives i == 0) ≡ false =
+      positive (held_count_at lives i) (let more : 0 < held i past = ltb-true 0 (held i past) alive in let same = tabled.counted i in omega (arith, more, same)) in
       ap (λ b. if b then None else origin_at lives i) some ∙ tabled.born i alive ∙ sym (ap (λ b. option_map origin_of (if b then last_answer (begins i) past else None)) alive)
   | inr out ↦
-      let none : (count_at lives i == 0) ≡ true =
-      eq-eqb (count_at lives i) 0 (let less : held i past ≤ 0 = ltb-false 0 (held i past) out in let same = tabled.counted i in omega (arith, less, same)) in
+      let none : (held_count_at lives i == 0) ≡ true =
+      eq-eqb (held_count_at lives i) 0 (let less : held i past ≤ 0 = ltb-false 0 (held i past) out in let same = tabled.counted i in omega (arith, less, same)) in
       ap (λ b. if b then None else origin_at lives i) none ∙ sym (ap (λ b. option_map origin_of (if b then last_answer (begins i) past else None)) out)
 ]
 

@@ -1,7 +1,7 @@
 -- The table of turns after a record, and what it says of views.
 use Rattle.std.proofs.Common.{◌≡◌, ◌<◌, ◌≤◌, inl, inr, refl, sym, ◌∙◌, ap, ap₂, ℕ, ◌==◌, List, [], ◌∷◌, length, Bool, true, false, Option, Some, None, if◌then◌else◌, option_map, option_and_then, arith}
 use Rattle.std.proofs.lemmas.Bool.{cases_Bool, ltb-true, ltb-false, eq-eqb}
-use Rattle.number_tables.specs.declared.questions.Questions.{Questions}
+use Rattle.number_tables.specs.declared.question_table.Questions.{Questions}
 use Rattle.number_tables.specs.declared.exports_imports.ExportsImports.{ExportsImports}
 use Rattle.vat_view.specs.declared.tables.references.BoundReferences.{BoundReferences}
 use Rattle.vat_view.specs.declared.tables.turns.settlements.Settlements.{Settlements}
@@ -18,7 +18,7 @@ use Rattle.decoded_records.specs.Views.{view_of_reference}
 use Rattle.decoded_records.specs.Calls.{call_taken_from}
 use Rattle.vat_view.specs.Walks.{on_to, next, turned_to}
 use Rattle.number_tables.specs.Glue.QuestionTables.{question_at}
-use Rattle.number_tables.specs.Glue.LifeTables.{count_at, origin_at, held_origin}
+use Rattle.number_tables.specs.Glue.LifeTables.{held_count_at, origin_at, held_origin}
 use Rattle.vat_view.specs.Glue.Tables.{origin_of, bound_at, AreTabled, IsFit}
 use Rattle.vat_view.specs.Glue.TurnTables.{is_this, promise_of, import_at, unless_elsewhere, results_by, import_by, settlement_of, settled_by, turn_target, target_in, Settler, Turning, turning_of, goes, goes_to, landing_of, landing_view, settler, settler_at_point, settler_of, last_settler, settled_as, settles, handing, handover_of, handover_at, handover_after, SaysSameTurns, IsNoted, by_handover, AreSettled, call_behind_by, turning_by, goes_by}
 use Rattle.decoded_records.specs.Glue.Parts.{field_path}
@@ -41,15 +41,15 @@ module _ (before : Past) (questions : Questions) (lives : ExportsImports) (bound
   import_known : (i : TableKey) → import_by (held_origin lives i) ≡ option_map import_at (birth i before)
   import_known i = elim (cases_Bool (is_in_life i before)) [
     | inl alive ↦
-        let some : (count_at lives i == 0) ≡ false =
-        positive (count_at lives i) (let more : 0 < held i before = ltb-true 0 (held i before) alive in let same = kept.tabled.counted i in omega (arith, more, same)) in
+        let some : (held_count_at lives i == 0) ≡ false =
+        positive (held_count_at lives i) (let more : 0 < held i before = ltb-true 0 (held i before) alive in let same = kept.tabled.counted i in omega (arith, more, same)) in
         ap (λ b. import_by (if b then None else origin_at lives i)) some
         ∙ ap (λ o. import_by o) (kept.tabled.born i alive)
         ∙ import_from (last_answer (begins i) before)
         ∙ sym (ap (λ b. option_map import_at (if b then last_answer (begins i) before else None)) alive)
     | inr out ↦
-        let none : (count_at lives i == 0) ≡ true =
-        eq-eqb (count_at lives i) 0 (let less : held i before ≤ 0 = ltb-false 0 (held i before) out in let same = kept.tabled.counted i in omega (arith, less, same)) in
+        let none : (held_count_at lives i == 0) ≡ true =
+        eq-eqb (held_count_at lives i) 0 (let less : held i before ≤ 0 = ltb-false 0 (held i before) out in let same = kept.tabled.counted i in omega (arith, less, same)) in
         ap (λ b. import_by (if b then None else origin_at lives i)) none
         ∙ sym (ap (λ b. option_map import_at (if b then last_answer (begins i) before else None)) out)
   ]

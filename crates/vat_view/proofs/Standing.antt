@@ -2,7 +2,7 @@
 -- may turn views asks nothing and aborts no connection.
 use Rattle.std.proofs.Common.{◌≡◌, inl, refl, sym, ℕ, true, false, Option, Some, None, if◌then◌else◌}
 use Rattle.std.proofs.lemmas.Bool.{false≢true}
-use Rattle.number_tables.specs.declared.question.Question.{Question}
+use Rattle.number_tables.specs.declared.question.QuestionState.{QuestionState}
 use Rattle.number_tables.specs.declared.exports_imports.ExportsImports.{ExportsImports}
 use Rattle.vat_view.specs.declared.tables.turns.settlements.Settlements.{Settlements}
 use Rattle.vat_view.specs.declared.tables.turns.settlements.Settling.{Settling}
@@ -15,7 +15,7 @@ use Rattle.vat_view.specs.Glue.TurnTables.{may_turn, turn_target, settled_by, se
 use Rattle.decoded_records.specs.Glue.Parts.{field_path}
 use Rattle.vat_view.proofs.Connecting.{SaysMore}
 
-pub settles_none : (named : ℕ → Option View) (lives : ExportsImports) (known : TableKey → Option Question) (e : DecodedRecord) → may_turn e ≡ false → None ≡ settled_by named lives known e
+pub settles_none : (named : ℕ → Option View) (lives : ExportsImports) (known : TableKey → Option QuestionState) (e : DecodedRecord) → may_turn e ≡ false → None ≡ settled_by named lives known e
 settles_none named lives known (Fulfil r to) h = absurd (false≢true (sym h))
 settles_none named lives known (Break r) h = absurd (false≢true (sym h))
 settles_none named lives known (Answer c results) h = absurd (false≢true (sym h))
@@ -25,7 +25,7 @@ settles_none named lives known (Wire false k c rs (Return q release outcome ligh
 settles_none named lives known (Wire false k c rs (Resolve n resolution)) h = absurd (false≢true (sym h))
 settles_none named lives known _ h = refl
 
-pub takes_none : (known : TableKey → Option Question) (e : DecodedRecord) → may_turn e ≡ false → None ≡ taken_from_by known e
+pub takes_none : (known : TableKey → Option QuestionState) (e : DecodedRecord) → may_turn e ≡ false → None ≡ taken_from_by known e
 takes_none known (AnswerBy c by) h = absurd (false≢true (sym h))
 takes_none known (Wire false k c rs (Return q release outcome light)) h = absurd (false≢true (sym h))
 takes_none known _ h = refl

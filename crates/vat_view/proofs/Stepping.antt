@@ -1,8 +1,8 @@
 -- What one record more does to what looking back finds.
 use Rattle.std.proofs.Common.{ap₂, ◌<◌, ◌≡◌, ◌≤◌, ◌+◌, ◌-◌, refl, sym, ◌∙◌, ap, ℕ, List, ◌∷◌, Bool, true, false, not, Option, Some, None, if◌then◌else◌, option_map, count_by, arith}
 use Rattle.std.specs.Prelude.{is_some, Result, Ok, Err, OnOk, OnErr}
-use Rattle.number_tables.specs.declared.question.Question.{Question}
-use Rattle.number_tables.specs.declared.questions.Questions.{Questions}
+use Rattle.number_tables.specs.declared.question.QuestionState.{QuestionState}
+use Rattle.number_tables.specs.declared.question_table.Questions.{Questions}
 use Rattle.number_tables.specs.declared.exports_imports.ExportsImports.{ExportsImports}
 use Rattle.vat_view.specs.Types.{Results, Exception, Canceled, Elsewhere, TakeFrom, Bootstrap, Call, Return, Finish, Release, DecodedRecord, Wire, TableKey}
 use Rattle.decoded_records.specs.Past.{Past, Point, point, id, same_id, names, last_answer, last_since}
@@ -11,7 +11,7 @@ use Rattle.decoded_records.specs.Lives.{begins, introductions, introductions_at,
 use Rattle.decoded_records.specs.Uses.{UsesQuestions}
 use Rattle.number_tables.specs.Glue.QuestionTables.{question_at, given_back_by, just_opened, with_return, with_light_return, with_finish, with_release, with_taken, IsPut, IsSameQuestions}
 use Rattle.vat_view.specs.Glue.Tables.{question_known, origin_of, origins, count_released, changed_if, noted_by, IsTabled}
-use Rattle.number_tables.specs.Glue.LifeTables.{count_at, origin_at, raised_origin}
+use Rattle.number_tables.specs.Glue.LifeTables.{held_count_at, origin_at, raised_origin}
 use Rattle.decoded_records.specs.declared.origin.Origin.{Origin}
 use Rattle.vat_view.proofs.Beginning.{counted_origins, born_step}
 use Rattle.std.proofs.lemmas.Bool.{ltb-true}
@@ -20,7 +20,7 @@ use Rattle.vat_view.proofs.Knowing.{known_from, closed_known}
 -- ---- questions
 
 -- what is known at an opening, where b says whether the record now is one
-abbrev pub known_open : TableKey → Past → Bool → Point → Question
+abbrev pub known_open : TableKey → Past → Bool → Point → QuestionState
 known_open q before b p = record {
   call = noted_call p.event;
   tail = asks_elsewhere p.event;
@@ -41,7 +41,7 @@ opens_step q before e false = refl
 
 -- what is known behind a Return, where b, l and c say whether it returns this question, whether lightly, and whether it
 -- takes its results
-abbrev pub known_return : TableKey → Past → DecodedRecord → Bool → Bool → Bool → Point → Question
+abbrev pub known_return : TableKey → Past → DecodedRecord → Bool → Bool → Bool → Point → QuestionState
 known_return q before e b l c p = record {
   call = noted_call p.event;
   tail = asks_elsewhere p.event;
@@ -76,7 +76,7 @@ returns_step q before e false true false (Some p) = refl
 returns_step q before e false false true (Some p) = refl
 returns_step q before e false false false (Some p) = refl
 
-abbrev pub known_finish : TableKey → Past → DecodedRecord → Bool → Bool → Point → Question
+abbrev pub known_finish : TableKey → Past → DecodedRecord → Bool → Bool → Point → QuestionState
 known_finish q before e b c p = record {
   call = noted_call p.event;
   tail = asks_elsewhere p.event;
@@ -133,7 +133,7 @@ none_some : {A : Type 0} {x : A} → None ≡ Some x → ⊥
 none_some e = cc
 
 -- a record that opens a question notes nothing of another, and gives nothing back
-opens_notes : (e : DecodedRecord) (i : TableKey) → question_opened e ≡ Some i → (ids : List TableKey) (q : TableKey) (known : Option Question) → noted_by e ids q known ≡ known
+opens_notes : (e : DecodedRecord) (i : TableKey) → question_opened e ≡ Some i → (ids : List TableKey) (q : TableKey) (known : Option QuestionState) → noted_by e ids q known ≡ known
 opens_notes (Wire s k c rs (Bootstrap n)) i h ids q known = refl
 opens_notes (Wire s k c rs (Call n t f m p yourself)) i h ids q known = refl
 opens_notes _ i h ids q known = absurd (none_some h)
@@ -176,8 +176,8 @@ three_err (Ok x) f p q s = p
 three_err (Err e) f p q s = f p q s
 
 -- tables that are as they were, but for the origins of numbers that aren't held
-pub tabled_same : (before : Past) (questions later : Questions) (lives after : ExportsImports) → IsSameQuestions questions later → ((i : TableKey) → count_at after i ≡ count_at lives i) →
-    ((i : TableKey) → 0 < count_at lives i → origin_at after i ≡ origin_at lives i) → IsTabled before questions lives → IsTabled before later after
+pub tabled_same : (before : Past) (questions later : Questions) (lives after : ExportsImports) → IsSameQuestions questions later → ((i : TableKey) → held_count_at after i ≡ held_count_at lives i) →
+    ((i : TableKey) → 0 < held_count_at lives i → origin_at after i ≡ origin_at lives i) → IsTabled before questions lives → IsTabled before later after
 tabled_same before questions later lives after known counted born tabled = record {
   known = λ q. known q ∙ tabled.known q;
   counted = λ i. counted i ∙ tabled.counted i;
@@ -188,7 +188,7 @@ tabled_same before questions later lives after known counted born tabled = recor
 module _ (before : Past) (e : DecodedRecord) (questions later : Questions) (lives after : ExportsImports) (tabled : IsTabled before questions lives)
     (uses : UsesQuestions before e) (gives : GivesBackHeld before e) (ids : List TableKey) (introduced : ids ≡ introductions before e)
     (os : List (TableKey × Origin)) (begun : os ≡ origins before e)
-    (births : (i : TableKey) → origin_at after i ≡ raised_origin (count_at lives i) (origin_at lives i) i os) where
+    (births : (i : TableKey) → origin_at after i ≡ raised_origin (held_count_at lives i) (origin_at lives i) i os) where
   intro_count : (i : TableKey) → count_by (λ x. same_id i x.0) os ≡ introduces i before e
   intro_count i = ap (λ l. count_by (λ x. same_id i x.0) l) begun ∙ counted_origins i before e
 
@@ -198,7 +198,7 @@ module _ (before : Past) (e : DecodedRecord) (questions later : Questions) (live
 
   -- a record that opens a question
   pub tabled_open : (q : TableKey) → question_opened e ≡ Some q → IsPut q (just_opened (noted_call e) (asks_elsewhere e) ids) questions later →
-      ((i : TableKey) → count_at after i ≡ count_at lives i + count_by (λ x. same_id i x.0) os) → IsTabled (e ∷ before) later after
+      ((i : TableKey) → held_count_at after i ≡ held_count_at lives i + count_by (λ x. same_id i x.0) os) → IsTabled (e ∷ before) later after
   tabled_open q o put counts = record {
     known = λ j. put j ∙ ap₃ j ∙ sym (opens_notes e q o (introductions before e) j _) ∙ sym (known_step j before e);
     counted = λ i. counts i ∙ sum i ∙ counted_step before e tabled.balanced gives i;
@@ -212,12 +212,12 @@ module _ (before : Past) (e : DecodedRecord) (questions later : Questions) (live
           ∙ ap (λ k. if same_id j q then Some (just_opened (noted_call e) (asks_elsewhere e) (introductions before e)) else k) (tabled.known j)
           ∙ ap (λ o. if names j o then Some (just_opened (noted_call e) (asks_elsewhere e) (introductions before e)) else question_known j before) (sym o)
 
-      sum : (i : TableKey) → count_at lives i + count_by (λ x. same_id i x.0) os ≡ held i before + introduces i before e - gives_back i before e
+      sum : (i : TableKey) → held_count_at lives i + count_by (λ x. same_id i x.0) os ≡ held i before + introduces i before e - gives_back i before e
       sum i = let none = opens_gives e q o before i in let counted = tabled.counted i in let same = intro_count i in omega (arith, none, counted, same)
 
   -- a record that opens none
   pub tabled_close : question_opened e ≡ None → ((j : TableKey) → question_at later j ≡ noted_by e ids j (question_at questions j)) →
-      ((i : TableKey) → count_at after i ≡ count_at lives i + count_by (λ x. same_id i x.0) os - count_by (same_id i) (given_back_by (question_at questions) e) - count_released i e) →
+      ((i : TableKey) → held_count_at after i ≡ held_count_at lives i + count_by (λ x. same_id i x.0) os - count_by (same_id i) (given_back_by (question_at questions) e) - count_released i e) →
       IsTabled (e ∷ before) later after
   tabled_close o noted counts = record {
     known = λ j. noted j ∙ ap (λ l. noted_by e l j (question_at questions j)) introduced ∙ ap (λ k. noted_by e (introductions before e) j k) (tabled.known j ∙ unopened j)
@@ -230,7 +230,7 @@ module _ (before : Past) (e : DecodedRecord) (questions later : Questions) (live
       unopened : (j : TableKey) → question_known j before ≡ (if names j (question_opened e) then Some (just_opened (noted_call e) (asks_elsewhere e) (introductions before e)) else question_known j before)
       unopened j = ap (λ o. if names j o then Some (just_opened (noted_call e) (asks_elsewhere e) (introductions before e)) else question_known j before) (sym o)
 
-      sum : (i : TableKey) → count_at lives i + count_by (λ x. same_id i x.0) os - count_by (same_id i) (given_back_by (question_at questions) e) - count_released i e
+      sum : (i : TableKey) → held_count_at lives i + count_by (λ x. same_id i x.0) os - count_by (same_id i) (given_back_by (question_at questions) e) - count_released i e
           ≡ held i before + introduces i before e - gives_back i before e
       sum i =
           let parts = gives_parts i before e in

@@ -14,7 +14,7 @@ use Rattle.link_check.specs.Prefix.{frames_sent, frames_received, IsPrefix}
 use Rattle.vat_log.specs.Passages.{frame_sent, frame_received}
 use Rattle.wire_steps.specs.Glue.{HasCome}
 use Rattle.wire_steps.specs.Parts.{HasParts, HasAll}
-use Rattle.wire_steps.specs.declared.end_log.Counts.{Counts}
+use Rattle.wire_steps.specs.declared.end_log.EndCounts.{EndCounts}
 
 -- a record of which a test gives nothing changes nothing of what it gives
 given_none : (h : Body → Option (List ℕ)) (xs ys : List Body) (b : Body) → h b ≡ None → ys ≡ xs ++ (b ∷ []) → filter_map h ys ≡ filter_map h xs
@@ -34,7 +34,7 @@ take_one_more xs k x there =
     ap (λ y. take k xs ++ (y ∷ [])) (sym same) ∙ sym (take-suc xs k [] within) ∙ ap (λ n. take n xs) (sym (add-one k))
 
 -- the next frame of the own file is sent
-pub sends_next : (own peer : List (List ℕ)) (counts : Counts) (old new : Log) (call : ℕ) (references : List ℕ) (frame : List ℕ) → HasCome own peer counts old → slice_get own counts.sent ≡ Some frame → new.records ≡ old.records ++ (Send 0 call references frame ∷ []) → HasCome own peer (record { sent = counts.sent + 1; received = counts.received }) new
+pub sends_next : (own peer : List (List ℕ)) (counts : EndCounts) (old new : Log) (call : ℕ) (references : List ℕ) (frame : List ℕ) → HasCome own peer counts old → slice_get own counts.sent ≡ Some frame → new.records ≡ old.records ++ (Send 0 call references frame ∷ []) → HasCome own peer (record { sent = counts.sent + 1; received = counts.received }) new
 sends_next own peer counts old new call references frame come there grown =
     let within : counts.sent < length own = slice_get_within own counts.sent frame there in
     record {
@@ -45,7 +45,7 @@ sends_next own peer counts old new call references frame come there grown =
     }
 
 -- the next frame of the other file is received
-pub receives_next : (own peer : List (List ℕ)) (counts : Counts) (old new : Log) (call : ℕ) (references : List ℕ) (frame : List ℕ) → HasCome own peer counts old → slice_get peer counts.received ≡ Some frame → new.records ≡ old.records ++ (Receive 0 call references frame ∷ []) → HasCome own peer (record { sent = counts.sent; received = counts.received + 1 }) new
+pub receives_next : (own peer : List (List ℕ)) (counts : EndCounts) (old new : Log) (call : ℕ) (references : List ℕ) (frame : List ℕ) → HasCome own peer counts old → slice_get peer counts.received ≡ Some frame → new.records ≡ old.records ++ (Receive 0 call references frame ∷ []) → HasCome own peer (record { sent = counts.sent; received = counts.received + 1 }) new
 receives_next own peer counts old new call references frame come there grown =
     let within : counts.received < length peer = slice_get_within peer counts.received frame there in
     record {
@@ -56,7 +56,7 @@ receives_next own peer counts old new call references frame come there grown =
     }
 
 -- a record that is no frame is put behind the others
-pub notes_one : (own peer : List (List ℕ)) (counts : Counts) (old new : Log) (body : Body) → HasCome own peer counts old → frame_sent 0 body ≡ None → frame_received 0 body ≡ None → new.records ≡ old.records ++ (body ∷ []) → HasCome own peer counts new
+pub notes_one : (own peer : List (List ℕ)) (counts : EndCounts) (old new : Log) (body : Body) → HasCome own peer counts old → frame_sent 0 body ≡ None → frame_received 0 body ≡ None → new.records ≡ old.records ++ (body ∷ []) → HasCome own peer counts new
 notes_one own peer counts old new body come not_sent not_received grown =
     record {
       sent = given_none (frame_sent 0) old.records new.records body not_sent grown ∙ come.sent;
@@ -69,7 +69,7 @@ prefix_of : (xs ys : List (List ℕ)) (k : ℕ) → xs ≡ take k ys → IsPrefi
 prefix_of xs ys k same = (drop k ys, sym (take-append-drop k ys) ∙ ap (λ l. l ++ drop k ys) (sym same))
 
 -- what a log that has come so far has of both files
-pub come_so_far : (own peer : List (List ℕ)) (counts : Counts) (log : Log) → HasCome own peer counts log → HasParts own peer log
+pub come_so_far : (own peer : List (List ℕ)) (counts : EndCounts) (log : Log) → HasCome own peer counts log → HasParts own peer log
 come_so_far own peer counts log come =
     record {
       sent = prefix_of (frames_sent 0 log) own counts.sent come.sent;
@@ -80,7 +80,7 @@ all_of : (xs ys : List (List ℕ)) (k : ℕ) → k ≡ length ys → xs ≡ take
 all_of xs ys k whole same = same ∙ take_all k ys (omega (arith, whole))
 
 -- what it has where it has come to the end
-pub come_to_the_end : (own peer : List (List ℕ)) (counts : Counts) (log : Log) → counts.sent ≡ length own → counts.received ≡ length peer → HasCome own peer counts log → HasAll own peer log
+pub come_to_the_end : (own peer : List (List ℕ)) (counts : EndCounts) (log : Log) → counts.sent ≡ length own → counts.received ≡ length peer → HasCome own peer counts log → HasAll own peer log
 come_to_the_end own peer counts log all_sent all_received come =
     record {
       sent = all_of (frames_sent 0 log) own counts.sent all_sent come.sent;

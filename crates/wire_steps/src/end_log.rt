@@ -6,7 +6,7 @@ ghost use Rattle.vat_log.specs.Passages.{frame_sent, frame_received};
 ghost use Rattle.wire_steps.specs.Glue.{HasCome};
 ghost use Rattle.wire_steps.specs.Parts.{HasParts, HasAll};
 
-use crate::steps::EndStep;
+use crate::end_steps::EndStep;
 use bytes::Bytes;
 use std::alloc::{AllocError, AllocFailed, Global};
 use std::sync::Arc;
@@ -26,7 +26,7 @@ pub struct EndLog {
 
 /// How many frames of both files are in a log.
 #[derive(Clone, Copy)]
-pub struct Counts {
+pub struct EndCounts {
     /// Of the own file, which are sent.
     pub sent: usize,
     /// Of the other file, which are received.
@@ -34,7 +34,7 @@ pub struct Counts {
 }
 
 /// A message at which a log would be too long, by its number.
-#[derive(Clone, Copy, Debug)]
+#[derive(Clone, Copy)]
 pub enum TooLongAt {
     /// Of the own file.
     Own(usize),
@@ -43,7 +43,7 @@ pub enum TooLongAt {
 }
 
 /// Why there is no log.
-#[derive(Clone, Copy, Debug)]
+#[derive(Clone, Copy)]
 pub enum LogFault {
     /// It would have more records than its limit, or a frame is longer than a frame may be: the message of the own file
     /// that stands next, or of the other one, by its number.
@@ -96,8 +96,8 @@ fn push_send(
     noted: (u64, References),
     own: &[Bytes],
     peer: &[Bytes],
-    counts: Counts,
-) -> Result<Counts, LogFault>
+    counts: EndCounts,
+) -> Result<EndCounts, LogFault>
     requires { HasCome own.now peer.now counts writer.old }
     ensures come { IfOk result (λ come. HasCome own.now peer.now come writer.new) }
     ensures vat { writer.new.vat ≡ writer.old.vat }
@@ -113,7 +113,7 @@ fn push_send(
         frame: frame.clone()?,
     };
     push(writer, body, TooLongAt::Own(counts.sent))?;
-    Ok(Counts {
+    Ok(EndCounts {
         sent: counts.sent + 1,
         received: counts.received,
     })
@@ -125,8 +125,8 @@ fn push_receive(
     noted: (u64, References),
     own: &[Bytes],
     peer: &[Bytes],
-    counts: Counts,
-) -> Result<Counts, LogFault>
+    counts: EndCounts,
+) -> Result<EndCounts, LogFault>
     requires { HasCome own.now peer.now counts writer.old }
     ensures come { IfOk result (λ come. HasCome own.now peer.now come writer.new) }
     ensures vat { writer.new.vat ≡ writer.old.vat }
@@ -142,7 +142,7 @@ fn push_receive(
         frame: frame.clone()?,
     };
     push(writer, body, TooLongAt::Peers(counts.received))?;
-    Ok(Counts {
+    Ok(EndCounts {
         sent: counts.sent,
         received: counts.received + 1,
     })
@@ -154,8 +154,8 @@ fn push_step(
     step: EndStep,
     own: &[Bytes],
     peer: &[Bytes],
-    counts: Counts,
-) -> Result<Counts, LogFault>
+    counts: EndCounts,
+) -> Result<EndCounts, LogFault>
     requires { HasCome own.now peer.now counts writer.old }
     ensures come { IfOk result (λ come. HasCome own.now peer.now come writer.new) }
     ensures vat { writer.new.vat ≡ writer.old.vat }
@@ -193,7 +193,7 @@ pub fn log_of(
     ensures vat { IfOk result (λ made. (arc_value made.log).vat ≡ vat) }
 {
     let mut writer = LogWriter::later(alloc, vat);
-    let mut counts = Counts {
+    let mut counts = EndCounts {
         sent: 0,
         received: 0,
     };

@@ -7,7 +7,7 @@
 #![tactic(auto)]
 
 mod end_log;
-mod steps;
+mod end_steps;
 
 pub use end_log::{EndLog, LogFault, TooLongAt, log_of};
-pub use steps::{EndStep, Steps};
+pub use end_steps::{EndStep, Steps};

@@ -20,8 +20,8 @@ abbrev pub AddsFirst : Edge → List Edge → List Edge → Type 0
 AddsFirst e old new = (OneOf (IsAlike e) old × (new ≡ old)) ⊎ ((OneOf (IsAlike e) old → ⊥) × (new ≡ old ++ e ∷ []))
 
 -- one edge's witness stands before another's
-abbrev pub ComesBefore : Edge → Edge → Type 0
-ComesBefore f e = IsEarlier f.at_record f.bound_index e.at_record e.bound_index
+abbrev pub EdgeComesBefore : Edge → Edge → Type 0
+EdgeComesBefore f e = IsEarlier f.at_record f.bound_index e.at_record e.bound_index
 
 -- where a step of the past binds a cap, told as an edge
 abbrev pub IsBoundIn : PastSteps → Edge → Type 0
@@ -33,8 +33,8 @@ IsBoundIn (_ ∷ before) e = IsBoundIn before e
 -- the edges found are those of all that was bound so far: each is of another vat's cap, and the first of its vat and cap; and
 -- for each that was bound one stands there that doesn't come later
 pub record IsFound (bound : Edge → Type 0) (edges : List Edge) : Type 0 where
-  pub sound : (e : Edge) → OneOf (λ x. x ≡ e) edges → IsForeign e.vat e.cap × bound e × ((f : Edge) → bound f → IsAlike e f → ComesBefore f e → ⊥)
-  pub covers : (f : Edge) → IsForeign f.vat f.cap → bound f → (e : Edge) × OneOf (λ x. x ≡ e) edges × IsAlike f e × (ComesBefore e f ⊎ (e ≡ f))
+  pub sound : (e : Edge) → OneOf (λ x. x ≡ e) edges → IsForeign e.vat e.cap × bound e × ((f : Edge) → bound f → IsAlike e f → EdgeComesBefore f e → ⊥)
+  pub covers : (f : Edge) → IsForeign f.vat f.cap → bound f → (e : Edge) × OneOf (λ x. x ≡ e) edges × IsAlike f e × (EdgeComesBefore e f ⊎ (e ≡ f))
 
 -- the cap is another vat's
 abbrev pub foreign : ℕ → Cap → Bool

@@ -2,12 +2,12 @@
 use Rattle.std.specs.BTreeMap.{get}
 use Rattle.std.specs.Ordering.{nat_cmp}
 use Rattle.std.specs.Prelude.{◌==◌, ℕ, count_by, unwrap_or}
-use Rattle.call_order.specs.declared.counts.Counts.{Counts}
+use Rattle.call_order.specs.declared.taken_counts.TakenCounts.{TakenCounts}
 use Rattle.turn_taking.specs.Turns.{Turns}
 
 -- how many records a vat took, by the table
-abbrev pub count_of : Counts → ℕ → ℕ
-count_of counts v = unwrap_or (get nat_cmp counts.vats v) 0
+abbrev pub taken_count : TakenCounts → ℕ → ℕ
+taken_count counts v = unwrap_or (get nat_cmp counts.vats v) 0
 
 -- how many of these turns are a vat's
 abbrev pub turns_counted : ℕ → Turns → ℕ

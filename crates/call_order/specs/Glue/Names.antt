@@ -4,7 +4,7 @@ use Rattle.std.specs.BTreeMap.{get}
 use Rattle.std.specs.Ordering.{nat_cmp, ordering_then}
 use Rattle.std.specs.Prelude.{◌≡◌, ◌==◌, ◌&&◌, ℕ, List, true, false, Option, Some, None, if◌then◌else◌, unwrap_or}
 use Rattle.std.specs.declared.cmp.Ordering.{Ordering}
-use Rattle.call_order.specs.declared.names.Names.{Names}
+use Rattle.call_order.specs.declared.names_of_calls.Names.{Names}
 use Rattle.call_trace.specs.Naming.{call_named}
 use Rattle.call_trace.specs.Types.{Name, Step}
 use Rattle.run_model.specs.Steps.{call}
@@ -13,12 +13,12 @@ use Rattle.decoded_records.specs.Calls.{is_at_vat}
 use Rattle.decoded_records.specs.Past.{Past}
 
 -- by vat, then by number
-abbrev pub key_cmp : ℕ × ℕ → ℕ × ℕ → Ordering
-key_cmp x y = ordering_then (nat_cmp x.0 y.0) (nat_cmp x.1 y.1)
+abbrev pub call_key_cmp : ℕ × ℕ → ℕ × ℕ → Ordering
+call_key_cmp x y = ordering_then (nat_cmp x.0 y.0) (nat_cmp x.1 y.1)
 
 -- the name with which a call came to a vat, where it is still known
 abbrev pub name_come : Names → ℕ → ℕ → Option Name
-name_come names v c = get key_cmp names.came (v, c)
+name_come names v c = get call_key_cmp names.came (v, c)
 
 -- the name of a call of a vat: that one, or else that of a call of the vat's own
 abbrev pub name_in : Names → ℕ → ℕ → Name

@@ -10,20 +10,20 @@ use Rattle.undelivered.specs.Order.{PastCalls, AreOnce, early}
 use Rattle.undelivered.specs.declared.moment.Moment.{Moment}
 
 -- what was told of a vat's calls, the newest first
-abbrev pub told_of : Told → ℕ → PastCalls
-told_of told v = unwrap_or (get nat_cmp told.vats v) []
+abbrev pub calls_told : Told → ℕ → PastCalls
+calls_told told v = unwrap_or (get nat_cmp told.vats v) []
 
 -- a vat was told this of its calls
-abbrev pub IsTold : ℕ → Moment → Told → Told → Type 0
-IsTold v moment old new = (w : ℕ) → told_of new w ≡ (if v == w then moment ∷ told_of old w else told_of old w)
+abbrev pub IsToldMore : ℕ → Moment → Told → Told → Type 0
+IsToldMore v moment old new = (w : ℕ) → calls_told new w ≡ (if v == w then moment ∷ calls_told old w else calls_told old w)
 
 -- no call of a vat was told twice
 abbrev pub AreAllOnce : Told → Type 0
-AreAllOnce told = (v : ℕ) → AreOnce (told_of told v)
+AreAllOnce told = (v : ℕ) → AreOnce (calls_told told v)
 
 -- a call of one of the vats is delivered too early at this place
 abbrev pub IsEarlyIn : Told → ℕ × ℕ → Type 0
-IsEarlyIn told place = (v : ℕ) × OneOf (λ p. p ≡ place) (early (told_of told v))
+IsEarlyIn told place = (v : ℕ) × OneOf (λ p. p ≡ place) (early (calls_told told v))
 
 -- none is; or this is the least place where one is
 abbrev pub IsFaultIn : Told → Option (ℕ × ℕ) → Type 0

@@ -5,8 +5,8 @@ use Rattle.std.specs.Bool.{beq}
 use Rattle.std.specs.List.{list_any}
 use Rattle.std.specs.Ordering.{nat_cmp}
 use Rattle.std.specs.Prelude.{◌≡◌, ◌==◌, ◌∷◌, ◌++◌, ◌&&◌, ℕ, List, [], Bool, true, false, not, Option, Some, None, if◌then◌else◌, drop, filter_map, reverse, slice_get, unwrap_or, option_map}
-use Rattle.call_order.specs.declared.under_way.ConnectionCalls.{ConnectionCalls}
-use Rattle.call_order.specs.declared.under_way.CallsUnderWay.{CallsUnderWay}
+use Rattle.call_order.specs.declared.calls_under_way.ConnectionCalls.{ConnectionCalls}
+use Rattle.call_order.specs.declared.calls_under_way.CallsUnderWay.{CallsUnderWay}
 use Rattle.call_trace.specs.Types.{Name, Step}
 use Rattle.run_model.specs.Has.{call_in_message}
 use Rattle.run_model.specs.Links.{IsEnd, other_user, sent_to, receives_on}

@@ -4,7 +4,7 @@ use Rattle.std.specs.Prelude.{◌≡◌, ◌==◌, ◌≤◌, ◌∷◌, ◌++�
 use Rattle.std.specs.BTreeMap.{get}
 use Rattle.std.specs.Ordering.{nat_cmp}
 use Rattle.call_trace.specs.Naming.{message_of_step}
-use Rattle.call_trace.specs.Glue.Overtaking.{key_cmp}
+use Rattle.call_trace.specs.Glue.Overtaking.{vat_number_cmp}
 use Rattle.call_trace.specs.Types.{Message, Step}
 use Rattle.call_trace.specs.declared.steps.channels.Channels.{Channels}
 use Rattle.run_model.specs.Links.{receives_on}
@@ -12,12 +12,12 @@ use Rattle.run_model.specs.Steps.{count_steps}
 use Rattle.run_model.specs.declared.step.Step.TheVariants.{Send}
 
 -- the sends that the table has of a connection: whose each is, and the number of its step
-abbrev pub sends_on : Channels → ℕ → List (ℕ × ℕ)
-sends_on table k = unwrap_or (option_map (λ sends. sends.items) (get nat_cmp table.sends k)) []
+abbrev pub noted_sends : Channels → ℕ → List (ℕ × ℕ)
+noted_sends table k = unwrap_or (option_map (λ sends. sends.items) (get nat_cmp table.sends k)) []
 
 -- how many of the sends on a connection a vat has behind it
-abbrev pub passed_on : Channels → ℕ → ℕ → ℕ
-passed_on table v k = unwrap_or (get key_cmp table.passed (v, k)) 0
+abbrev pub sends_behind : Channels → ℕ → ℕ → ℕ
+sends_behind table v k = unwrap_or (get vat_number_cmp table.passed (v, k)) 0
 
 -- the number of the step, where another vat than this one sent
 abbrev pub by_other : ℕ → ℕ × ℕ → Option ℕ
@@ -35,9 +35,9 @@ sends_of k (_ ∷ before) = sends_of k before
 
 -- the table is that of these steps: it has their sends, and a vat has behind it as many sends of others as it received
 pub record AreLines (before : List Step) (table : Channels) : Type 0 where
-  pub sends : (k : ℕ) → sends_on table k ≡ sends_of k before
-  pub within : (v k : ℕ) → passed_on table v k ≤ length (sends_on table k)
-  pub received : (v k : ℕ) → length (by_others v (take (passed_on table v k) (sends_on table k))) ≡ count_steps (receives_on v k) before
+  pub sends : (k : ℕ) → noted_sends table k ≡ sends_of k before
+  pub within : (v k : ℕ) → sends_behind table v k ≤ length (noted_sends table k)
+  pub received : (v k : ℕ) → length (by_others v (take (sends_behind table v k) (noted_sends table k))) ≡ count_steps (receives_on v k) before
 
 -- the message of the step of this number
 abbrev pub message_by : List Step → ℕ → Option Message

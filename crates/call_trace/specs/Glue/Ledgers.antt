@@ -2,7 +2,7 @@
 -- how its calls and views are named by them.
 use Rattle.std.specs.Prelude.{◌≡◌, ◌==◌, ◌+◌, ◌++◌, ◌∷◌, ℕ, List, [], true, false, Option, Some, None, if◌then◌else◌, IsSome, map, reverse, option_and_then, option_map, slice_get}
 use Rattle.rising_table.specs.Entries.{entry_at}
-use Rattle.call_trace.specs.declared.records.call_names.CallNames.{CallNames}
+use Rattle.call_trace.specs.declared.records.bound_names.CallNames.{CallNames}
 use Rattle.call_trace.specs.declared.records.vat_ledger.VatLedger.{VatLedger}
 use Rattle.call_trace.specs.Naming.{Naming, message_of_step, call_named, cap_at}
 use Rattle.call_trace.specs.Part.{promise_in}
@@ -51,8 +51,8 @@ abbrev pub view_in : List Step → VatLedger → Option View → Option Cap
 view_in steps ledger view = option_and_then (cap_in steps ledger) view
 
 -- how a vat names its calls and views by the tables
-abbrev pub names_in : List Step → VatLedger → Naming
-names_in steps ledger = record { vat = ledger.vat; call = call_name_in ledger; cap = cap_in steps ledger }
+abbrev pub naming_by_tables : List Step → VatLedger → Naming
+naming_by_tables steps ledger = record { vat = ledger.vat; call = call_name_in ledger; cap = cap_in steps ledger }
 
 -- the cap for which a descriptor stands that has this view; Nothing where it is none
 abbrev pub cap_said : Naming → Descriptor → Option View → Option Cap
@@ -60,13 +60,13 @@ cap_said names NoCap view = Some cap.Nothing
 cap_said names d view = option_and_then names.cap view
 
 -- the view of these at a place, if one is there
-abbrev pub view_at : List (Option View) → ℕ → Option View
-view_at views i = option_and_then (λ view. view) (slice_get views i)
+abbrev pub kept_view : List (Option View) → ℕ → Option View
+kept_view views i = option_and_then (λ view. view) (slice_get views i)
 
 -- the caps for which descriptors stand that have the views of these from a place on
 abbrev pub caps_from : Naming → List (Option View) → ℕ → List Descriptor → List (Option Cap)
 caps_from names views place [] = []
-caps_from names views place (d ∷ ds) = cap_said names d (view_at views place) ∷ caps_from names views (place + 1) ds
+caps_from names views place (d ∷ ds) = cap_said names d (kept_view views place) ∷ caps_from names views (place + 1) ds
 
 -- all of them
 abbrev pub caps_said : Naming → List (Option View) → List Descriptor → Option (List Cap)
@@ -117,7 +117,7 @@ sent_said names facts c m = message_said names facts c (caps_said names facts.ca
 abbrev pub results_from : Naming → List (Option View) → ℕ → List (ℕ × List ℕ) → List (Option (List ℕ × Cap))
 results_from names views place [] = []
 results_from names views place (result ∷ rest) =
-    option_map (λ c. (result.1, c)) (option_and_then names.cap (view_at views place)) ∷ results_from names views (place + 1) rest
+    option_map (λ c. (result.1, c)) (option_and_then names.cap (kept_view views place)) ∷ results_from names views (place + 1) rest
 
 -- all of them
 abbrev pub results_said : Naming → List (Option View) → List (ℕ × List ℕ) → Option (List (List ℕ × Cap))
@@ -130,7 +130,7 @@ named_said names views = all_there (map (option_and_then names.cap) views)
 -- the step that keeps a promise, by what both references stand for
 abbrev pub fulfil_said : Naming → Facts → Option Step
 fulfil_said names facts =
-    option_and_then (λ p. option_map (λ c. step.Fulfil names.vat p c) (option_and_then names.cap (view_at facts.references 1))) (promise_in (view_at facts.references 0))
+    option_and_then (λ p. option_map (λ c. step.Fulfil names.vat p c) (option_and_then names.cap (kept_view facts.references 1))) (promise_in (kept_view facts.references 0))
 
 -- the step of a record that names a call and no other cap
 abbrev pub of_call_said : ℕ → (ℕ → Option Name) → DecodedRecord → Option Step
@@ -146,7 +146,7 @@ answer_by_said v call c by = option_and_then (λ name. option_map (λ by. step.A
 -- the step that makes a call
 abbrev pub make_said : Naming → Facts → DecodedRecord → Option Step
 make_said names facts (Make c r interface method) =
-    option_map (λ to. step.Make names.vat c to r interface method) (option_and_then names.cap (view_at facts.references 0))
+    option_map (λ to. step.Make names.vat c to r interface method) (option_and_then names.cap (kept_view facts.references 0))
 make_said names facts _ = None
 
 -- the step that sends a message
@@ -163,19 +163,19 @@ abbrev pub own_said : Naming → Facts → DecodedRecord → Option Step
 own_said names facts (Host r object) = Some (step.Host names.vat object)
 own_said names facts (Vow r) = Some (step.Vow names.vat r)
 own_said names facts (Fulfil r to) = fulfil_said names facts
-own_said names facts (Break r) = option_map (λ p. step.Break names.vat p) (promise_in (view_at facts.references 0))
+own_said names facts (Break r) = option_map (λ p. step.Break names.vat p) (promise_in (kept_view facts.references 0))
 own_said names facts (Make c r interface method) = make_said names facts (Make c r interface method)
 own_said names facts (Answer c results) = answer_said names facts c results
 own_said names facts _ = None
 
 -- the step that a record says, by what its numbers stand for
-abbrev pub step_by : Naming → Facts → DecodedRecord → Option Step
-step_by names facts (Field r c path) = of_call_said names.vat names.call (Field r c path)
-step_by names facts (Deliver c object) = of_call_said names.vat names.call (Deliver c object)
-step_by names facts (AnswerBy c by) = answer_by_said names.vat names.call c by
-step_by names facts (Fault c) = of_call_said names.vat names.call (Fault c)
-step_by names facts (Wire sent k c references m) = send_said names facts k c m
-step_by names facts e = own_said names facts e
+abbrev pub step_said_by : Naming → Facts → DecodedRecord → Option Step
+step_said_by names facts (Field r c path) = of_call_said names.vat names.call (Field r c path)
+step_said_by names facts (Deliver c object) = of_call_said names.vat names.call (Deliver c object)
+step_said_by names facts (AnswerBy c by) = answer_by_said names.vat names.call c by
+step_said_by names facts (Fault c) = of_call_said names.vat names.call (Fault c)
+step_said_by names facts (Wire sent k c references m) = send_said names facts k c m
+step_said_by names facts e = own_said names facts e
 
 -- these steps, and behind them this one, if it is there
 abbrev pub pushed : Option Step → List Step → List Step
@@ -230,9 +230,9 @@ abbrev pub IsTaken : ℕ → Past → DecodedRecord → List Step → Option Ste
 IsTaken v es e own step old new ledger = (s : Step) × (step ≡ Some s) × (new ≡ old ++ s ∷ []) × IsKept v (e ∷ es) (s ∷ own) new ledger
 
 -- the step of a received record, by this message
-abbrev pub received_step : ℕ → Past → List Step → DecodedRecord → Message → Option Step
-received_step v es own (Wire false k c references m) message = step_received v es own (Wire false k c references m) k references message
-received_step v es own e message = None
+abbrev pub step_of_receipt : ℕ → Past → List Step → DecodedRecord → Message → Option Step
+step_of_receipt v es own (Wire false k c references m) message = step_received v es own (Wire false k c references m) k references message
+step_of_receipt v es own e message = None
 
 -- a step that receives, with these bound
 abbrev pub with_bound : List Cap → Step → Step

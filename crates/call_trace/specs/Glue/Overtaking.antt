@@ -14,20 +14,20 @@ use Rattle.call_trace.specs.Types.{Name, Step}
 use Rattle.call_trace.specs.declared.latest.Latest.{Latest}
 
 -- by vat, then by number
-abbrev pub key_cmp : ℕ × ℕ → ℕ × ℕ → Ordering
-key_cmp x y = ordering_then (nat_cmp x.0 y.0) (nat_cmp x.1 y.1)
+abbrev pub vat_number_cmp : ℕ × ℕ → ℕ × ℕ → Ordering
+vat_number_cmp x y = ordering_then (nat_cmp x.0 y.0) (nat_cmp x.1 y.1)
 
 -- the place that a vat's table has of a number
-abbrev pub place_in : List (ℕ × ℕ) → ℕ → ℕ
-place_in places number = unwrap_or (entry_at places number) 0
+abbrev pub latest_place_in : List (ℕ × ℕ) → ℕ → ℕ
+latest_place_in places number = unwrap_or (entry_at places number) 0
 
 -- the latest place that was noted for a number of a vat
 abbrev pub latest_of : Latest → ℕ → ℕ → ℕ
-latest_of table vat number = unwrap_or (option_map (λ places. place_in places number) (get nat_cmp table.vats vat)) 0
+latest_of table vat number = unwrap_or (option_map (λ places. latest_place_in places number) (get nat_cmp table.vats vat)) 0
 
 -- one place was noted
-abbrev pub IsRaised : ℕ → ℕ → ℕ → Latest → Latest → Type 0
-IsRaised vat number place old new = (v n : ℕ) → latest_of new v n ≡ (if (vat == v) && (number == n) then max place (latest_of old v n) else latest_of old v n)
+abbrev pub IsPlaceNoted : ℕ → ℕ → ℕ → Latest → Latest → Type 0
+IsPlaceNoted vat number place old new = (v n : ℕ) → latest_of new v n ≡ (if (vat == v) && (number == n) then max place (latest_of old v n) else latest_of old v n)
 
 -- the table says where each call is delivered last: behind so many steps it is delivered where the table says a later
 -- place
@@ -45,6 +45,6 @@ goes_before table place (Deliver v c object) = nat_lt place (latest_of table c.m
 goes_before table place _ = false
 
 -- the least of what is known and one more, by vat, then by number
-abbrev pub lesser : Option (ℕ × ℕ) → ℕ × ℕ → ℕ × ℕ
-lesser None place = place
-lesser (Some known) place = if nat_lt known.0 place.0 || ((known.0 == place.0) && nat_le known.1 place.1) then known else place
+abbrev pub least_place_with : Option (ℕ × ℕ) → ℕ × ℕ → ℕ × ℕ
+least_place_with None place = place
+least_place_with (Some known) place = if nat_lt known.0 place.0 || ((known.0 == place.0) && nat_le known.1 place.1) then known else place

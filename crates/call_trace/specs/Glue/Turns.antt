@@ -9,7 +9,7 @@ use Rattle.call_trace.specs.Glue.RunBuilder.{IsKeptAt, IsTrail}
 use Rattle.call_trace.specs.Types.{Step}
 use Rattle.call_trace.specs.declared.records.vat_ledger.VatLedger.{VatLedger}
 use Rattle.call_trace.specs.declared.steps.run_builder.RunBuilder.{RunBuilder}
-use Rattle.call_trace.specs.declared.steps.turns.Turns.{Turns}
+use Rattle.call_trace.specs.declared.steps.turns.TracedTurns.{TracedTurns}
 use Rattle.merge_order.specs.Fits.{IsRising}
 use Rattle.vat_rules.specs.Audit.{Found}
 
@@ -56,14 +56,14 @@ pub record MayTurn (findings : List Found) (ledgers : List VatLedger) : Type 0 w
   pub vats : vats_of_ledgers ledgers ≡ map (λ log. log.vat) (logs_of findings)
 
 -- these turns were taken, the newest first: each record that they take took its step
-pub record IsReached (findings : List Found) (turns : List ℕ) (state : Turns) : Type 0 where
+pub record IsReached (findings : List Found) (turns : List ℕ) (state : TracedTurns) : Type 0 where
   pub before : List Step
   pub steps : steps_of_row (taken_by findings turns) ≡ Some before
   pub trail : IsTrail before state.trail
   pub kept : AreKept (taken_by findings turns) before findings state.ledgers.items
 
 -- turns were taken by which this is reached, and after them the record of this vat's turn has a step
-pub record GoesOnWith (findings : List Found) (v : ℕ) (state : Turns) : Type 0 where
+pub record GoesOnWith (findings : List Found) (v : ℕ) (state : TracedTurns) : Type 0 where
   pub turns : List ℕ
   pub reached : IsReached findings turns state
   pub goes_on : IsSome (steps_of_row (taken_by findings (v ∷ turns)))

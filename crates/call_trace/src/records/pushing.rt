@@ -3,7 +3,7 @@
 ghost use Rattle.std.specs.Prelude.{◌≡◌, Option, OnOk};
 ghost use Rattle.std.specs.Option.{option_copied};
 ghost use Rattle.call_trace.specs.Part.{promise_in};
-ghost use Rattle.call_trace.specs.Glue.Ledgers.{names_in, call_name_in, view_at, sent_said, results_said, fulfil_said, answer_by_said, of_call_said, make_said, answer_said, send_said, own_said, step_by, pushed};
+ghost use Rattle.call_trace.specs.Glue.Ledgers.{naming_by_tables, call_name_in, kept_view, sent_said, results_said, fulfil_said, answer_by_said, of_call_said, make_said, answer_said, send_said, own_said, step_said_by, pushed};
 
 use crate::records::saying::{results_said, sent_said, view_at};
 use crate::records::vat_ledger::VatLedger;
@@ -31,7 +31,7 @@ fn push_fulfil(
     facts: &RecordFacts,
 ) -> Result<(), AllocError>
     ensures { OnOk result (steps.new.items
-        ≡ pushed (fulfil_said (names_in steps.old.items ledger.now) facts.now) steps.old.items) }
+        ≡ pushed (fulfil_said (naming_by_tables steps.old.items ledger.now) facts.now) steps.old.items) }
 {
     let vat = ledger.vat;
     let promise = promise_in(view_at(facts.references(), 0));
@@ -94,7 +94,7 @@ fn push_make(
     event: &DecodedRecord,
 ) -> Result<(), AllocError>
     ensures { OnOk result (steps.new.items
-        ≡ pushed (make_said (names_in steps.old.items ledger.now) facts.now event.now) steps.old.items) }
+        ≡ pushed (make_said (naming_by_tables steps.old.items ledger.now) facts.now event.now) steps.old.items) }
 {
     let DecodedRecord::Make {
         call,
@@ -128,7 +128,7 @@ fn push_answer(
     results: &[(u64, Path)],
 ) -> Result<(), AllocError>
     ensures { OnOk result (steps.new.items
-        ≡ pushed (answer_said (names_in steps.old.items ledger.now) facts.now call results.now)
+        ≡ pushed (answer_said (naming_by_tables steps.old.items ledger.now) facts.now call results.now)
         steps.old.items) }
 {
     let said = results_said(alloc, ledger, steps, facts, results)?;
@@ -150,7 +150,7 @@ fn push_sent(
     message: &RpcMessage,
 ) -> Result<(), AllocError>
     ensures { OnOk result (steps.new.items
-        ≡ pushed (send_said (names_in steps.old.items ledger.now) facts.now noted.0 noted.1 message.now)
+        ≡ pushed (send_said (naming_by_tables steps.old.items ledger.now) facts.now noted.0 noted.1 message.now)
         steps.old.items) }
 {
     let (connection, call) = noted;
@@ -174,7 +174,7 @@ fn push_own(
     event: &DecodedRecord,
 ) -> Result<(), AllocError>
     ensures { OnOk result (steps.new.items
-        ≡ pushed (own_said (names_in steps.old.items ledger.now) facts.now event.now) steps.old.items) }
+        ≡ pushed (own_said (naming_by_tables steps.old.items ledger.now) facts.now event.now) steps.old.items) }
 {
     let vat = ledger.vat;
     match event {
@@ -210,7 +210,7 @@ pub(crate) fn push_said(
     event: &DecodedRecord,
 ) -> Result<(), AllocError>
     ensures { OnOk result (steps.new.items
-        ≡ pushed (step_by (names_in steps.old.items ledger.now) facts.now event.now) steps.old.items) }
+        ≡ pushed (step_said_by (naming_by_tables steps.old.items ledger.now) facts.now event.now) steps.old.items) }
 {
     match event {
         DecodedRecord::Wire {

@@ -5,7 +5,7 @@ ghost use Rattle.std.specs.Prelude.{◌≡◌, Option, IfOk, option_map};
 ghost use Rattle.std.specs.Option.{option_copied};
 ghost use Rattle.call_trace.specs.Naming.{cap_at};
 ghost use Rattle.call_trace.specs.Said.{caps_at_paths, say_call, say_return, say_taken, say_resolve};
-ghost use Rattle.call_trace.specs.Glue.Ledgers.{names_in, view_in, call_name_in, cap_said, caps_said, call_of_question, view_at, answered_in, resolve_said, return_said, message_said, sent_said, results_said, named_said};
+ghost use Rattle.call_trace.specs.Glue.Ledgers.{naming_by_tables, view_in, call_name_in, cap_said, caps_said, call_of_question, kept_view, answered_in, resolve_said, return_said, message_said, sent_said, results_said, named_said};
 
 use crate::records::vat_ledger::VatLedger;
 use cap_frame::Path;
@@ -17,7 +17,7 @@ use vat_view::{View, descriptors_of};
 
 /// The view of these at a place, if one is there.
 pub(crate) fn view_at(views: &[Option<View>], place: usize) -> Option<&View>
-    ensures { option_copied result ≡ view_at views.now place }
+    ensures { option_copied result ≡ kept_view views.now place }
 {
     views.get(place)?.as_ref()
 }
@@ -30,7 +30,7 @@ fn cap_said(
     view: Option<&View>,
 ) -> Result<Option<Cap>, AllocError>
     ensures { IfOk result
-        (λ cap. cap ≡ cap_said (names_in steps.now ledger.now) descriptor.now
+        (λ cap. cap ≡ cap_said (naming_by_tables steps.now ledger.now) descriptor.now
         (option_copied view.entry)) }
 {
     match descriptor {
@@ -48,7 +48,7 @@ fn caps_said(
     views: &[Option<View>],
 ) -> Result<Option<Caps>, AllocError>
     ensures { IfOk result
-        (λ caps. caps ≡ caps_said (names_in steps.now ledger.now) views.now descriptors.now) }
+        (λ caps. caps ≡ caps_said (naming_by_tables steps.now ledger.now) views.now descriptors.now) }
 {
     let mut caps = Vec::with_capacity(alloc, descriptors.len())?;
     for descriptor in descriptors {
@@ -231,7 +231,7 @@ fn message_said(
 ) -> Result<Option<Message>, AllocError>
     ensures { IfOk result
         (λ sent. sent ≡ message_said
-        (names_in steps.now ledger.now) facts.now call caps message.now) }
+        (naming_by_tables steps.now ledger.now) facts.now call caps message.now) }
 {
     match message {
         RpcMessage::Bootstrap { .. } => Ok(ledger.call(call).map(|name| Message::Boot(name))),
@@ -259,7 +259,7 @@ pub(crate) fn sent_said(
     message: &RpcMessage,
 ) -> Result<Option<Message>, AllocError>
     ensures { IfOk result
-        (λ sent. sent ≡ sent_said (names_in steps.now ledger.now) facts.now call message.now) }
+        (λ sent. sent ≡ sent_said (naming_by_tables steps.now ledger.now) facts.now call message.now) }
 {
     let caps = caps_said(alloc, ledger, steps, descriptors_of(message), facts.caps())?;
     message_said(alloc, ledger, steps, facts, call, caps, message)
@@ -275,7 +275,7 @@ pub(crate) fn results_said(
 ) -> Result<Option<Results>, AllocError>
     ensures { IfOk result
         (λ said. said ≡ results_said
-        (names_in steps.now ledger.now) facts.now.references results.now) }
+        (naming_by_tables steps.now ledger.now) facts.now.references results.now) }
 {
     let mut said = Vec::with_capacity(alloc, results.len())?;
     for (_, path) in results {
@@ -295,7 +295,8 @@ pub(crate) fn named_said(
     steps: &[Step],
     views: &[Option<View>],
 ) -> Result<Option<Caps>, AllocError>
-    ensures { IfOk result (λ caps. caps ≡ named_said (names_in steps.now ledger.now) views.now) }
+    ensures { IfOk result
+        (λ caps. caps ≡ named_said (naming_by_tables steps.now ledger.now) views.now) }
 {
     let mut caps = Vec::with_capacity(alloc, views.len())?;
     for view in views {

@@ -7,7 +7,7 @@ ghost use Rattle.call_trace.specs.Glue.Ledgers.{step_message_in, call_name_in, c
 ghost use Rattle.run_model.specs.Legal.{caps_brought};
 ghost use Rattle.vat_rules.specs.Audit.{IsTrueOf};
 
-use crate::records::call_names::CallNames;
+use crate::records::bound_names::CallNames;
 use run_model::{Cap, Message, Name, Step};
 use std::alloc::{AllocError, Global};
 use vat_rules::{Outcome, VatFinding};

@@ -3,7 +3,7 @@
 //! A send is looked at twice for each vat that uses its connection, so a step takes a look-up or two, however long the run.
 
 ghost use Rattle.std.specs.Prelude.{◌≡◌, ◌==◌, ◌&&◌, ◌<◌, ◌∷◌, ◌++◌, ◌≢◌, ℕ, List, [], Some, length, take, get_or, option_and_then, if◌then◌else◌, IfOk, OnOk, OnErr};
-ghost use Rattle.call_trace.specs.Glue.Channels.{sends_on, passed_on, by_others, message_by, AreLines};
+ghost use Rattle.call_trace.specs.Glue.Channels.{noted_sends, sends_behind, by_others, message_by, AreLines};
 ghost use Rattle.call_trace.specs.Running.{coming_next};
 ghost use Rattle.call_trace.specs.Types.{Message, Cap, Step};
 ghost use Rattle.run_model.specs.declared.step.Step.TheVariants.{Send, Receive};
@@ -48,7 +48,7 @@ impl Channels {
 
     /// The sends on this connection.
     fn on(&self, connection: u32) -> &[(u32, usize)]
-        ensures { result.now ≡ sends_on self.now connection }
+        ensures { result.now ≡ noted_sends self.now connection }
     {
         match self.sends.get(&connection) {
             Some(sends) => sends,
@@ -58,18 +58,18 @@ impl Channels {
 
     /// How many of the sends on this connection this vat has behind it.
     fn passed_by(&self, vat: u32, connection: u32) -> usize
-        ensures { result ≡ passed_on self.now vat connection }
+        ensures { result ≡ sends_behind self.now vat connection }
     {
         self.passed.get(&(vat, connection)).copied().unwrap_or(0)
     }
 
     /// Puts one more behind the sends on this connection.
     fn push(&mut self, connection: u32, sent: (u32, usize)) -> Result<(), AllocError>
-        ensures ok { OnOk result ((k : ℕ) → sends_on self.new k
-            ≡ (if connection == k then sends_on self.old k ++ sent ∷ []
-            else sends_on self.old k)) }
-        ensures err { OnErr result ((k : ℕ) → sends_on self.new k ≡ sends_on self.old k) }
-        ensures passed { (v k : ℕ) → passed_on self.new v k ≡ passed_on self.old v k }
+        ensures ok { OnOk result ((k : ℕ) → noted_sends self.new k
+            ≡ (if connection == k then noted_sends self.old k ++ sent ∷ []
+            else noted_sends self.old k)) }
+        ensures err { OnErr result ((k : ℕ) → noted_sends self.new k ≡ noted_sends self.old k) }
+        ensures passed { (v k : ℕ) → sends_behind self.new v k ≡ sends_behind self.old v k }
     {
         match self.sends.get_mut(&connection) {
             Some(sends) => sends.push(sent)?,
@@ -98,9 +98,9 @@ impl Channels {
 
     /// This vat has so many of the sends on this connection behind it.
     fn pass(&mut self, vat: u32, connection: u32, count: usize) -> Result<(), AllocError>
-        ensures sends { (k : ℕ) → sends_on self.new k ≡ sends_on self.old k }
-        ensures passed { OnOk result ((v k : ℕ) → passed_on self.new v k
-            ≡ (if (vat == v) && (connection == k) then count else passed_on self.old v k)) }
+        ensures sends { (k : ℕ) → noted_sends self.new k ≡ noted_sends self.old k }
+        ensures passed { OnOk result ((v k : ℕ) → sends_behind self.new v k
+            ≡ (if (vat == v) && (connection == k) then count else sends_behind self.old v k)) }
     {
         self.passed.insert((vat, connection), count)?;
         Ok(())

@@ -4,7 +4,7 @@ ghost use Rattle.std.specs.Prelude.{IfOk};
 ghost use Rattle.call_trace.specs.Findings.{MayBeNamed};
 ghost use Rattle.call_trace.specs.Named.{IsRunOf};
 
-use crate::steps::turns::Turns;
+use crate::steps::turns::TracedTurns;
 use merge_order::Order;
 use run_model::Run;
 use std::alloc::{AllocError, Global};
@@ -26,7 +26,7 @@ pub fn name_run(alloc: Global, findings: &[VatFinding], order: &Order) -> Result
     ensures { IfOk result (IsRunOf findings.now order.now) }
 {
     let vats = order.as_slice();
-    let mut turns = Turns::new(alloc, findings, vats.len())?;
+    let mut turns = TracedTurns::new(alloc, findings, vats.len())?;
     for vat in vats {
         turns.turn(alloc, findings, *vat)?;
     }

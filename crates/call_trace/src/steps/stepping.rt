@@ -2,7 +2,7 @@
 
 ghost use Rattle.std.specs.Prelude.{◌≡◌, ℕ, List, None, true, false, OnOk};
 ghost use Rattle.std.specs.Option.{option_copied};
-ghost use Rattle.call_trace.specs.Glue.Ledgers.{call_bound_by, received_step, with_bound, IsBound, IsNoted, IsKept, HasStep, IsTaken};
+ghost use Rattle.call_trace.specs.Glue.Ledgers.{call_bound_by, step_of_receipt, with_bound, IsBound, IsNoted, IsKept, HasStep, IsTaken};
 ghost use Rattle.call_trace.specs.Running.{step_of};
 ghost use Rattle.call_trace.specs.Types.{Step as Steps};
 ghost use Rattle.vat_rules.specs.OfCaps.{is_received};
@@ -126,13 +126,13 @@ pub(crate) fn take_received(
     message: Message,
 ) -> Result<(), AllocError>
     requires received { is_received event.now ≡ true }
-    requires has_step { HasStep (λ v es own before. received_step v es own event.now message)
+    requires has_step { HasStep (λ v es own before. step_of_receipt v es own event.now message)
         event.now facts.now steps.old.items ledger.old }
     ensures { OnOk result
         ((v : ℕ) (es : Past) (own : List Steps)
         → IsKept v es own steps.old.items ledger.old → facts.now ≡ facts_of es event.now
         → IsTaken v es event.now own
-        (received_step v es own event.now message) steps.old.items steps.new.items ledger.new) }
+        (step_of_receipt v es own event.now message) steps.old.items steps.new.items ledger.new) }
 {
     let DecodedRecord::Wire { connection, .. } = event else {
         unreachable!()

@@ -56,19 +56,19 @@ fn place_of(ledgers: &[VatLedger], vat: u32) -> Option<usize>
 
 /// The turns of an order that were taken, and what is kept of each vat for those to come.
 #[derive(Drop)]
-pub(crate) struct Turns {
+pub(crate) struct TracedTurns {
     trail: RunBuilder,
     /// What is kept of the vat of each finding, in the order of the findings.
     ledgers: Vec<VatLedger>,
 }
 
-impl Turns {
+impl TracedTurns {
     /// Before any turn, with room for so many.
     pub(crate) fn new(
         alloc: Global,
         findings: &[VatFinding],
         turns: usize,
-    ) -> Result<Turns, AllocError>
+    ) -> Result<TracedTurns, AllocError>
         ensures reached { IfOk result (IsReached findings.now []) }
         ensures outcomes { IfOk result (λ _. AreTrue findings.now) }
     {
@@ -77,7 +77,7 @@ impl Turns {
             ledgers.push(VatLedger::new(alloc, finding)?)?;
         }
         let trail = RunBuilder::new(alloc, turns)?;
-        Ok(Turns { trail, ledgers })
+        Ok(TracedTurns { trail, ledgers })
     }
 
     /// This vat takes its turn: the next record of its log takes its step, if there is one. The step is there.

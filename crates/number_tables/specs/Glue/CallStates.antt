@@ -4,7 +4,7 @@ use Rattle.std.specs.BTreeMap.{get}
 use Rattle.std.specs.Ordering.{nat_cmp}
 use Rattle.std.specs.Str.{bytes_eq as same_path}
 use Rattle.rising_table.specs.Entries.{entry_at}
-use Rattle.number_tables.specs.declared.calls.Calls.{Calls}
+use Rattle.number_tables.specs.declared.call_table.Calls.{Calls}
 use Rattle.number_tables.specs.declared.call_state.CallState.{CallState}
 use Rattle.number_tables.specs.declared.call_state.CallEntry.{CallEntry}
 use Rattle.number_tables.specs.declared.call_state.CallChange.{CallChange}
@@ -16,12 +16,12 @@ abbrev pub call_state_in : Option Request → CallEntry → CallState
 call_state_in asked entry = record { asked = asked; at_vat = entry.at_vat; served = entry.served; settled = entry.settled; known = entry.known }
 
 -- what the table keeps of what a call asked for
-abbrev pub asked_at : Calls → ℕ → Option Request
-asked_at table c = get nat_cmp table.requests c
+abbrev pub request_kept_at : Calls → ℕ → Option Request
+request_kept_at table c = get nat_cmp table.requests c
 
 -- what the table has of a call
 abbrev pub call_state_at : Calls → ℕ → Option CallState
-call_state_at table c = option_map (call_state_in (asked_at table c)) (entry_at table.entries c)
+call_state_at table c = option_map (call_state_in (request_kept_at table c)) (entry_at table.entries c)
 
 -- what a call's entry says of it
 abbrev pub request_in : Option CallState → Option Request
@@ -56,8 +56,8 @@ leaves Answered = false
 leaves Known = false
 
 -- what is kept of what it asked for
-abbrev pub asked_after : CallChange → Option Request → Option Request
-asked_after step asked = if leaves step then None else asked
+abbrev pub request_after : CallChange → Option Request → Option Request
+request_after step asked = if leaves step then None else asked
 
 -- how far a call has come after this happened to it, and what it asked for, while it is at the vat
 abbrev pub after_change : CallChange → CallState → CallState

@@ -1,6 +1,5 @@
 //! The audit of a log that keeps none of its records.
 
-pub mod audit;
 pub mod finding;
 pub mod story;
 pub mod tally;

@@ -1,9 +1,9 @@
 -- For the code's contracts, and no part of the meaning: the table of calls, and what looking back finds for each of
 -- them.
 use Rattle.std.specs.Prelude.{◌≡◌, ℕ, ◌==◌, Bool, true, false, not, Option, Some, None, if◌then◌else◌, is_some, option_map}
-use Rattle.number_tables.specs.declared.question.Question.{Question}
+use Rattle.number_tables.specs.declared.question.QuestionState.{QuestionState}
 use Rattle.number_tables.specs.declared.exports_imports.ExportsImports.{ExportsImports}
-use Rattle.number_tables.specs.declared.calls.Calls.{Calls}
+use Rattle.number_tables.specs.declared.call_table.Calls.{Calls}
 use Rattle.number_tables.specs.declared.call_state.CallState.{CallState}
 use Rattle.number_tables.specs.declared.call_state.CallChange.{CallChange}
 use Rattle.number_tables.specs.declared.call_state.CallChange.TheVariants.{Left, Delivered, Faulted, Answered, Known}
@@ -85,7 +85,7 @@ effect_from named target late taken opened (Wire false k c rs m) = received_effe
 effect_from named target late taken opened _ = Nothing
 
 -- by the tables
-abbrev pub effect_by : (ℕ → Option View) → ExportsImports → (TableKey → Option Question) → DecodedRecord → CallEffect
+abbrev pub effect_by : (ℕ → Option View) → ExportsImports → (TableKey → Option QuestionState) → DecodedRecord → CallEffect
 effect_by named lives known e = effect_from named (targeted_by named lives known e) (late_by known e) (taken_from_by known e) (λ q. opening_call_in (known q)) e
 
 -- ---- the same in two parts, as the code has it
@@ -105,7 +105,7 @@ begun_from named target (Wire false k c rs (Call q t interface method params you
 begun_from named target _ = None
 
 -- by the tables
-abbrev pub begun_by : (ℕ → Option View) → ExportsImports → (TableKey → Option Question) → DecodedRecord → Option (ℕ × CallState)
+abbrev pub begun_by : (ℕ → Option View) → ExportsImports → (TableKey → Option QuestionState) → DecodedRecord → Option (ℕ × CallState)
 begun_by named lives known e = begun_from named (targeted_by named lives known e) e
 
 -- this happens to a call, if there is one
@@ -137,7 +137,7 @@ step_from late taken opened (Wire false k c rs m) = received_step late taken ope
 step_from late taken opened _ = None
 
 -- by the tables
-abbrev pub step_by : (TableKey → Option Question) → DecodedRecord → Option (ℕ × CallChange)
+abbrev pub step_by : (TableKey → Option QuestionState) → DecodedRecord → Option (ℕ × CallChange)
 step_by known e = step_from (late_by known e) (taken_from_by known e) (λ q. opening_call_in (known q)) e
 
 -- the whole by its parts

@@ -2,9 +2,9 @@
 use Rattle.std.specs.Prelude.{◌≡◌, ◌==◌, ◌&&◌, ◌<◌, ℕ, nat_lt, Bool, true, false, Option, Some, None, if◌then◌else◌, length, option_map, option_and_then, is_some}
 use Rattle.std.specs.BTreeMap.{get}
 use Rattle.std.specs.Ordering.{nat_cmp}
-use Rattle.number_tables.specs.declared.question.Question.{Question}
+use Rattle.number_tables.specs.declared.question.QuestionState.{QuestionState}
 use Rattle.number_tables.specs.declared.exports_imports.ExportsImports.{ExportsImports}
-use Rattle.number_tables.specs.declared.calls.Calls.{Calls}
+use Rattle.number_tables.specs.declared.call_table.Calls.{Calls}
 use Rattle.vat_view.specs.declared.tables.turns.goal_key.GoalKey.{GoalKey}
 use Rattle.vat_view.specs.declared.tables.waits.waiting_calls.Receipt.{Receipt}
 use Rattle.vat_view.specs.declared.tables.waits.waiting_calls.WaitingCalls.{WaitingCalls}
@@ -42,7 +42,7 @@ abbrev pub AreLooped : Past → Loopbacks → Type 0
 AreLooped past table = (i : TableKey) → loopback_at table i ≡ option_map looped_at (loopback_of i past)
 
 -- the loopback for which a record of this number asks, by the tables before it
-abbrev pub looped_by : (ℕ → Option View) → ExportsImports → (TableKey → Option Question) → ℕ → DecodedRecord → Option (TableKey × Unechoed)
+abbrev pub looped_by : (ℕ → Option View) → ExportsImports → (TableKey → Option QuestionState) → ℕ → DecodedRecord → Option (TableKey × Unechoed)
 looped_by named lives known number e = option_map (λ i. (i, record { number = number; target = targeted_by named lives known e })) (sender_loopback e)
 
 -- the table has room for a loopback, if there is one
@@ -109,7 +109,7 @@ put_call call None old = old
 -- ---- the queue of received calls
 
 -- how the call stands in the queue that a record of this number receives, by the tables before it
-abbrev pub queued_by : (ℕ → Option View) → ExportsImports → (TableKey → Option Question) → ℕ → DecodedRecord → Option QueuedCall
+abbrev pub queued_by : (ℕ → Option View) → ExportsImports → (TableKey → Option QuestionState) → ℕ → DecodedRecord → Option QueuedCall
 queued_by named lives known number e = option_map (λ x. queued_at x.0 x.1 (targeted_by named lives known e)) (call_received_by number e)
 
 -- each received call that is at the vat stands in the queue, by what the table of calls has as its goal
@@ -147,7 +147,7 @@ pub record Change : Type 0 where
   pub taken : Option ℕ
 
 -- what a record of this number changes, by the tables before it
-abbrev pub change_by : (ℕ → Option View) → ExportsImports → (TableKey → Option Question) → ℕ → DecodedRecord → Change
+abbrev pub change_by : (ℕ → Option View) → ExportsImports → (TableKey → Option QuestionState) → ℕ → DecodedRecord → Change
 change_by named lives known number e = record {
   looped = looped_by named lives known number e;
   echoed = receiver_loopback e;

@@ -1,6 +1,6 @@
 -- For the code's contracts, and no part of the meaning: what records bind without a message and with one.
 use Rattle.std.specs.Prelude.{◌≡◌, ℕ, List, [], ◌∷◌, true, false, Option, None}
-use Rattle.number_tables.specs.declared.question.Question.{Question}
+use Rattle.number_tables.specs.declared.question.QuestionState.{QuestionState}
 use Rattle.number_tables.specs.declared.exports_imports.ExportsImports.{ExportsImports}
 use Rattle.vat_view.specs.declared.record.introduced.Introduced.{Introduced}
 use Rattle.vat_view.specs.Types.{DecodedRecord, Host, Vow, Field, Wire, View, Object, Promise, FieldOf, TableKey}
@@ -27,7 +27,7 @@ own_bindings (Field r call path) = (r, FieldOf call path) ∷ []
 own_bindings _ = []
 
 -- the references that a received message binds, with their views
-abbrev pub received_bindings : (ℕ → Option View) → ExportsImports → Introduced → (TableKey → Option Question) → DecodedRecord → List (ℕ × View)
+abbrev pub received_bindings : (ℕ → Option View) → ExportsImports → Introduced → (TableKey → Option QuestionState) → DecodedRecord → List (ℕ × View)
 received_bindings named lives begun known (Wire false k c rs m) =
     bound_from (view_by named lives begun known (Wire false k c rs m)) rs 0 (descriptors (Wire false k c rs m))
 received_bindings named lives begun known _ = []

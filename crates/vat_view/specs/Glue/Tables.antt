@@ -4,8 +4,8 @@ use Rattle.std.specs.Prelude.{◌≡◌, ℕ, ◌+◌, ◌≤◌, ◌==◌, leng
 use Rattle.std.specs.List.{cons_option}
 use Rattle.std.specs.Option.{option_or}
 use Rattle.rising_table.specs.Entries.{entry_at}
-use Rattle.number_tables.specs.declared.question.Question.{Question}
-use Rattle.number_tables.specs.declared.questions.Questions.{Questions}
+use Rattle.number_tables.specs.declared.question.QuestionState.{QuestionState}
+use Rattle.number_tables.specs.declared.question_table.Questions.{Questions}
 use Rattle.number_tables.specs.declared.exports_imports.ExportsImports.{ExportsImports}
 use Rattle.vat_view.specs.declared.record.introduced.Introduced.{Introduced}
 use Rattle.vat_view.specs.declared.record.introduced.Introduced.TheVariants.{Nothing, Few, Many}
@@ -18,12 +18,12 @@ use Rattle.decoded_records.specs.Uses.{UsesQuestions}
 use Rattle.decoded_records.specs.Bindings.{Refers, NotesEach}
 use Rattle.decoded_records.specs.Views.{placed_references, references, view_of_reference}
 use Rattle.decoded_records.specs.Lives.{GivesBackHeld, Birth, begins, is_in_life, descriptors, began_promised, introductions, introductions_at, introduced_count, released_count, held}
-use Rattle.number_tables.specs.Glue.LifeTables.{count_at, origin_at, held_origin}
+use Rattle.number_tables.specs.Glue.LifeTables.{held_count_at, origin_at, held_origin}
 use Rattle.number_tables.specs.Glue.QuestionTables.{question_at, with_return, with_light_return, with_finish, with_release, with_taken, call_by}
 use Rattle.decoded_records.specs.Glue.Origins.{is_cap, origins_from}
 
 -- what looking back finds of a question that was opened
-abbrev pub question_known : TableKey → Past → Option Question
+abbrev pub question_known : TableKey → Past → Option QuestionState
 question_known q past = option_map (λ p. record {
   call = noted_call p.event;
   tail = asks_elsewhere p.event;
@@ -57,7 +57,7 @@ AreKnown table past = (q : TableKey) → question_at table q ≡ question_known 
 -- it came
 pub record IsTabled (past : Past) (questions : Questions) (lives : ExportsImports) : Type 0 where
   pub known : AreKnown questions past
-  pub counted : (i : TableKey) → count_at lives i ≡ held i past
+  pub counted : (i : TableKey) → held_count_at lives i ≡ held i past
   pub born : (i : TableKey) → is_in_life i past ≡ true → origin_at lives i ≡ option_map origin_of (last_answer (begins i) past)
   pub balanced : (i : TableKey) → released_count i past ≤ introduced_count i past
 
@@ -67,17 +67,17 @@ count_released i (Wire sent k call references (Release n count)) = if same_id i 
 count_released i _ = 0
 
 -- what is known of a question, changed so where this is the one that is named
-abbrev pub changed_if : Bool → (Question → Question) → Option Question → Option Question
+abbrev pub changed_if : Bool → (QuestionState → QuestionState) → Option QuestionState → Option QuestionState
 changed_if named change known = if named then option_map change known else known
 
 -- what a record that introduces these numbers makes of what is known of a question, by its return or its finish
-abbrev pub ended_by : DecodedRecord → List TableKey → TableKey → Option Question → Option Question
+abbrev pub ended_by : DecodedRecord → List TableKey → TableKey → Option QuestionState → Option QuestionState
 ended_by e introduced q known =
     changed_if (names q (question_released e)) with_release (changed_if (names q (question_finished e)) with_finish
     (changed_if (names q (question_returned_lightly e)) with_light_return (changed_if (names q (question_returned e)) (with_return introduced) known)))
 
 -- what a record that opens no question, and introduces these numbers, makes of what is known of a question
-abbrev pub noted_by : DecodedRecord → List TableKey → TableKey → Option Question → Option Question
+abbrev pub noted_by : DecodedRecord → List TableKey → TableKey → Option QuestionState → Option QuestionState
 noted_by e introduced q known = changed_if (names q (question_taken e)) with_taken (ended_by e introduced q known)
 
 -- the view that the table has of a reference
@@ -117,7 +117,7 @@ abbrev pub sender_view : (ℕ → Option View) → ExportsImports → Introduced
 sender_view named lives begun i = option_and_then (view_from named i.ours) (option_or (held_origin lives i) (begun_origin begun i))
 
 -- what a descriptor of a record stands for, by the tables before it and what it introduces
-abbrev pub view_by : (ℕ → Option View) → ExportsImports → Introduced → (TableKey → Option Question) → DecodedRecord → Descriptor → Option View
+abbrev pub view_by : (ℕ → Option View) → ExportsImports → Introduced → (TableKey → Option QuestionState) → DecodedRecord → Descriptor → Option View
 view_by named lives begun known (Wire s k c rs m) (SenderHosted n) = sender_view named lives begun (id k s n)
 view_by named lives begun known (Wire s k c rs m) (SenderPromise n) = sender_view named lives begun (id k s n)
 view_by named lives begun known (Wire s k c rs m) (ReceiverHosted n) = number_by named lives (id k (not s) n)
@@ -139,7 +139,7 @@ bound_from view rs before [] = []
 bound_from view rs before (d ∷ ds) = cons_option (bound_one view d (reference_by rs before d)) (bound_from view rs (before + (if is_cap d then 1 else 0)) ds)
 
 -- the references that a record binds, with their views
-abbrev pub bindings : (ℕ → Option View) → ExportsImports → Introduced → (TableKey → Option Question) → DecodedRecord → List (ℕ × View)
+abbrev pub bindings : (ℕ → Option View) → ExportsImports → Introduced → (TableKey → Option QuestionState) → DecodedRecord → List (ℕ × View)
 bindings named lives begun known (Host r object) = (r, Object object) ∷ []
 bindings named lives begun known (Vow r) = (r, Promise r) ∷ []
 bindings named lives begun known (Field r call path) = (r, FieldOf call path) ∷ []

@@ -6,7 +6,7 @@ use Rattle.std.specs.BTreeMap.{get}
 use Rattle.std.specs.Option.{option_or}
 use Rattle.std.specs.Str.{bytes_eq as same_path}
 use Rattle.rising_table.specs.Entries.{entry_at}
-use Rattle.number_tables.specs.declared.question.Question.{Question}
+use Rattle.number_tables.specs.declared.question.QuestionState.{QuestionState}
 use Rattle.number_tables.specs.declared.exports_imports.ExportsImports.{ExportsImports}
 use Rattle.vat_view.specs.declared.tables.references.BoundReferences.{BoundReferences}
 use Rattle.vat_view.specs.declared.tables.references.Binding.{Binding}
@@ -86,7 +86,7 @@ settlement_of before (Wire false k c rs (Resolve n resolution)) = option_map imp
 settlement_of before _ = None
 
 -- the call of a question, by what is known of it
-abbrev pub results_by : Option Question → Option Unsettled
+abbrev pub results_by : Option QuestionState → Option Unsettled
 results_by known = option_map (λ question. ResultsOf question.call) known
 
 -- an import, by where its life began
@@ -94,7 +94,7 @@ abbrev pub import_by : Option Origin → Option Unsettled
 import_by origin = option_map (λ o. ImportToResolve o.number o.place) origin
 
 -- the same by the tables before the record
-abbrev pub settled_by : (ℕ → Option View) → ExportsImports → (TableKey → Option Question) → DecodedRecord → Option Unsettled
+abbrev pub settled_by : (ℕ → Option View) → ExportsImports → (TableKey → Option QuestionState) → DecodedRecord → Option Unsettled
 settled_by named lives known (Fulfil r to) = promise_of (named r)
 settled_by named lives known (Break r) = promise_of (named r)
 settled_by named lives known (Answer c results) = Some (ResultsOf c)

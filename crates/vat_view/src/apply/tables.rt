@@ -11,7 +11,7 @@ ghost use Rattle.decoded_records.specs.Glue.Parts.{has_message};
 ghost use Rattle.vat_view.specs.Glue.Plain.{own_bindings};
 ghost use Rattle.vat_view.specs.Glue.Tables.{bound_at, bound_by, count_released, changed_if, ended_by, noted_by, IsTabled, AreTabled, IsFit};
 ghost use Rattle.number_tables.specs.Glue.QuestionTables.{question_at, late_by, given_back_by, just_opened, with_taken, IsPut, IsSameQuestions};
-ghost use Rattle.number_tables.specs.Glue.LifeTables.{count_at, origin_at, raised_origin};
+ghost use Rattle.number_tables.specs.Glue.LifeTables.{held_count_at, origin_at, raised_origin};
 
 use crate::record::bindings::{introduced_by, received_bindings};
 use crate::tables::references::BoundReferences;
@@ -20,14 +20,14 @@ use decoded_records::{
     introductions, new_references, noted_call, origins, question_finished, question_opened,
     question_released, question_returned, question_returned_lightly, question_taken,
 };
-use number_tables::{ExportsImports, Question, Questions, given_back_by, is_late};
+use number_tables::{ExportsImports, QuestionState, Questions, given_back_by, is_late};
 use rpc_view::RpcMessage;
 use std::alloc::{AllocError, Global};
 
 /// Takes from the counts what a Release gives back.
 pub(crate) fn release(lives: &mut ExportsImports, event: &DecodedRecord)
-    ensures counts { (i : TableKey) → count_at lives.new i
-        ≡ count_at lives.old i - count_released i event.now }
+    ensures counts { (i : TableKey) → held_count_at lives.new i
+        ≡ held_count_at lives.old i - count_released i event.now }
     ensures origins { (i : TableKey) → origin_at lives.new i ≡ origin_at lives.old i }
 {
     if let DecodedRecord::Wire {
@@ -94,20 +94,20 @@ pub(crate) fn apply_opening(
         (just_opened (noted_call event.now) (asks_elsewhere event.now) numbers)
         questions.old questions.new) }
     ensures counted { OnOk result
-        ((i : TableKey) → count_at lives.new i
-        ≡ count_at lives.old i + count_by (λ x. same_id i x.0) origins.now) }
+        ((i : TableKey) → held_count_at lives.new i
+        ≡ held_count_at lives.old i + count_by (λ x. same_id i x.0) origins.now) }
     ensures born { OnOk result
         ((i : TableKey) → origin_at lives.new i
-        ≡ raised_origin (count_at lives.old i) (origin_at lives.old i) i origins.now) }
+        ≡ raised_origin (held_count_at lives.old i) (origin_at lives.old i) i origins.now) }
     ensures same_known { OnErr result (IsSameQuestions questions.old questions.new) }
     ensures same_counted { OnErr result
-        ((i : TableKey) → count_at lives.new i ≡ count_at lives.old i) }
+        ((i : TableKey) → held_count_at lives.new i ≡ held_count_at lives.old i) }
     ensures same_born { OnErr result
-        ((i : TableKey) → 0 < count_at lives.old i
+        ((i : TableKey) → 0 < held_count_at lives.old i
         → origin_at lives.new i ≡ origin_at lives.old i) }
 {
     lives.raise_each(origins)?;
-    let known = Question::opened(noted_call(event), asks_elsewhere(event), numbers);
+    let known = QuestionState::opened(noted_call(event), asks_elsewhere(event), numbers);
     if questions.open(question, known).is_err() {
         lives.lower_raised(origins);
         return Err(AllocError);
@@ -125,8 +125,8 @@ fn give_back_and_note(
 )
     ensures known { (q : TableKey) → question_at questions.new q
         ≡ noted_by event.now numbers q (question_at questions.old q) }
-    ensures counted { (i : TableKey) → count_at lives.new i
-        ≡ count_at lives.old i
+    ensures counted { (i : TableKey) → held_count_at lives.new i
+        ≡ held_count_at lives.old i
         - count_by (same_id i) (given_back_by (question_at questions.old) event.now)
         - count_released i event.now }
     ensures born { (i : TableKey) → origin_at lives.new i ≡ origin_at lives.old i }
@@ -149,19 +149,19 @@ pub(crate) fn apply_other(
         ((q : TableKey) → question_at questions.new q
         ≡ noted_by event.now numbers q (question_at questions.old q)) }
     ensures counted { OnOk result
-        ((i : TableKey) → count_at lives.new i
-        ≡ count_at lives.old i
+        ((i : TableKey) → held_count_at lives.new i
+        ≡ held_count_at lives.old i
         + count_by (λ x. same_id i x.0) origins.now
         - count_by (same_id i) (given_back_by (question_at questions.old) event.now)
         - count_released i event.now) }
     ensures born { OnOk result
         ((i : TableKey) → origin_at lives.new i
-        ≡ raised_origin (count_at lives.old i) (origin_at lives.old i) i origins.now) }
+        ≡ raised_origin (held_count_at lives.old i) (origin_at lives.old i) i origins.now) }
     ensures same_known { OnErr result (IsSameQuestions questions.old questions.new) }
     ensures same_counted { OnErr result
-        ((i : TableKey) → count_at lives.new i ≡ count_at lives.old i) }
+        ((i : TableKey) → held_count_at lives.new i ≡ held_count_at lives.old i) }
     ensures same_born { OnErr result
-        ((i : TableKey) → 0 < count_at lives.old i
+        ((i : TableKey) → 0 < held_count_at lives.old i
         → origin_at lives.new i ≡ origin_at lives.old i) }
 {
     lives.raise_each(origins)?;

@@ -5,7 +5,7 @@ ghost use Rattle.decoded_records.specs.Past.{same_id};
 ghost use Rattle.vat_view.specs.Types.{TableKey};
 ghost use Rattle.decoded_records.specs.Lives.{descriptors};
 ghost use Rattle.number_tables.specs.Glue.QuestionTables.{question_at};
-ghost use Rattle.number_tables.specs.Glue.LifeTables.{count_at};
+ghost use Rattle.number_tables.specs.Glue.LifeTables.{held_count_at};
 ghost use Rattle.vat_view.specs.Glue.Tables.{bound_at, view_by};
 ghost use Rattle.vat_view.specs.Glue.Asking.{targeted_by, let_go_of, given_by};
 
@@ -95,7 +95,7 @@ fn let_go_of(event: &DecodedRecord) -> Option<(TableKey, u64)>
 /// Whether a number is held.
 fn is_held(lives: &ExportsImports, number: TableKey) -> bool
     ensures { Decides result
-        ((i : TableKey) → count_by (same_id i) (number ∷ []) ≤ count_at lives.now i) }
+        ((i : TableKey) → count_by (same_id i) (number ∷ []) ≤ held_count_at lives.now i) }
 {
     lives.count_of(number) > 0
 }
@@ -104,7 +104,7 @@ fn is_held(lives: &ExportsImports, number: TableKey) -> bool
 fn are_held(alloc: Global, lives: &ExportsImports, numbers: &[TableKey]) -> Result<bool, AllocError>
     ensures { IfOk result
         (λ held. Decides held
-        ((i : TableKey) → count_by (same_id i) numbers.now ≤ count_at lives.now i)) }
+        ((i : TableKey) → count_by (same_id i) numbers.now ≤ held_count_at lives.now i)) }
 {
     match numbers {
         [] => Ok(true),
@@ -121,7 +121,7 @@ fn are_several_held(
 ) -> Result<bool, AllocError>
     ensures { IfOk result
         (λ held. Decides held
-        ((i : TableKey) → count_by (same_id i) numbers.now ≤ count_at lives.now i)) }
+        ((i : TableKey) → count_by (same_id i) numbers.now ≤ held_count_at lives.now i)) }
 {
     let mut tally = KeyCounts::new(alloc);
     for number in numbers {
@@ -142,7 +142,7 @@ pub(crate) fn gives_back_held(
     ensures { IfOk result
         (λ held. Decides held
         ((i : TableKey) → given_by (question_at questions.now) i event.now
-        ≤ count_at lives.now i)) }
+        ≤ held_count_at lives.now i)) }
 {
     match let_go_of(event) {
         Some((number, count)) => Ok(count <= lives.count_of(number)),

@@ -1,8 +1,8 @@
 use Rattle.std.proofs.Common.{ℕ, Some, ap, sym, ◌∙◌}
 use Rattle.vat_log.specs.Log.{Log}
 use Rattle.vat_rules.specs.declared.outcome.Outcome.{Outcome}
-use Rattle.audit_core.specs.declared.report.Breach.TheVariants.{Rule}
-use Rattle.audit_core.specs.declared.report.Report.TheVariants as report
+use Rattle.case_report.specs.declared.report.Breach.TheVariants.{Rule}
+use Rattle.case_report.specs.declared.report.Report.TheVariants as report
 use Rattle.audit_core.specs.Report.{IsGoodFinding}
 use Rattle.audit_core.specs.Glue.{line_of}
 use Rattle.audit_core.proofs.Places.{holds_none, holds_all}

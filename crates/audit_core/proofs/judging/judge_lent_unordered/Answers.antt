@@ -7,7 +7,7 @@ use Rattle.vat_log.specs.declared.log.VatLog.{VatLog}
 use Rattle.merge_order.specs.Fits.{IsFitting, TakesLeast}
 use Rattle.case_book.specs.Case.{Contents}
 use Rattle.audit_core.specs.Report.{IsOrderFor, IsReport}
-use Rattle.audit_core.specs.declared.report.Report.{Report}
+use Rattle.case_report.specs.declared.report.Report.{Report}
 use Rattle.audit_core.proofs.FirstLine.{good_case}
 use Rattle.audit_core.proofs.Meaning.{yes_means, yes_by_order}
 use Rattle.audit_core.proofs.judging.judge_lent_unordered.Goals as goal

@@ -7,7 +7,7 @@ use Rattle.case_book.specs.Case.{Contents}
 use Rattle.vat_rules.specs.Audit.{Found}
 use Rattle.link_check.specs.Prefix.{Ends}
 use Rattle.call_trace.specs.Findings.{logs_of}
-use Rattle.audit_core.specs.Report.{count_all, delivers, records_in, HoldsOfEach, IsGoodFinding, AreGoodEnds}
+use Rattle.audit_core.specs.Report.{count_all, records_delivery, records_in, HoldsOfEach, IsGoodFinding, AreGoodEnds}
 use Rattle.audit_core.specs.Glue.{case_record_limit, under_way_on}
 use Rattle.audit_core.proofs.UnderWay.{few_under_way, under_way_is}
 use Rattle.audit_core.proofs.Whole.{logs_are}
@@ -33,6 +33,6 @@ pub returns : goal.returns
 returns c =
     let all = c.args.findings.now in
     let vats = sym (length-map c.logs.result.now arc_value) ∙ ap (λ (logs : List Log). length logs) c.logs.ensures.lent ∙ ap (λ (held : Contents). length held.logs) c.case.ensures.lent in
-    let delivered = c.count_delivered.ensures ∙ ap (λ (vats : List Found). count_all delivers (logs_of vats)) c.vats.ensures.lent ∙ ap (count_all delivers) (logs_are all c.requires.good.whole) in
+    let delivered = c.count_delivered.ensures ∙ ap (λ (vats : List Found). count_all records_delivery (logs_of vats)) c.vats.ensures.lent ∙ ap (count_all records_delivery) (logs_are all c.requires.good.whole) in
     let under_way = c.count_under_way.ensures ∙ ap (λ (links : List Ends). sum_by under_way_on links) c.links.ensures.lent ∙ under_way_is all c.requires.good in
     same_yes vats c.requires.all delivered under_way c.args.run

@@ -1,5 +1,5 @@
 use Rattle.std.proofs.Common.{◌≡◌, ◌∙◌, length, map, string_bytes, sym, subst, arith}
-use Rattle.case_files.specs.Glue.{AreApartUpTo}
+use Rattle.case_files.specs.Glue.{NamesAreApartUpTo}
 use Rattle.case_files.proofs.FileNaming.{all_apart, apart_more, length_map, name_there, not_apart}
 use Rattle.case_files.proofs.folder_names.are_apart.Goals as goal
 
@@ -18,4 +18,4 @@ loop-place-preserved c =
 pub returns : goal.returns
 returns c =
     let whole : c.loop-place.place ≡ length c.args.names.now = omega (arith, c.loop-place-test.false, c.loop-place.auto) in
-    all_apart (map string_bytes c.args.names.now) (subst (λ n. AreApartUpTo (map string_bytes c.args.names.now) n) (whole ∙ sym (length_map c.args.names.now)) c.loop-place.invariant)
+    all_apart (map string_bytes c.args.names.now) (subst (λ n. NamesAreApartUpTo (map string_bytes c.args.names.now) n) (whole ∙ sym (length_map c.args.names.now)) c.loop-place.invariant)

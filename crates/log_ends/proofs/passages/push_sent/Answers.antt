@@ -1,4 +1,4 @@
-use Rattle.log_ends.specs.Glue.{number_of}
+use Rattle.log_ends.specs.Glue.{sequence_number}
 use Rattle.log_ends.proofs.Numbering.{traced_later}
 use Rattle.log_ends.proofs.Passing.{has_sent, put_back}
 use Rattle.log_ends.proofs.passages.push_sent.Goals as goal
@@ -6,7 +6,7 @@ use Rattle.log_ends.proofs.passages.push_sent.Goals as goal
 pub returns-clause-ok : goal.returns-clause-ok
 returns-clause-ok c =
     λ sent received has.
-    let is = c.taken-passed.ensures.passed (number_of c.args.sequences.now) sent received has in
-    has_sent (number_of c.args.sequences.now) (number_of c.push.new.sequences) c.push.ensures.keeps c.args.table.now c.insert.new.self c.args.connection c.args.frame.now (record { sent = c.push.new.self; received = c.taken-passed.result.received }) sent received has
+    let is = c.taken-passed.ensures.passed (sequence_number c.args.sequences.now) sent received has in
+    has_sent (sequence_number c.args.sequences.now) (sequence_number c.push.new.sequences) c.push.ensures.keeps c.args.table.now c.insert.new.self c.args.connection c.args.frame.now (record { sent = c.push.new.self; received = c.taken-passed.result.received }) sent received has
     (put_back c.args.table.now c.taken-passed.new.table c.insert.new.self c.args.connection (record { sent = c.push.new.self; received = c.taken-passed.result.received }) c.taken-passed.ensures.others c.in_ok-insert.ensures.updates.0)
-    (c.in_ok-push.ensures.ok (sent c.args.connection) is.out) (traced_later (number_of c.args.sequences.now) (number_of c.push.new.sequences) c.push.ensures.keeps c.taken-passed.result.received.numbers.items (received c.args.connection) is.into)
+    (c.in_ok-push.ensures.ok (sent c.args.connection) is.out) (traced_later (sequence_number c.args.sequences.now) (sequence_number c.push.new.sequences) c.push.ensures.keeps c.taken-passed.result.received.numbers.items (received c.args.connection) is.into)

@@ -1,6 +1,6 @@
 use Rattle.std.proofs.Common.{◌≡◌, map, take}
 use Rattle.vat_log.specs.Migrated.{migrated_version}
-use Rattle.log_ends.specs.Numbers.{number_in}
+use Rattle.log_ends.specs.Numbers.{new_number_of}
 use Rattle.log_ends.specs.Renumbering.{renumbered_body}
 use Rattle.log_ends.proofs.renumbering.renumbered.Given as goal
 
@@ -9,5 +9,5 @@ invariant-loop-index l =
     record {
       vat : l.writer.vat ≡ l.vat;
       version : l.writer.version ≡ migrated_version l.log.version;
-      records : l.writer.records ≡ map (renumbered_body (number_in l.table)) (take l.index l.log.records);
+      records : l.writer.records ≡ map (renumbered_body (new_number_of l.table)) (take l.index l.log.records);
     }

@@ -1,9 +1,9 @@
 use Rattle.std.proofs.Common.{List, Option, [], false, refl, ap, ◌∙◌}
 use Rattle.std.proofs.lemmas.Result.{err_from_is_err_and}
 use Rattle.log_lane.specs.Lanes.{ReadAhead}
-use Rattle.case_pass.specs.Pass.{logs_of as case_logs}
+use Rattle.turn_taking.specs.Pass.{logs_of as case_logs}
 use Rattle.lock_step.specs.Taking.{Taken, turned}
-use Rattle.slim_case.specs.Slim.{logs_of}
+use Rattle.log_lane.specs.Slim.{logs_audited}
 use Rattle.stream_audit.specs.Glue.{so_far}
 use Rattle.stream_audit.specs.Streamed.{IsRefusalOf}
 use Rattle.stream_audit.specs.declared.error.StreamError.TheVariants.{OutOfMemory}
@@ -47,7 +47,7 @@ returns-clause-line g c =
     let step = c.in_ok-found.ensures begins c.requires.begun refl refl (begun c.args.lanes.now (turned begins) c.requires.fresh apart refl refl) in
     let found = c.in_ok-take_logs-2.ensures.ok in
     let made = c.in_ok-case.ensures.ok in
-    let logs = logs_of c.in_ok-take_logs-2.field-0.items in
+    let logs = logs_audited c.in_ok-take_logs-2.field-0.items in
     let same = found.same ∙ ap (λ (ls : List (Option ReadAhead)). case_logs (so_far ls)) c.in_ok-take_logs-2.ensures.lanes in
     line_of_streams c.take_logs-2.new.lanes c.args.links.items c.args.order.now c.in_ok-case.case c.in_ok-take_logs-2.field-0.items c.in_ok-line_of.field-0 found made.0 made.1 made.2 made.3
     (c.in_ok-line_of.ensures (so_far c.read_in_turns.new.lanes) logs c.args.order.now step.0 step.1 step.2 same made.1.just_logs made.2 made.3)

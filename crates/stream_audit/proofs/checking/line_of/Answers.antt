@@ -4,9 +4,9 @@ use Rattle.vat_log.specs.Log.{Log}
 use Rattle.vat_log.specs.Passages.{sends, receives}
 use Rattle.turn_taking.specs.Turns.{AreAll, order_of}
 use Rattle.call_order.specs.Fault.{IsFaultBy}
-use Rattle.lock_step.specs.Taking.{Taken, count_turns, delivers, turned}
+use Rattle.lock_step.specs.Taking.{Taken, count_turns, passes_delivery, turned}
 use Rattle.audit_core.specs.Lines.{IsLineOf}
-use Rattle.audit_core.specs.declared.report.Report.{Report}
+use Rattle.case_report.specs.declared.report.Report.{Report}
 use Rattle.stream_audit.specs.Glue.{IsTakenSo, IsYesBy, IsYesOf}
 use Rattle.stream_audit.proofs.Answering as answer
 use Rattle.stream_audit.proofs.Firsts.{ok_more, some_so}
@@ -26,14 +26,14 @@ returns-in-Fails c = λ lanes logs given taken is so same moved case tied.
     let good = answer.links_told_good taken.all c.in_ok-line.field-0 c.args.case.now.links c.links.result.now c.links.ensures.lent c.in_default-2.is (c.in_ok-line.ensures taken is) in
     let fails = answer.failing lanes logs c.args.case.now (turned taken) same moved case given c.in-Fails.step (subst (IsTakenSo lanes (turned taken) given) c.in-Fails.is so) in
     answer.fails_line lanes logs c.args.case.now given c.args.found taken so same moved case tied c.logs.result.now c.logs.ensures.lent c.in_default.ensures.within c.in_default.ensures.line good
-    (count_turns delivers taken.all) (count_turns sends taken.all - count_turns receives taken.all) refl refl c.in-Fails.step fails.0 fails.1 fails.2
+    (count_turns passes_delivery taken.all) (count_turns sends taken.all - count_turns receives taken.all) refl refl c.in-Fails.step fails.0 fails.1 fails.2
 
 pub returns-in-NoOrder : goal.returns-in-NoOrder
 returns-in-NoOrder c = λ lanes logs given taken is so same moved case tied.
     let good = answer.links_told_good taken.all c.in_ok-line.field-0 c.args.case.now.links c.links.result.now c.links.ensures.lent c.in_default-2.is (c.in_ok-line.ensures taken is) in
     let none = answer.none_fits lanes logs c.args.case.now (turned taken) same moved case given (subst (IsTakenSo lanes (turned taken) given) c.in-NoOrder.is so) in
     answer.no_order_line lanes logs c.args.case.now given c.args.found taken so same moved case tied c.logs.result.now c.logs.ensures.lent c.in_default.ensures.within c.in_default.ensures.line good
-    (count_turns delivers taken.all) (count_turns sends taken.all - count_turns receives taken.all) refl refl none.0 none.1
+    (count_turns passes_delivery taken.all) (count_turns sends taken.all - count_turns receives taken.all) refl refl none.0 none.1
 
 pub returns-in-Some-fault : goal.returns-in-Some-fault
 returns-in-Some-fault c = λ lanes logs given taken is so same moved case tied.
@@ -42,7 +42,7 @@ returns-in-Some-fault c = λ lanes logs given taken is so same moved case tied.
     let all = answer.all_in_order lanes logs c.args.case.now (turned taken) same moved case given fits in
     let by_fault = some_so (λ (t : Taken). (ls : List Log) → AreAll ls t.in_order → IsFaultBy ls (order_of t.in_order) c.fault.result) c.args.turns.now taken is c.fault.ensures c.args.case.now.logs all in
     answer.early_line lanes logs c.args.case.now given c.args.found taken so same moved case tied c.logs.result.now c.logs.ensures.lent c.in_default.ensures.within c.in_default.ensures.line good
-    (count_turns delivers taken.all) (count_turns sends taken.all - count_turns receives taken.all) refl refl c.fault.result (answer.fitting lanes logs c.args.case.now (turned taken) same moved case c.orders_have_one_fault.ensures given c.fault.result fits by_fault)
+    (count_turns passes_delivery taken.all) (count_turns sends taken.all - count_turns receives taken.all) refl refl c.fault.result (answer.fitting lanes logs c.args.case.now (turned taken) same moved case c.orders_have_one_fault.ensures given c.fault.result fits by_fault)
     c.in-Some-fault.vat c.in-Some-fault.at c.in-Some-fault.is
 
 pub returns-in-None : goal.returns-in-None

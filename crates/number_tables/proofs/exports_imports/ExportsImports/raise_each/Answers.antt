@@ -5,7 +5,7 @@ use Rattle.std.proofs.lemmas.List.Sums.{sum_by-append}
 use Rattle.decoded_records.specs.declared.origin.Origin.{Origin}
 use Rattle.number_tables.specs.Types.{TableKey}
 use Rattle.decoded_records.specs.Past.{same_id}
-use Rattle.number_tables.specs.Glue.LifeTables.{count_at, origin_at, raised_origin}
+use Rattle.number_tables.specs.Glue.LifeTables.{held_count_at, origin_at, raised_origin}
 use Rattle.number_tables.proofs.Raising.{raised_more, ok_gives}
 use Rattle.number_tables.proofs.exports_imports.ExportsImports.raise_each.Goals as goal
 
@@ -24,6 +24,6 @@ loop-index-preserved c =
       origins = λ i.
           ok_gives c.raise.result good c.raise.ensures.origins i
           ∙ ap₂ (λ (n : ℕ) o. if same_id i item.0 && (n == 0) then Some item.1 else o) (c.loop-index.invariant.counts i) (c.loop-index.invariant.origins i)
-          ∙ sym (raised_more i (origin_at c.args.self.now i) (count_at c.args.self.now i) (take c.loop-index.index c.args.introduced.now) item)
-          ∙ ap (λ xs. raised_origin (count_at c.args.self.now i) (origin_at c.args.self.now i) i xs) (sym more);
+          ∙ sym (raised_more i (origin_at c.args.self.now i) (held_count_at c.args.self.now i) (take c.loop-index.index c.args.introduced.now) item)
+          ∙ ap (λ xs. raised_origin (held_count_at c.args.self.now i) (origin_at c.args.self.now i) i xs) (sym more);
     }

@@ -8,7 +8,7 @@ use Rattle.decoded_records.specs.Uses.{UsesQuestions}
 use Rattle.number_tables.specs.Glue.QuestionTables.{question_at, late_by}
 use Rattle.decoded_records.specs.Glue.Origins.{origins_from}
 use Rattle.vat_view.specs.Glue.Tables.{origins, IsTabled}
-use Rattle.number_tables.specs.declared.questions.Questions.{Questions}
+use Rattle.number_tables.specs.declared.question_table.Questions.{Questions}
 use Rattle.number_tables.specs.declared.exports_imports.ExportsImports.{ExportsImports}
 use Rattle.vat_view.proofs.Knowing.{late_known}
 use Rattle.vat_view.proofs.Stepping.{three_ok, three_err, tabled_open, tabled_close, tabled_same}

@@ -1,7 +1,7 @@
 use Rattle.std.proofs.Common.{◌∙◌, sym, ap, subst, ◌∷◌, ℕ, option_and_then, slice_get}
 use Rattle.agree.specs.Rows.{log_of_vat}
 use Rattle.run_model.specs.declared.step.Step.TheVariants as step
-use Rattle.call_trace.specs.Glue.Ledgers.{received_step}
+use Rattle.call_trace.specs.Glue.Ledgers.{step_of_receipt}
 use Rattle.call_trace.specs.Glue.Channels.{message_by, AreLines}
 use Rattle.call_trace.specs.Naming.{message_of_step}
 use Rattle.call_trace.specs.Running.{coming_next, steps_by}
@@ -50,7 +50,7 @@ returns c =
     (record { steps = new.steps; lines = c.receive.new.self }) new.ledger next.so_far coming
     (λ bound. subst (λ u. AreLines (step.Receive u w.connection c.in-Some-2.message bound ∷ before) c.receive.new.self) next.kept.vat
     (c.in_ok-number.ensures.received before c.in-Some-2.message bound (ap (λ (u : ℕ). coming_next u w.connection before) next.kept.vat ∙ coming) next.trail.lines))
-    (with_steps v (log_of_vat v row) e (steps_by v before) c.args.self.now.steps.items before (received_step v (log_of_vat v row) (steps_by v before) e c.in-Some-2.message) new.steps.items new.ledger
+    (with_steps v (log_of_vat v row) e (steps_by v before) c.args.self.now.steps.items before (step_of_receipt v (log_of_vat v row) (steps_by v before) e c.in-Some-2.message) new.steps.items new.ledger
     next.trail.steps
     (ensures v (log_of_vat v row) (steps_by v before) (kept_in v row before c.args.self.now.steps.items c.args.ledger.now next.trail.steps next.kept) next.known)))
     c.take_received.ensures

@@ -1,8 +1,0 @@
-use Rattle.std.proofs.Common.{Some}
-use Rattle.std.specs.BTreeMap.{get}
-use Rattle.call_order.specs.Glue.Names.{key_cmp}
-use Rattle.call_order.proofs.Keys.{put_key}
-use Rattle.call_order.proofs.names.Names.come.Goals as goal
-
-pub returns : goal.returns
-returns c = put_key (get key_cmp c.args.self.now.came) (get key_cmp c.insert.new.self) c.args.vat c.args.call (Some c.args.name) c.in_ok-insert.ensures.updates.0

@@ -1,5 +1,0 @@
-pub mod Lanes
-pub mod Turned
-pub mod Pass
-pub mod Whole
-pub mod Glue

@@ -1,0 +1,258 @@
+//! A log that is read ahead.
+
+ghost use Rattle.std.specs.Prelude.{◌≡◌, ◌≢◌, true, false, [], ◌∷◌, ◌++◌, Some, None, Ok, IfOk, IfErr, IfSome, MatchOption, OnOk};
+ghost use Rattle.cap_reader.specs.Defaults.{default_limits};
+ghost use Rattle.vat_log.specs.Reading.{log_of};
+ghost use Rattle.vat_log.specs.Runs.{with_record};
+ghost use Rattle.vat_log.specs.Streams.{StreamStopsBy};
+ghost use Rattle.vat_rules.specs.Audited as judged;
+ghost use Rattle.turn_taking.specs.Lanes.{GoesOn, HasNext};
+ghost use Rattle.log_lane.specs.Lanes.{EndsSo, ReadAhead, as_lane};
+
+use crate::ending::Ending;
+use crate::records_ahead::RecordsAhead;
+use crate::{SlimLog, UsedConnections};
+use byte_pieces::Pieces;
+use rpc_view::Limits;
+use std::alloc::{AllocError, Global};
+use std::marker::Model;
+use std::mem;
+use vat_log::{LogStream, ReadFault, Record};
+use vat_rules::VatAudit;
+
+/// Where a record is ahead, nothing is read behind so many bytes of frames.
+const BYTES: usize = 1_048_576;
+
+/// How many records are read ahead at once, at most, behind the first.
+const RECORDS: usize = 4096;
+
+/// Where one reading gave so many bytes, more are there without waiting. A pipe gives half as many at once.
+const AMPLE: usize = 131_072;
+
+/// The next record of a log; or none, where it didn't come whole and more isn't to be waited for; or why there is none.
+fn next_of<P: Pieces>(
+    alloc: Global,
+    stream: &mut LogStream<P>,
+    waits: bool,
+) -> Result<Option<Record>, Ending>
+    ensures given { IfOk result (λ next. MatchOption next ((stream.new.log ≡ stream.old.log) × (waits ≡ false))
+        (λ entry. stream.new.log ≡ with_record entry stream.old.log)) }
+    ensures ended { IfErr result (λ ending. (stream.new.log ≡ stream.old.log) × EndsSo (Some ending) stream.new) }
+{
+    if !waits {
+        return match stream.next_ready(alloc) {
+            Ok(next) => Ok(next),
+            Err(fault) => Err(Ending::Fault(fault)),
+        };
+    }
+    match stream.next(alloc) {
+        Ok(Some(entry)) => Ok(Some(entry)),
+        Ok(None) => Err(Ending::Whole),
+        Err(fault) => Err(Ending::Fault(fault)),
+    }
+}
+
+/// A record that was read is judged, and stands behind those that are ahead.
+fn keep(
+    alloc: Global,
+    entry: Record,
+    audit: &mut VatAudit,
+    used: &mut UsedConnections,
+    ahead: &mut RecordsAhead,
+) -> Result<(), AllocError>
+    ensures judged { OnOk result (audit.new ≡ judged.with_record entry audit.old) }
+    ensures used { OnOk result (used.new ≡ used.old ++ entry ∷ []) }
+    ensures ahead { OnOk result (ahead.new ≡ ahead.old ++ entry ∷ []) }
+{
+    audit.take(alloc, entry.body())?;
+    used.take(entry.body())?;
+    ahead.push(entry)
+}
+
+/// A log that is read ahead of what is taken of it, and judged as it is read. To a contract it is what was read, with the
+/// records that aren't taken yet, and why no more is read; nothing once memory was refused.
+#[derive(Drop)]
+pub struct LogLane<P: Pieces> {
+    stream: LogStream<P>,
+    audit: VatAudit,
+    used: UsedConnections,
+    ahead: RecordsAhead,
+    ending: Option<Ending>,
+    // whether the last reading gave so much that the next need not be waited for
+    is_ample: bool,
+    is_refused: bool,
+    is_spent: bool,
+}
+
+impl<P: Pieces> Model for LogLane<P> {
+    ghost use Rattle.std.specs.Prelude.{◌≡◌, false, Option};
+    ghost use Rattle.log_lane.specs.Lanes.{ReadAhead};
+    ghost use Rattle.log_lane.specs.Glue.{lane_unless, AreOfOne};
+
+    ghost Value = { Option ReadAhead };
+
+    ghost view = { λ lane. lane_unless lane.is_refused lane.stream lane.ahead lane.ending };
+
+    ghost invariant = { λ lane. lane.is_refused ≡ false
+        → AreOfOne lane.is_spent lane.stream lane.audit lane.used lane.ahead lane.ending };
+}
+
+impl<P: Pieces> LogLane<P> {
+    /// The lane of a log of which only the header was read.
+    pub fn new(alloc: Global, stream: LogStream<P>) -> LogLane<P>
+        requires { stream.log.records ≡ [] }
+        ensures { result ≡ Some (record { read = stream; ahead = []; ending = None }) }
+    {
+        let header = stream.header();
+        LogLane {
+            stream,
+            audit: VatAudit::new(alloc, header, Limits::default()),
+            used: UsedConnections::new(alloc),
+            ahead: RecordsAhead::new(alloc),
+            ending: None,
+            is_ample: false,
+            is_refused: false,
+            is_spent: false,
+        }
+    }
+
+    /// Lets the records go that were taken.
+    fn let_taken_go(&mut self)
+        ensures { self.new ≡ self.old }
+    {
+        self.ahead.let_taken_go();
+    }
+
+    /// Reads one record ahead, or sees that there is none; where more isn't to be waited for, only if the record came whole. Whether
+    /// one came.
+    fn read(&mut self, alloc: Global, waits: bool) -> bool
+        ensures more { (lane : ReadAhead) → self.old ≡ Some lane → IfSome self.new (λ longer.
+            GoesOn (as_lane lane) (as_lane longer) × (waits ≡ true → HasNext (as_lane longer))) }
+        ensures refused { self.old ≡ None → self.new ≡ None }
+    {
+        if self.is_refused {
+            return false;
+        }
+        if self.ending.is_some() {
+            return false;
+        }
+        self.is_refused = true;
+        let mut came = false;
+        match next_of(alloc, &mut self.stream, waits) {
+            Ok(Some(entry)) => {
+                if keep(
+                    alloc,
+                    entry,
+                    &mut self.audit,
+                    &mut self.used,
+                    &mut self.ahead,
+                )
+                .is_err()
+                {
+                    return false;
+                }
+                came = true;
+            }
+            Ok(None) => {}
+            Err(Ending::Fault(ReadFault::OutOfMemory)) => return false,
+            Err(ending) => self.ending = Some(ending),
+        }
+        self.is_refused = false;
+        came
+    }
+
+    /// Reads ahead what came whole, but for what is too much at once.
+    fn read_what_came(&mut self, alloc: Global)
+        ensures more { (lane : ReadAhead) → self.old ≡ Some lane
+            → IfSome self.new (λ longer. GoesOn (as_lane lane) (as_lane longer)) }
+        ensures refused { self.old ≡ None → self.new ≡ None }
+    {
+        for _ in 0..RECORDS {
+            if !self.read(alloc, false) {
+                return;
+            }
+        }
+    }
+
+    /// Sees whether the last reading gave so much that the next need not be waited for.
+    fn see_whether_ample(&mut self)
+        ensures { self.new ≡ self.old }
+    {
+        self.is_ample = self.stream.unread() >= AMPLE;
+    }
+
+    /// Whether so many records are ahead; or some, and more would be waited for, or their bytes are so many that no more are read.
+    fn has_enough(&self, enough: usize) -> bool
+        ensures { IfSome self.now (λ lane. result ≡ true → lane.ahead ≢ []) }
+    {
+        let ahead = self.ahead.len();
+        ahead > 0 && (ahead >= enough || self.ahead.bytes() >= BYTES || !self.is_ample)
+    }
+
+    /// From where the log comes.
+    pub fn pieces(&self) -> &P
+        ensures { IfSome self.now (λ lane. (P.came result.now ≡ lane.read.bytes) × (P.is_over result.now ≡ lane.read.is_over)) }
+    {
+        self.stream.pieces()
+    }
+
+    /// What is left of a log that was read whole, which can be asked for once; or why it wasn't, if that is known.
+    pub fn take_log(&mut self, alloc: Global) -> Result<SlimLog, Option<ReadFault>>
+        ensures lane { self.new ≡ self.old }
+        ensures whole { IfOk result (λ log. (lane : ReadAhead) × (self.old ≡ Some lane)
+            × (log.log ≡ lane.read.log) × (log.limits ≡ default_limits)
+            × (lane.read.is_over ≡ true) × (log_of lane.read.bytes ≡ Ok lane.read.log)) }
+        ensures fault { IfErr result (λ why. IfSome why (λ fault. (lane : ReadAhead) × (self.old ≡ Some lane)
+            × StreamStopsBy fault lane.read)) }
+    {
+        if self.is_refused || self.is_spent {
+            return Err(None);
+        }
+        match self.ending {
+            Some(Ending::Whole) => {
+                self.is_spent = true;
+                let fresh = VatAudit::new(alloc, self.stream.header(), Limits::default());
+                let audit = mem::replace(&mut self.audit, fresh);
+                let used = mem::replace(&mut self.used, UsedConnections::new(alloc));
+                Ok(SlimLog::new(audit.finish(), used))
+            }
+            Some(Ending::Fault(fault)) => Err(Some(fault)),
+            None => Err(None),
+        }
+    }
+}
+
+impl<P: Pieces> turn_taking::CaseLane for LogLane<P> {
+    ghost use Rattle.std.specs.Option.{option_map};
+    ghost use Rattle.log_lane.specs.Lanes.{as_lane};
+
+    ghost so_far = { λ lane. option_map as_lane lane };
+
+    fn vat(&self) -> u32 {
+        self.stream.vat()
+    }
+
+    fn first(&self) -> Option<&Record> {
+        self.ahead.first()
+    }
+
+    fn leave(&mut self) {
+        self.ahead.leave();
+    }
+
+    fn is_refused(&self) -> bool {
+        self.is_refused
+    }
+
+    /// Reads what one reading gives, and on until a record is there. Where one is, nothing is read behind 2^20 bytes of frames,
+    /// nor where the last reading gave so little that the next may have to wait. Those that were taken are let go.
+    fn fill(&mut self, alloc: Global, enough: usize) {
+        if self.has_enough(enough) {
+            return;
+        }
+        self.let_taken_go();
+        self.read(alloc, true);
+        self.see_whether_ample();
+        self.read_what_came(alloc);
+    }
+}

@@ -1,3 +1,0 @@
-pub mod Used
-pub mod Glue
-pub mod Slim

@@ -13,7 +13,7 @@ pub fn rule_sentence(rule: Rule) -> &'static str
 {
     match rule {
         Rule::Closed => {
-            "nothing is sent on a connection behind an abort that this vat sent there, and in a log of version 1 or 2 none that it received either"
+            "nothing is sent on a connection behind an abort that this vat sent there, or in a log of version 1 or 2 received there"
         }
         Rule::Ref => {
             "a record binds new references and calls once, names others only where they were bound, and notes a call beside a Bootstrap or a Call alone"

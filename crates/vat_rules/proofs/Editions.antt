@@ -18,13 +18,13 @@ use Rattle.decoded_records.specs.declared.table_key.TableKey.{TableKey}
 use Rattle.decoded_records.specs.Past.{Past, point, id, is, names, last_since}
 use Rattle.decoded_records.specs.Questions.{opens, opening, call_at, call_of, question_returned_lightly, returns_lightly, is_returned_lightly}
 use Rattle.decoded_records.specs.Views.{view_of_target}
-use Rattle.vat_view.specs.Connections.{abort_sent_on, aborts, is_aborted, is_aborted_here, reached_over, is_another, is_elsewhere, LeadsElsewhere}
+use Rattle.vat_view.specs.Connections.{abort_sent_on, aborts, is_aborted, is_aborted_here, reached_over, is_another, is_elsewhere}
 use Rattle.vat_rules.specs.declared.rule.Rule.TheVariants as rule
 use Rattle.vat_rules.specs.declared.outcome.Why.{Why}
 use Rattle.vat_rules.specs.declared.outcome.Outcome.TheVariants.{Good}
 use Rattle.vat_rules.specs.Types.{Edition, First, Later, RpcMessage, Abort, TakeFrom, Return, Sender, Disembargo, DecodedRecord, Host, Vow, Fulfil, Break, Make, Field, Deliver, Answer, AnswerBy, Fault, Wire, View, Object, Promise, FieldOf, Import}
 use Rattle.vat_rules.specs.Judged.{IsGoodBy}
-use Rattle.vat_rules.specs.OfConnections.{IsOpen, KeepsEmbargo}
+use Rattle.vat_rules.specs.OfConnections.{IsOpen, LeadsAway, KeepsEmbargo}
 use Rattle.vat_rules.specs.OfResults.{ReturnsTaken, ReturnsKnown}
 use Rattle.vat_rules.specs.LogFacts.{Told}
 use Rattle.vat_rules.specs.Events.{Reader, event_of, event_or_none, events_before, past_at}
@@ -66,7 +66,7 @@ aborted_too k (e ∷ before) h = elim (passed_or (λ b e. is k (abort_sent_on e)
 ]
 
 open_more : (before : Past) (e : DecodedRecord) → IsOpen First before e → IsOpen Later before e
-open_more before (Wire true k c rs Abort) h = elim (cases_Bool (is_aborted_here k before)) [
+open_more before (Wire true k c rs m) h = elim (cases_Bool (is_aborted_here k before)) [
   | inl here ↦ absurd (clash (aborted_too k before here) (not-true (is_aborted k before) h))
   | inr none ↦ ap not none
 ]
@@ -91,16 +91,10 @@ elsewhere_more k past (Import number place) h = elsewhere_if k (reached_over pas
 embargo_more : (before : Past) (e : DecodedRecord) → KeepsEmbargo First before e → KeepsEmbargo Later before e
 embargo_more before (Wire true k c rs (Disembargo n Sender target)) h = (
   h.0,
-  some_and_more (λ v. LeadsElsewhere First before v k) (λ v. LeadsElsewhere Later before v k) (λ v leads. (leads.0, leads.1, elsewhere_more k before leads.0 leads.2))
+  some_and_more (λ v. LeadsAway First before v k) (λ v. LeadsAway Later before v k) (λ v leads. inl (leads.0, leads.1, elsewhere_more k before leads.0 leads.2))
       (view_of_target before (Wire true k c rs (Disembargo n Sender target))) h.1,
 )
 embargo_more before _ h = h
-
--- what is sent that is no abort is judged alike by both
-pub open_otherwise : (edition : Edition) (before : Past) (k c : ℕ) (rs : List ℕ) (m : RpcMessage) → (m ≡ Abort → ⊥) → IsOpen edition before (Wire true k c rs m) ≡ (not (is_aborted k before) ≡ true)
-open_otherwise First before k c rs m other = refl
-open_otherwise Later before k c rs Abort other = absurd (other refl)
-open_otherwise Later before k c rs _ other = refl
 
 -- a record that is good by the first edition is good by the later one
 pub keeps_more : (before : Past) (e : DecodedRecord) → IsGoodBy First before e → IsGoodBy Later before e

@@ -3,7 +3,7 @@
 ghost use Rattle.std.specs.Prelude.{◌≡◌, ◌<◌, ◌↔◌, Decides, IsTrue, MatchOption, option_map};
 ghost use Rattle.decoded_records.specs.declared.view.View.{View};
 ghost use Rattle.vat_view.specs.Walks.{next, stays, turned_to, Leads, LeadsByTurns, IsEnd};
-ghost use Rattle.vat_view.specs.Connections.{LeadsOver, LeadsElsewhere};
+ghost use Rattle.vat_view.specs.Connections.{LeadsOver, LeadsElsewhere, CameBack};
 ghost use Rattle.decoded_records.specs.Borrowed.{as_view};
 
 use crate::state::VatState;
@@ -99,6 +99,22 @@ impl VatState {
             &self.tables.connections,
             BorrowedView::of(from),
             sought,
+        )
+    }
+
+    /// Whether a view leads, by 0 or more turns, to one that came back over this connection: it is reached over it, and the
+    /// message that turned it turned it to what is this vat's own (rpc.capnp, the comments of `Disembargo`,
+    /// `CapDescriptor.receiverHosted` and `receiverAnswer`). It takes no memory.
+    pub fn came_back(&self, from: &View, connection: u32) -> bool
+        ensures { Decides result (CameBack self.now from.now connection) }
+    {
+        leads_to(
+            &self.tables.turns,
+            &self.tables.bound,
+            &self.tables.arrivals,
+            &self.tables.connections,
+            BorrowedView::of(from),
+            Sought::Back(connection),
         )
     }
 }

@@ -461,6 +461,14 @@ TurnsAndThen turn a n c = after_turns turn n (turn a) ≡ Some c
 abbrev pub TurnsOn : {A : Type 0} → (A → Option A) → A → ℕ → A → ℕ → Type 0
 TurnsOn turn a most last n = (after_turns turn n (Some a) ≡ Some last) × (n ≤ most → turn last ≡ None)
 
+-- two reach a common one
+abbrev pub ReachOne : {A : Type 0} → (A → Option A) → A → A → Type 0
+ReachOne {A} turn a b = (c : A) × Reaches turn a c × Reaches turn b c
+
+-- one is reached from another at last: from each that is reached so
+abbrev pub IsLast : {A : Type 0} → (A → Option A) → A → A → Type 0
+IsLast {A} turn a last = Reaches turn a last × ((c : A) → Reaches turn a c → Reaches turn c last)
+
 -- the last that is reached, where it stays
 abbrev pub EndsBy : (View → Next) → View → View → Type 0
 EndsBy goes a end = Reaches (λ v. turned_to (goes v)) a end × (goes end ≡ stays)

@@ -2,7 +2,7 @@
 
 ghost use Rattle.std.specs.Prelude.{◌≡◌, ◌<◌, ◌↔◌, Decides, IsTrue, MatchOption, option_map};
 ghost use Rattle.decoded_records.specs.declared.view.View.{View};
-ghost use Rattle.vat_view.specs.Walks.{next, stays, turned_to, Leads, LeadsByTurns, IsEnd};
+ghost use Rattle.vat_view.specs.Walks.{next, stays, turned_to, Leads, LeadsByTurns, AreOne, Became, IsEnd};
 ghost use Rattle.vat_view.specs.Connections.{LeadsOver, LeadsElsewhere, CameBack};
 ghost use Rattle.decoded_records.specs.Borrowed.{as_view};
 
@@ -56,6 +56,26 @@ impl VatState {
             BorrowedView::of(from),
             BorrowedView::of(to),
         )
+    }
+
+    /// Whether two views are one: both lead, by 0 or more turns, to a common view. It walks twice as often as
+    /// [`VatState::leads`] at most, and takes no memory.
+    pub fn are_one(&self, a: &View, b: &View) -> bool
+        ensures { IsTrue result ↔ AreOne self.now a.now b.now }
+    {
+        hops::are_one(
+            &self.tables.turns,
+            &self.tables.bound,
+            BorrowedView::of(a),
+            BorrowedView::of(b),
+        )
+    }
+
+    /// Whether a view became another: it turned, and is one with it. It takes no memory.
+    pub fn became(&self, from: &View, to: &View) -> bool
+        ensures { IsTrue result ↔ Became self.now from.now to.now }
+    {
+        self.turned_to(from).is_some() && self.are_one(from, to)
     }
 
     /// The end of a view: the view to which it leads and which goes on nowhere. It has none where its walk stops or

@@ -40,6 +40,6 @@ ResolvesPromise edition before (Wire true k c rs (Resolve n resolution)) =
     let e = Wire true k c rs (Resolve n resolution) in
     IsTrue (is_unresolved (id k true n) before)
     × (is_cap_at (slice_get (descriptors e) 0) ≡ true →
-        ResolvesTo edition (is_own_number (slice_get (descriptors e) 0)) before (view_of_number (id k true n) before) (view_of_descriptor before e 0))
+    ResolvesTo edition (is_own_number (slice_get (descriptors e) 0)) before (view_of_number (id k true n) before) (view_of_descriptor before e 0))
 ResolvesPromise edition before (Wire false k c rs (Resolve n resolution)) = IsTrue (not (is_in_life (id k false n) before) || is_unresolved (id k false n) before)
 ResolvesPromise edition before _ = ⊤

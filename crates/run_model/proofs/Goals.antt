@@ -101,7 +101,7 @@ brought_if false a goal e = absurd (left_brought e)
 
 first : (before : PastSteps) (goal a : Asked) (o rest : Option Asked) → o ≡ Some a → a ≡ goal → IsSomeAnd (option_or o rest) (Reaches before goal)
 first before goal a None rest e f = absurd (none_some e)
-first before goal a (Some b) rest e f = let same : b ≡ goal = cc in subst (λ g. Reaches before g b) same (meets_itself before goal.goal, refl, refl)
+first before goal a (Some b) rest e f = let same : b ≡ goal = cc in subst (λ g. Reaches before g b) same (meets_itself before b.goal, refl, refl)
 
 -- a call that comes to a vat comes with such a goal
 came : (s : Step) (before : PastSteps) → EachStep IsLegal (s ∷ before) → EachStep IsLinked (s ∷ before) → EachStep (λ b t. AllGo b) before → (c : Name) (v : ℕ) (goal : Asked) →

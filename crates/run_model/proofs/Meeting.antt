@@ -1,5 +1,5 @@
 -- Caps that are one, and what a cap became.
-use Rattle.std.proofs.Common.{◌≡◌, ◌⊎◌, inl, inr, refl, sym, subst, ℕ, ◌++◌}
+use Rattle.std.proofs.Common.{◌⊎◌, inl, inr, refl, subst, ℕ, ◌++◌}
 use Rattle.run_model.specs.Types.{Cap, Object}
 use Rattle.run_model.proofs.Growing.{turns_grow, leads_grow, leads_through, passed_later}
 use Rattle.run_model.proofs.Turning.{turns_one_way, from_object}
@@ -44,7 +44,7 @@ pub became_later : (later before : PastSteps) (a b : Cap) → Became before a b 
 became_later later before a b (m, inl turned) = (meets_later later before a b m, inl (turned.0, turns_grow later before a turned.0 turned.1))
 became_later later before a b (m, inr passed) = (meets_later later before a b m, inr (passed_later later before a passed))
 
--- what a cap became is one with each cap that it became so
+-- a cap became each cap that is one with what it became
 pub became_through : (before : PastSteps) → EachStep IsLegal before → (a b c : Cap) → Became before a b → Meets before b c → Became before a c
 became_through before legal a b c h m = (meets_through before legal a b c h.0 m, h.1)
 

@@ -93,9 +93,9 @@ went_on_more : (own : Bool) (past : Past) (from to : Option View) → WentOn Fir
 went_on_more true past from to = became_more past from to
 went_on_more false past from to = λ h. h
 
-all_more : {X : Type 0} (P Q : X → Type 0) → ((x : X) → P x → Q x) → (xs : List X) → AllByRecursion P xs → AllByRecursion Q xs
-all_more P Q so [] h = tt
-all_more P Q so (x ∷ xs) h = (so x h.0, all_more P Q so xs h.1)
+each_more : {X : Type 0} (P Q : X → Type 0) → ((x : X) → P x → Q x) → (xs : List X) → AllByRecursion P xs → AllByRecursion Q xs
+each_more P Q so [] h = tt
+each_more P Q so (x ∷ xs) h = (so x h.0, each_more P Q so xs h.1)
 
 goal_more : (before : Past) (e : DecodedRecord) → GoesToGoal First before e → GoesToGoal Later before e
 goal_more before (Wire true k call rs (Call q target interface method params yourself)) h =
@@ -108,7 +108,7 @@ goal_more before _ h = h
 describes_more : (before : Past) (e : DecodedRecord) → Describes First before e → Describes Later before e
 describes_more before e h = record {
   noted_each = h.noted_each;
-  leads = λ sent in_time. all_more (NotesView First before e) (NotesView Later before e)
+  leads = λ sent in_time. each_more (NotesView First before e) (NotesView Later before e)
       (λ n noted. (goes_for_more before (view_of_reference before n.0) (view_of_descriptor before e n.1) noted.0, noted.1)) (placed_references e) (h.leads sent in_time);
   light = h.light;
   kinds = h.kinds;
@@ -122,7 +122,7 @@ resolve_more before _ h = h
 fields_more : (before : Past) (e : DecodedRecord) (fields : List (List ℕ × ℕ)) (call : ℕ) → ReturnsFields First before e fields call → ReturnsFields Later before e fields call
 fields_more before e fields call h = (
   h.0,
-  all_more (ReturnsField First before e call) (ReturnsField Later before e call)
+  each_more (ReturnsField First before e call) (ReturnsField Later before e call)
       (λ field given cap. went_on_more (is_own_number (slice_get (descriptors e) field.1)) before (Some (FieldOf call field.0)) (view_of_descriptor before e field.1) (given cap)) fields h.1,
 )
 

@@ -11,7 +11,8 @@ trap 'rm -rf "$room"' EXIT
 export turn=$room/turn
 
 missing=()
-for it in parallel:parallel rsvg-convert:librsvg2-bin convert:imagemagick; do
+# (of ImageMagick its identify is looked for: another program may have the name convert)
+for it in parallel:parallel rsvg-convert:librsvg2-bin identify:imagemagick; do
     command -v "${it%:*}" > /dev/null || missing+=("${it#*:}")
 done
 if [ ${#missing[@]} -gt 0 ]; then

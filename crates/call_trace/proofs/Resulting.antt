@@ -39,7 +39,8 @@ use Rattle.run_model.specs.Links.{IsLinked}
 use Rattle.run_model.specs.Steps.{is_same_call, vat_of}
 use Rattle.run_model.specs.Steps.{EachStep}
 use Rattle.run_model.proofs.Once.{names_same, or_either, some_of}
-use Rattle.run_model.proofs.Sending.{passes_later, either_later, received_answered, received_taken}
+use Rattle.run_model.proofs.Growing.{passes_later}
+use Rattle.run_model.proofs.Sending.{either_later, received_answered, received_taken}
 use Rattle.run_model.specs.declared.cap.Cap.TheVariants as cap
 use Rattle.run_model.specs.declared.message.Message.TheVariants as message
 use Rattle.run_model.specs.declared.step.Step.TheVariants as step

@@ -24,7 +24,7 @@ use Rattle.call_trace.proofs.Naming.{mapped_is, call_keeps}
 use Rattle.call_trace.proofs.Within.{stands_in}
 use Rattle.run_model.specs.Legal.{sends_on}
 use Rattle.run_model.specs.Steps.{OneOf, is_same_call, vat_of}
-use Rattle.run_model.proofs.Sending.{passes_later}
+use Rattle.run_model.proofs.Growing.{passes_later}
 use Rattle.run_model.proofs.Turning.{same_to_itself}
 use Rattle.run_model.specs.declared.message.Message.TheVariants as message
 use Rattle.run_model.specs.declared.step.Step.TheVariants as step

@@ -31,7 +31,7 @@ use Rattle.run_model.proofs.Alone.{unsettled_here}
 use Rattle.run_model.proofs.Arriving.{arrives_at_one, arrives_once, booted_unsettled}
 use Rattle.run_model.proofs.Once.{names_same, none_of, or_either}
 use Rattle.run_model.proofs.Places.{fresh_there, place}
-use Rattle.run_model.proofs.Sending.{passes_later}
+use Rattle.run_model.proofs.Growing.{passes_later}
 use Rattle.run_model.proofs.Spent.{arrived_spent, settles_spends, some_here, spends}
 use Rattle.run_model.proofs.Turning.{clash, same_to_itself}
 use Rattle.run_model.specs.declared.message.Message.TheVariants as message

@@ -24,7 +24,7 @@ mod replay;
 
 pub use life_notes::{put_gone, put_life, put_miscounted};
 pub use note_text::NoteText;
-pub use number_lives::{Lives, NumberLife, number_described};
+pub use number_lives::{Lives, NumberLife};
 pub use number_text::NumberText;
 pub use openings::{QuestionOpening, opening_of};
 pub use question_notes::{put_misused, put_opening, put_reopened};

@@ -24,33 +24,25 @@ impl NoteText {
         self.is_refused = true;
     }
 
+    /// What was looked for, unless memory was refused for it, which is remembered.
+    pub fn granted<T>(&mut self, found: Result<T, AllocError>) -> Option<T> {
+        if found.is_err() {
+            self.refuse();
+        }
+        found.ok()
+    }
+
     /// Appends words.
     pub fn words(&mut self, words: &str) {
-        if self.is_refused {
-            return;
-        }
-        if self.text.push_str(words).is_err() {
-            self.is_refused = true;
+        if !self.is_refused && self.text.push_str(words).is_err() {
+            self.refuse();
         }
     }
 
     /// Appends what is shown.
     pub fn shown<D: Display>(&mut self, shown: &D) {
-        if self.is_refused {
-            return;
-        }
-        if write!(self.text, "{shown}").is_err() {
-            self.is_refused = true;
-        }
-    }
-
-    /// Appends a number.
-    fn number(&mut self, number: u64) {
-        if self.is_refused {
-            return;
-        }
-        if write!(self.text, "{number}").is_err() {
-            self.is_refused = true;
+        if !self.is_refused && write!(self.text, "{shown}").is_err() {
+            self.refuse();
         }
     }
 
@@ -67,16 +59,50 @@ impl NoteText {
         self.words(behind);
     }
 
+    /// Appends words with what is shown in the place of a `@`.
+    fn words_of<D: Display>(&mut self, words: &str, shown: &D) {
+        match words.split_once('@') {
+            Some((before, behind)) => {
+                self.words(before);
+                self.shown(shown);
+                self.words(behind);
+            }
+            None => self.words(words),
+        }
+    }
+
+    /// Appends a sentence in which each `#` stands for the next of these numbers, and a `@` for what is shown.
+    pub fn tell_of<D: Display>(&mut self, sentence: &str, shown: &D, numbers: &[u64]) {
+        for (at, words) in sentence.split('#').enumerate() {
+            if let Some(number) = at.checked_sub(1).and_then(|before| numbers.get(before)) {
+                self.shown(number);
+            }
+            self.words_of(words, shown);
+        }
+    }
+
     /// Appends a sentence in which each `#` stands for the next of these numbers.
     pub fn tell(&mut self, sentence: &str, numbers: &[u64]) {
-        for (at, words) in sentence.split('#').enumerate() {
-            if let Some(before) = at.checked_sub(1) {
-                if let Some(number) = numbers.get(before) {
-                    self.number(*number);
-                }
-            }
-            self.words(words);
-        }
+        self.tell_of(sentence, &"", numbers);
+    }
+
+    /// Appends a note, whose sentence is told of so.
+    pub fn note_of<D: Display>(&mut self, sentence: &str, shown: &D, numbers: &[u64]) {
+        self.words("note: ");
+        self.tell_of(sentence, shown, numbers);
+        self.words("\n");
+    }
+
+    /// Appends a note.
+    pub fn say(&mut self, sentence: &str) {
+        self.words("note: ");
+        self.words(sentence);
+        self.words("\n");
+    }
+
+    /// Appends a note, whose sentence is told so.
+    pub fn note(&mut self, sentence: &str, numbers: &[u64]) {
+        self.note_of(sentence, &"", numbers);
     }
 
     /// The text.

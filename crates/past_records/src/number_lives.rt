@@ -10,10 +10,8 @@ const MOST: usize = 16;
 /// What was seen of a number.
 #[derive(Clone, Copy)]
 pub struct NumberLife {
-    /// The connection.
-    pub connection: u32,
     /// The number, an export or an import.
-    pub number: Number,
+    pub key: TableKey,
     /// How often it is held.
     pub held: u64,
     /// The record where its last life began.
@@ -30,32 +28,33 @@ pub struct Lives {
     items: Vec<NumberLife>,
 }
 
-/// An export or import number, as this vat names it.
-fn named_here(key: TableKey) -> Number {
-    if key.ours {
-        Number::Export(key.number)
-    } else {
-        Number::Import(key.number)
-    }
-}
-
 /// The number that one of a record's descriptors uses or introduces, where it is an export or an import.
-pub fn number_described(event: &DecodedRecord, descriptor: &Descriptor) -> Option<Number> {
-    match event
+pub(crate) fn number_described(event: &DecodedRecord, descriptor: &Descriptor) -> Option<TableKey> {
+    event
         .number_introduced(descriptor)
         .or(event.number_described(descriptor))
-    {
-        Some(key) => Some(named_here(key)),
-        None => None,
-    }
 }
 
 /// The number that a record names beside its capability table.
-pub(crate) fn number_named(event: &DecodedRecord) -> Option<Number> {
+pub(crate) fn number_named(event: &DecodedRecord) -> Option<TableKey> {
     let used = event.number_targeted().or(event.number_released());
-    match used.or(event.promise_resolved()) {
-        Some(key) => Some(named_here(key)),
-        None => None,
+    used.or(event.promise_resolved())
+}
+
+impl NumberLife {
+    /// Sees how often it is held behind the record of this number.
+    fn see(&mut self, held: u64, at: usize) {
+        if held < self.held {
+            self.lowered = Some(at);
+        }
+        if self.held == 0 && held > 0 {
+            self.began = Some(at);
+            self.ended = None;
+        }
+        if self.held > 0 && held == 0 {
+            self.ended = Some(at);
+        }
+        self.held = held;
     }
 }
 
@@ -68,11 +67,10 @@ impl Lives {
     }
 
     /// Watches this number too, unless there are too many.
-    pub(crate) fn add(&mut self, connection: u32, number: Number) -> Result<(), AllocError> {
-        if self.items.len() < MOST && self.of(connection, number).is_none() {
+    fn add(&mut self, key: TableKey) -> Result<(), AllocError> {
+        if self.items.len() < MOST && self.of(key).is_none() {
             self.items.push(NumberLife {
-                connection,
-                number,
+                key,
                 held: 0,
                 began: None,
                 lowered: None,
@@ -84,12 +82,9 @@ impl Lives {
 
     /// Watches the numbers of a record's descriptors too.
     pub(crate) fn add_described(&mut self, event: &DecodedRecord) -> Result<(), AllocError> {
-        let DecodedRecord::Wire { connection, .. } = event else {
-            return Ok(());
-        };
         for descriptor in event.descriptors() {
-            if let Some(number) = number_described(event, descriptor) {
-                self.add(*connection, number)?;
+            if let Some(key) = number_described(event, descriptor) {
+                self.add(key)?;
             }
         }
         Ok(())
@@ -98,31 +93,43 @@ impl Lives {
     /// The numbers that a record uses or introduces.
     pub(crate) fn of_record(alloc: Global, event: &DecodedRecord) -> Result<Lives, AllocError> {
         let mut lives = Lives::none(alloc);
-        if let DecodedRecord::Wire { connection, .. } = event {
-            if let Some(number) = number_named(event) {
-                lives.add(*connection, number)?;
-            }
+        if let Some(key) = number_named(event) {
+            lives.add(key)?;
         }
         lives.add_described(event)?;
         Ok(lives)
     }
 
     /// Sees what the record of this number, which was applied last, did to each.
-    pub(crate) fn see(&mut self, state: &VatState, at: usize) {
+    fn see(&mut self, state: &VatState, at: usize) {
         for life in &mut self.items {
-            let held = state.held(life.connection, life.number);
-            if held < life.held {
-                life.lowered = Some(at);
-            }
-            if life.held == 0 && held > 0 {
-                life.began = Some(at);
-                life.ended = None;
-            }
-            if life.held > 0 && held == 0 {
-                life.ended = Some(at);
-            }
-            life.held = held;
+            let TableKey {
+                connection,
+                ours,
+                number,
+            } = life.key;
+            let number = if ours {
+                Number::Export(number)
+            } else {
+                Number::Import(number)
+            };
+            life.see(state.held(connection, number), at);
         }
+    }
+
+    /// Applies the record of this number, and says whether it can be; where it can't, nothing changes.
+    pub(crate) fn apply(
+        &mut self,
+        state: &mut VatState,
+        event: &DecodedRecord,
+        at: usize,
+    ) -> Result<bool, AllocError> {
+        if !state.is_sound(event)? {
+            return Ok(false);
+        }
+        state.apply(event)?;
+        self.see(state, at);
+        Ok(true)
     }
 
     /// What was seen of each.
@@ -131,12 +138,7 @@ impl Lives {
     }
 
     /// What was seen of a number.
-    pub fn of(&self, connection: u32, number: Number) -> Option<NumberLife> {
-        for life in &self.items {
-            if life.connection == connection && life.number == number {
-                return Some(*life);
-            }
-        }
-        None
+    pub fn of(&self, key: TableKey) -> Option<NumberLife> {
+        self.items.iter().find(|life| life.key == key).copied()
     }
 }

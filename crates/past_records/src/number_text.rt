@@ -3,36 +3,24 @@
 use crate::number_lives::NumberLife;
 use std::fmt;
 use std::fmt::{Display, Formatter};
-use vat_view::Number;
+use vat_view::TableKey;
 
-/// A number of a connection.
+/// A number and its connection, behind the word for its kind.
 #[derive(Clone, Copy)]
-pub struct NumberText {
-    /// The connection.
-    pub connection: u32,
-    /// The number.
-    pub number: Number,
-}
-
-impl NumberText {
-    /// The number whose life this is.
-    pub fn of(life: NumberLife) -> NumberText {
-        NumberText {
-            connection: life.connection,
-            number: life.number,
-        }
-    }
-}
+pub struct NumberText(pub TableKey);
 
 impl Display for NumberText {
     fn fmt<W: fmt::Write>(&self, f: &mut Formatter<W>) -> fmt::Result {
-        let connection = self.connection;
-        match self.number {
-            Number::Export(number) => write!(f, "export {number} of connection {connection}"),
-            Number::Import(number) => write!(f, "import {number} of connection {connection}"),
-            Number::Question(number) | Number::Answer(number) => {
-                write!(f, "question {number} of connection {connection}")
-            }
-        }
+        let number = self.0.number;
+        let connection = self.0.connection;
+        write!(f, "{number} of connection {connection}")
+    }
+}
+
+impl Display for NumberLife {
+    fn fmt<W: fmt::Write>(&self, f: &mut Formatter<W>) -> fmt::Result {
+        let kind = if self.key.ours { "export" } else { "import" };
+        let number = NumberText(self.key);
+        write!(f, "{kind} {number}")
     }
 }

@@ -20,72 +20,41 @@ pub struct QuestionOpening {
     pub taken: Option<usize>,
 }
 
-/// What a record does to a question.
-#[derive(Clone, Copy)]
-enum QuestionStep {
-    Opens(u64, bool),
-    Returns,
-    Finishes,
-    Takes,
-    ReturnsAndTakes,
-}
-
-/// What a record does to this question.
-fn change_by(key: TableKey, event: &DecodedRecord) -> Option<QuestionStep> {
-    let sought = Some(key);
-    if event.question_opened() == sought {
-        return Some(QuestionStep::Opens(event.noted_call(), event.asks_elsewhere()));
-    }
-    if event.question_finished() == sought {
-        return Some(QuestionStep::Finishes);
-    }
-    let returns = event.question_returned() == sought;
-    let takes = event.question_taken() == sought;
-    match (returns, takes) {
-        (true, true) => Some(QuestionStep::ReturnsAndTakes),
-        (true, false) => Some(QuestionStep::Returns),
-        (false, true) => Some(QuestionStep::Takes),
-        (false, false) => None,
-    }
-}
-
-/// The question behind a change of it, made by the record of this number.
-fn changed(
-    known: Option<QuestionOpening>,
-    change: QuestionStep,
-    at: usize,
-) -> Option<QuestionOpening> {
-    if let QuestionStep::Opens(call, yourself) = change {
-        return Some(QuestionOpening {
+impl QuestionOpening {
+    /// Opened by this record.
+    fn by(event: &DecodedRecord, at: usize) -> QuestionOpening {
+        QuestionOpening {
             at,
-            call,
-            yourself,
+            call: event.noted_call(),
+            yourself: event.asks_elsewhere(),
             returned: None,
             finished: None,
             taken: None,
-        });
-    }
-    let mut opening = known?;
-    match change {
-        QuestionStep::Opens(_, _) => {}
-        QuestionStep::Returns => opening.returned = Some(at),
-        QuestionStep::Finishes => opening.finished = Some(at),
-        QuestionStep::Takes => opening.taken = Some(at),
-        QuestionStep::ReturnsAndTakes => {
-            opening.returned = Some(at);
-            opening.taken = Some(at);
         }
     }
-    Some(opening)
+
+    /// Sees what a record does to this question.
+    fn see(&mut self, key: TableKey, event: &DecodedRecord, at: usize) {
+        if event.question_finished() == Some(key) {
+            self.finished = Some(at);
+        }
+        if event.question_returned() == Some(key) {
+            self.returned = Some(at);
+        }
+        if event.question_taken() == Some(key) {
+            self.taken = Some(at);
+        }
+    }
 }
 
 /// The last opening of a question before the record that is told of, and what passed of it since.
 pub fn opening_of(past: &Past<'_>, key: TableKey) -> Option<QuestionOpening> {
-    let mut known = None;
-    for at in 0..past.at {
-        let event = past.get(at)?;
-        if let Some(change) = change_by(key, event) {
-            known = changed(known, change, at);
+    let mut known: Option<QuestionOpening> = None;
+    for (at, event) in past.events.iter().enumerate() {
+        if event.question_opened() == Some(key) {
+            known = Some(QuestionOpening::by(event, at));
+        } else if let Some(opening) = &mut known {
+            opening.see(key, event, at);
         }
     }
     known

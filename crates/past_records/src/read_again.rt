@@ -79,15 +79,9 @@ pub fn decoded(
 
 /// Appends the reason that a record gives, behind these words; nothing where it gives none.
 pub fn put_reason_of(alloc: Global, text: &mut NoteText, stored: &Record, words: &str) {
-    match record_reason(alloc, stored.body()) {
-        Ok(Some(reason)) => {
-            text.words(words);
-            text.words("\"");
-            text.shown(&reason);
-            text.words("\"");
-        }
-        Ok(None) => {}
-        Err(AllocError) => text.refuse(),
+    if let Some(Some(reason)) = text.granted(record_reason(alloc, stored.body())) {
+        text.words(words);
+        text.tell_of("\"@\"", &reason, &[]);
     }
 }
 

@@ -1,9 +1,10 @@
 //! A log up to one of its records.
 
-use crate::number_lives::Lives;
+use crate::number_lives::{Lives, NumberLife, number_described};
 use crate::read_again::decoded;
+use rpc_view::Descriptor;
 use std::alloc::{AllocError, Global};
-use vat_log::VatLog;
+use vat_log::{Body, VatLog};
 use vat_view::{DecodedRecord, VatState};
 
 /// A record, and what the numbers of its log are before it.
@@ -18,7 +19,7 @@ pub struct Past<'a> {
     pub event: DecodedRecord,
     /// What the records before it came to.
     pub state: VatState,
-    /// These records.
+    /// These records, all or none of them.
     pub events: Vec<DecodedRecord>,
     /// The lives of the numbers that are watched.
     pub lives: Lives,
@@ -36,52 +37,6 @@ impl Drop for Past<'_> {
             lives: _,
         } = self;
     }
-}
-
-/// Takes the next record, and says whether it can be applied.
-fn take(
-    state: &mut VatState,
-    events: &mut Vec<DecodedRecord>,
-    event: DecodedRecord,
-) -> Result<bool, AllocError> {
-    if !state.is_sound(&event)? {
-        return Ok(false);
-    }
-    state.apply(&event)?;
-    events.push(event)?;
-    Ok(true)
-}
-
-/// Takes the record of this number, and says whether it can be read and applied.
-fn take_at(
-    alloc: Global,
-    log: &VatLog,
-    at: usize,
-    state: &mut VatState,
-    events: &mut Vec<DecodedRecord>,
-) -> Result<bool, AllocError> {
-    match decoded(alloc, log, at)? {
-        Some(event) => take(state, events, event),
-        None => Ok(false),
-    }
-}
-
-/// Takes so many records of a log and watches numbers meanwhile; and says whether each of them can be applied.
-fn walk(
-    alloc: Global,
-    log: &VatLog,
-    end: usize,
-    state: &mut VatState,
-    events: &mut Vec<DecodedRecord>,
-    lives: &mut Lives,
-) -> Result<bool, AllocError> {
-    for at in 0..end {
-        if !take_at(alloc, log, at, state, events)? {
-            return Ok(false);
-        }
-        lives.see(state, at);
-    }
-    Ok(true)
 }
 
 impl<'a> Past<'a> {
@@ -102,23 +57,33 @@ impl<'a> Past<'a> {
             events: Vec::new(alloc),
             lives,
         };
-        if past.walk()? {
-            Ok(Some(past))
-        } else {
-            Ok(None)
+        let is_whole = past.walk()?;
+        Ok(if is_whole { Some(past) } else { None })
+    }
+
+    /// Keeps this record, the next one, and says whether it can be applied.
+    fn keep(&mut self, event: DecodedRecord, at: usize) -> Result<bool, AllocError> {
+        let is_applied = self.lives.apply(&mut self.state, &event, at)?;
+        self.events.push(event)?;
+        Ok(is_applied)
+    }
+
+    /// Takes the record of this number, the next one, and says whether it can be read and applied.
+    fn take(&mut self, at: usize) -> Result<bool, AllocError> {
+        match decoded(self.alloc, self.log, at)? {
+            Some(event) => self.keep(event, at),
+            None => Ok(false),
         }
     }
 
     /// Takes the records before it, and says whether each of them can be applied.
     fn walk(&mut self) -> Result<bool, AllocError> {
-        walk(
-            self.alloc,
-            self.log,
-            self.at,
-            &mut self.state,
-            &mut self.events,
-            &mut self.lives,
-        )
+        for at in 0..self.at {
+            if !self.take(at)? {
+                return Ok(false);
+            }
+        }
+        Ok(true)
     }
 
     /// The record of this number and the log before it, with the numbers watched that it uses. None where a frame isn't
@@ -143,5 +108,47 @@ impl<'a> Past<'a> {
     /// The record of this number among those before it.
     pub fn get(&self, number: usize) -> Option<&DecodedRecord> {
         self.events.get(number)
+    }
+
+    /// The first record before it, from this one on, that is as sought.
+    pub fn find<F: Fn(&DecodedRecord) -> bool>(&self, from: usize, is_sought: F) -> Option<usize>
+        requires { F.IsAlwaysCallable is_sought }
+    {
+        for at in from..self.at {
+            if is_sought(self.get(at)?) {
+                return Some(at);
+            }
+        }
+        None
+    }
+
+    /// The last record before it that is as sought.
+    pub fn find_last<F: Fn(&DecodedRecord) -> bool>(&self, is_sought: F) -> Option<usize>
+        requires { F.IsAlwaysCallable is_sought }
+    {
+        let mut found = None;
+        for (at, event) in self.events.iter().enumerate() {
+            if is_sought(event) {
+                found = Some(at);
+            }
+        }
+        found
+    }
+
+    /// The first record behind it in the log whose body is as sought.
+    pub fn find_behind<F: Fn(&Body) -> bool>(&self, is_sought: F) -> Option<usize>
+        requires { F.IsAlwaysCallable is_sought }
+    {
+        for at in self.at.saturating_add(1)..self.log.len() {
+            if is_sought(self.log.get(at)?.body()) {
+                return Some(at);
+            }
+        }
+        None
+    }
+
+    /// The life of the number that one of its descriptors names.
+    pub fn life_of(&self, descriptor: &Descriptor) -> Option<NumberLife> {
+        self.lives.of(number_described(&self.event, descriptor)?)
     }
 }

@@ -43,13 +43,9 @@ impl Replay {
     ///
     /// Out of memory.
     pub fn take(&mut self, event: &DecodedRecord) -> Result<bool, AllocError> {
-        if !self.state.is_sound(event)? {
-            return Ok(false);
-        }
-        self.state.apply(event)?;
-        self.lives.see(&self.state, self.count);
-        self.count = self.count.saturating_add(1);
-        Ok(true)
+        let is_applied = self.lives.apply(&mut self.state, event, self.count)?;
+        self.count = self.count.saturating_add(usize::from(is_applied));
+        Ok(is_applied)
     }
 
     /// The next record, and what those before it came to, none of which is kept. The log, in which they would stand, has none.

@@ -25,15 +25,18 @@ pub fn vat_of(bytes: &Bytes) -> Option<u32> {
     }
 }
 
+/// The name of the first of these files that has the log of a vat.
+pub(crate) fn name_in(files: &[(String, Bytes)], vat: u32) -> Option<&str> {
+    let mut those = files.iter();
+    those
+        .find(|(_, bytes)| vat_of(bytes) == Some(vat))
+        .map(|(name, _)| name.as_str())
+}
+
 impl<'a> Logs<'a> {
     /// The name of the file that has the log of this vat, where it is kept.
     pub fn name_of(&self, vat: u32) -> Option<&'a str> {
-        for (name, bytes) in self.files {
-            if vat_of(bytes) == Some(vat) {
-                return Some(name.as_str());
-            }
-        }
-        None
+        name_in(self.files, vat)
     }
 
     /// The log of this vat among the files that were read.

@@ -11,6 +11,7 @@
 #![tactic(auto)]
 
 mod at_end;
+mod call_steps;
 mod kept_logs;
 mod open;
 mod open_counts;

@@ -21,49 +21,39 @@ pub struct OpenCounts {
     loopbacks: usize,
 }
 
-/// Something that was counted, with the word for one of it and for more.
+/// Something that was counted, with the word for one of it, and what follows that.
 type Counted = (usize, &'static str, &'static str);
 
-/// Whether this is an own question without a Return.
-fn is_unreturned(left: &Open) -> bool {
-    matches!(left, Open::Question { question, .. } if question.ours)
-}
-
-/// Whether this is an own question without a Finish that it needs.
-fn is_unfinished(left: &Open) -> bool {
-    matches!(left, Open::Unfinished { question, .. } if question.ours)
-}
-
-/// Whether this is an export.
-fn is_export(left: &Open) -> bool {
-    matches!(left, Open::Number { number, .. } if number.ours)
-}
-
-/// Whether this is an import.
-fn is_import(left: &Open) -> bool {
-    matches!(left, Open::Number { number, .. } if !number.ours)
-}
-
-/// Whether this is an export that is a promise without a Resolve.
-fn is_promise(left: &Open) -> bool {
-    matches!(left, Open::Number { number, unresolved: true, .. } if number.ours)
-}
-
-/// Whether this is an own loopback without an echo.
-fn is_loopback(left: &Open) -> bool {
-    matches!(left, Open::Loopback { number, .. } if number.ours)
+/// How much of this is of a kind.
+fn count<F: Fn(&Open) -> bool>(list: &[Open], is_of: F) -> usize
+    requires { F.IsAlwaysCallable is_of }
+{
+    list.iter().filter(|left| is_of(left)).count()
 }
 
 impl OpenCounts {
     /// How much is open of this.
     pub fn of(list: &[Open]) -> OpenCounts {
         OpenCounts {
-            unreturned: list.iter().filter(|left| is_unreturned(left)).count(),
-            unfinished: list.iter().filter(|left| is_unfinished(left)).count(),
-            exports: list.iter().filter(|left| is_export(left)).count(),
-            imports: list.iter().filter(|left| is_import(left)).count(),
-            promises: list.iter().filter(|left| is_promise(left)).count(),
-            loopbacks: list.iter().filter(|left| is_loopback(left)).count(),
+            unreturned: count(list, |left| {
+                matches!(left, Open::Question { question, .. } if question.ours)
+            }),
+            unfinished: count(list, |left| {
+                matches!(left, Open::Unfinished { question, .. } if question.ours)
+            }),
+            exports: count(
+                list,
+                |left| matches!(left, Open::Number { number, .. } if number.ours),
+            ),
+            imports: count(list, |left| {
+                matches!(left, Open::Number { number, .. } if !number.ours)
+            }),
+            promises: count(list, |left| {
+                matches!(left, Open::Number { number, unresolved: true, .. } if number.ours)
+            }),
+            loopbacks: count(list, |left| {
+                matches!(left, Open::Loopback { number, .. } if number.ours)
+            }),
         }
     }
 
@@ -84,28 +74,12 @@ impl OpenCounts {
     /// What is counted.
     fn counts(&self) -> [Counted; 6] {
         [
-            (
-                self.unreturned,
-                "question without a Return",
-                "questions without a Return",
-            ),
-            (
-                self.unfinished,
-                "question without a Finish",
-                "questions without a Finish",
-            ),
-            (self.exports, "export held", "exports held"),
-            (self.imports, "import held", "imports held"),
-            (
-                self.promises,
-                "promise without a Resolve",
-                "promises without a Resolve",
-            ),
-            (
-                self.loopbacks,
-                "loopback without an echo",
-                "loopbacks without an echo",
-            ),
+            (self.unreturned, "question", "without a Return"),
+            (self.unfinished, "question", "without a Finish"),
+            (self.exports, "export", "held"),
+            (self.imports, "import", "held"),
+            (self.promises, "promise", "without a Resolve"),
+            (self.loopbacks, "loopback", "without an echo"),
         ]
     }
 
@@ -118,11 +92,11 @@ impl OpenCounts {
 impl Display for OpenCounts {
     fn fmt<W: fmt::Write>(&self, f: &mut Formatter<W>) -> fmt::Result {
         let mut is_first = true;
-        for (count, one, more) in self.counts() {
+        for (count, word, rest) in self.counts() {
             if count > 0 {
                 let comma = if is_first { "" } else { ", " };
-                let word = if count == 1 { one } else { more };
-                write!(f, "{comma}{count} {word}")?;
+                let plural = if count == 1 { "" } else { "s" };
+                write!(f, "{comma}{count} {word}{plural} {rest}")?;
                 is_first = false;
             }
         }

@@ -37,14 +37,9 @@ pub fn put_stored(
     stored: &Record,
     edition: Edition,
 ) {
-    match shown_record(alloc, at, stored, edition) {
-        Ok(shown) => {
-            text.words("note: ");
-            text.name(name);
-            text.words(": record ");
-            text.shown(&shown);
-        }
-        Err(AllocError) => text.refuse(),
+    if let Some(shown) = text.granted(shown_record(alloc, at, stored, edition)) {
+        text.file("note: ", name, ": record ");
+        text.shown(&shown);
     }
     put_reason_of(alloc, text, stored, " reason ");
     text.words("\n");
@@ -60,12 +55,9 @@ pub fn put_record(alloc: Global, text: &mut NoteText, name: &str, log: &VatLog, 
 
 /// Appends the note of a record of a vat, where its log is kept.
 pub fn put_place(alloc: Global, text: &mut NoteText, logs: &Logs<'_>, vat: u32, at: usize) {
-    let Some(name) = logs.name_of(vat) else {
-        return;
-    };
-    match logs.of_vat(alloc, vat) {
-        Ok(Some(log)) => put_record(alloc, text, name, &log, at),
-        Ok(None) => {}
-        Err(AllocError) => text.refuse(),
+    if let Some(name) = logs.name_of(vat) {
+        if let Some(Some(log)) = text.granted(logs.of_vat(alloc, vat)) {
+            put_record(alloc, text, name, &log, at);
+        }
     }
 }

@@ -1,24 +1,24 @@
--- Wherever a call is, its Make leads to its goal.
+-- Wherever a call is, the cap of its Make and its goal are one.
 use Rattle.std.proofs.Common.{◌≡◌, refl, sym, ◌∙◌, ap, subst, ℕ, ◌==◌, [], ◌∷◌, ◌++◌, Bool, true, false, ◌&&◌, Option, Some, None, if◌then◌else◌, IsSomeAnd, true≢false}
 use Rattle.std.specs.List.{list_any}
 use Rattle.std.specs.Option.{option_or}
 use Rattle.std.proofs.lemmas.Bool.{and_parts, or_left, or_right}
 use Rattle.run_model.specs.Types.{Name, Cap, Message, Boot, Call, Step, Host, Make, Deliver, Fault, Send, Receive}
-use Rattle.run_model.proofs.Growing.{leads_grow, leads_through}
+use Rattle.run_model.proofs.Meeting.{meets_itself, meets_later, meets_through}
 use Rattle.run_model.proofs.Sending.{was_sent}
 use Rattle.run_model.proofs.Once.{names_same}
-use Rattle.run_model.specs.Leads.{Leads, here}
+use Rattle.run_model.specs.Leads.{Meets}
 use Rattle.run_model.specs.Legal.{IsLegal, begins_call}
 use Rattle.run_model.specs.Links.{IsLinked}
 use Rattle.run_model.specs.Places.{Asked, asked_by_parts, Move, brings_it, takes_it_away, leaves_it, move_of, asked_after, at_vat}
 use Rattle.run_model.specs.Right.{request_in_make}
 use Rattle.run_model.specs.Steps.{EachStep, PastSteps, call, is_same_call, last_step_answer}
 
--- what is asked for leads to a goal, by the same method
+-- what is asked for and a goal are one, by the same method
 abbrev pub Reaches : PastSteps → Asked → Asked → Type 0
-Reaches before goal a = Leads before a.goal goal.goal × (goal.interface ≡ a.interface) × (goal.method ≡ a.method)
+Reaches before goal a = Meets before a.goal goal.goal × (goal.interface ≡ a.interface) × (goal.method ≡ a.method)
 
--- the Make of a call leads to a goal
+-- the cap of a call's Make and a goal are one
 abbrev pub IsGoal : PastSteps → Name → Asked → Type 0
 IsGoal before c goal = IsSomeAnd (last_step_answer (request_in_make c) before) (Reaches before goal)
 
@@ -58,7 +58,7 @@ made_once before _ c a legal b e = none_some e
 
 longer : (s : Step) (before : PastSteps) (goal : Asked) (o : Option Asked) → IsSomeAnd o (Reaches before goal) → IsSomeAnd o (Reaches (s ∷ before) goal)
 longer s before goal None h = h
-longer s before goal (Some a) h = (leads_grow (s ∷ []) before a.goal goal.goal h.0, h.1, h.2)
+longer s before goal (Some a) h = (meets_later (s ∷ []) before a.goal goal.goal h.0, h.1, h.2)
 
 more_of : (s : Step) (before : PastSteps) (c : Name) (goal : Asked) (o : Option Asked) → request_in_make c s ≡ o → ((a : Asked) → request_in_make c s ≡ Some a → ⊥) → IsGoal before c goal →
     IsSomeAnd (option_or o (last_step_answer (request_in_make c) before)) (Reaches (s ∷ before) goal)
@@ -72,20 +72,20 @@ more : (later before : PastSteps) (c : Name) (goal : Asked) → EachStep IsLegal
 more [] before c goal legal h = h
 more (s ∷ later) before c goal legal h = one_more s (later ++ before) c goal legal.0 (more later before c goal legal.1 h)
 
-each_at : (P : PastSteps → Step → Type 0) (later earlier : PastSteps) (s : Step) → EachStep P (later ++ s ∷ earlier) → P earlier s
-each_at P [] earlier s h = h.0
-each_at P (x ∷ later) earlier s h = each_at P later earlier s h.1
+each_up_to : (P : PastSteps → Step → Type 0) (later earlier : PastSteps) → EachStep P (later ++ earlier) → EachStep P earlier
+each_up_to P [] earlier h = h
+each_up_to P (x ∷ later) earlier h = each_up_to P later earlier h.1
 
--- one goal leads to another
-onwards : (before : PastSteps) (c : Name) (there : Asked) (target : Cap) (i j : ℕ) (o : Option Asked) → Leads before there.goal target → i ≡ there.interface → j ≡ there.method →
+-- one goal and another are one
+onwards : (before : PastSteps) → EachStep IsLegal before → (c : Name) (there : Asked) (target : Cap) (i j : ℕ) (o : Option Asked) → Meets before there.goal target → i ≡ there.interface → j ≡ there.method →
     IsSomeAnd o (Reaches before there) → IsSomeAnd o (Reaches before (asked_by_parts target i j))
-onwards before c there target i j None l e f h = h
-onwards before c there target i j (Some a) l e f h = (leads_through before a.goal there.goal target h.0 l, e ∙ h.1, f ∙ h.2)
+onwards before legal c there target i j None l e f h = h
+onwards before legal c there target i j (Some a) l e f h = (meets_through before legal a.goal there.goal target h.0 l, e ∙ h.1, f ∙ h.2)
 
-pub sent_on : (before : PastSteps) (c : Name) (w : ℕ) (target : Cap) (i j : ℕ) (o : Option Asked) → at_vat before c w ≡ o → AllGo before →
-    IsSomeAnd o (λ a. Leads before a.goal target × (i ≡ a.interface) × (j ≡ a.method)) → IsGoal before c (asked_by_parts target i j)
-sent_on before c w target i j None e all h = absurd h
-sent_on before c w target i j (Some a) e all h = onwards before c a target i j (last_step_answer (request_in_make c) before) h.0 h.1 h.2 (all c w a e)
+pub sent_on : (before : PastSteps) → EachStep IsLegal before → (c : Name) (w : ℕ) (target : Cap) (i j : ℕ) (o : Option Asked) → at_vat before c w ≡ o → AllGo before →
+    IsSomeAnd o (λ a. Meets before a.goal target × (i ≡ a.interface) × (j ≡ a.method)) → IsGoal before c (asked_by_parts target i j)
+sent_on before legal c w target i j None e all h = absurd h
+sent_on before legal c w target i j (Some a) e all h = onwards before legal c a target i j (last_step_answer (request_in_make c) before) h.0 h.1 h.2 (all c w a e)
 
 never : (b : Bool) (a : Asked) → (if b then takes_it_away else leaves_it) ≡ brings_it a → ⊥
 never true a e = cc
@@ -101,7 +101,7 @@ brought_if false a goal e = absurd (left_brought e)
 
 first : (before : PastSteps) (goal a : Asked) (o rest : Option Asked) → o ≡ Some a → a ≡ goal → IsSomeAnd (option_or o rest) (Reaches before goal)
 first before goal a None rest e f = absurd (none_some e)
-first before goal a (Some b) rest e f = let same : b ≡ goal = cc in subst (λ g. Reaches before g b) same (here, refl, refl)
+first before goal a (Some b) rest e f = let same : b ≡ goal = cc in subst (λ g. Reaches before g b) same (meets_itself before b.goal, refl, refl)
 
 -- a call that comes to a vat comes with such a goal
 came : (s : Step) (before : PastSteps) → EachStep IsLegal (s ∷ before) → EachStep IsLinked (s ∷ before) → EachStep (λ b t. AllGo b) before → (c : Name) (v : ℕ) (goal : Asked) →
@@ -120,11 +120,11 @@ came (Receive w k (Call d target i j caps) bound) before legal linked all c v go
     let was = was_sent before w k m bound linked.0 in
     let s : Step = Send was.0 k m in
     let there = subst (λ b. EachStep IsLegal b) was.4 legal.1 in
-    let legal_there : IsLegal was.2 s = each_at IsLegal was.1 was.2 s there in
-    let all_there : AllGo was.2 = each_at (λ b t. AllGo b) was.1 was.2 s (subst (λ b. EachStep (λ b t. AllGo b) b) was.4 all) in
-    let sent : IsGoal was.2 d (asked_by_parts target i j) = sent_on was.2 d was.0 target i j (at_vat was.2 d was.0) refl all_there legal_there.1 in
+    let legal_there : EachStep IsLegal (s ∷ was.2) = each_up_to IsLegal was.1 (s ∷ was.2) there in
+    let all_there : EachStep (λ b t. AllGo b) (s ∷ was.2) = each_up_to (λ b t. AllGo b) was.1 (s ∷ was.2) (subst (λ b. EachStep (λ b t. AllGo b) b) was.4 all) in
+    let sent : IsGoal was.2 d (asked_by_parts target i j) = sent_on was.2 legal_there.1 d was.0 target i j (at_vat was.2 d was.0) refl all_there.0 legal_there.0.1 in
     let now : IsGoal before d (asked_by_parts target i j) =
-    subst (λ b. IsGoal b d (asked_by_parts target i j)) (sym was.4) (more was.1 (s ∷ was.2) d (asked_by_parts target i j) there (one_more s was.2 d (asked_by_parts target i j) legal_there sent)) in
+    subst (λ b. IsGoal b d (asked_by_parts target i j)) (sym was.4) (more was.1 (s ∷ was.2) d (asked_by_parts target i j) there (one_more s was.2 d (asked_by_parts target i j) legal_there.0 sent)) in
     subst (λ g. IsGoal (Receive w k m bound ∷ before) c g) asked
     (subst (λ x. IsGoal (Receive w k m bound ∷ before) x (asked_by_parts target i j)) same (one_more (Receive w k m bound) before d (asked_by_parts target i j) legal.0 now))
 came (Receive w k (Boot d) bound) before legal linked all c v goal e = absurd (left_brought e)
@@ -150,5 +150,5 @@ all_go (s ∷ before) legal linked =
     let r = all_go before legal.1 linked.1 in ((λ c v goal e. decide s before legal linked r.0 r.1 c v goal (move_of c v s) refl e), (r.0, r.1))
 
 pub goes_to_goal : (before : PastSteps) → EachStep IsLegal before → EachStep IsLinked before → (c : Name) (v : ℕ) (goal : Asked) →
-    at_vat before c v ≡ Some goal → IsSomeAnd (last_step_answer (request_in_make c) before) (λ a. Leads before a.goal goal.goal × (goal.interface ≡ a.interface) × (goal.method ≡ a.method))
+    at_vat before c v ≡ Some goal → IsSomeAnd (last_step_answer (request_in_make c) before) (λ a. Meets before a.goal goal.goal × (goal.interface ≡ a.interface) × (goal.method ≡ a.method))
 goes_to_goal before legal linked c v goal e = (all_go before legal linked).0 c v goal e

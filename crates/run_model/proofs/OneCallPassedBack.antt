@@ -49,7 +49,7 @@ run =
     []
 
 pub is_legal : IsLegalRun run
-is_legal = ((tt, inl refl), ((((inr (inr (inr (inr (inr (inr (inr (inr (inr (inr (inr (inr (inr (inr (inr (inr (inr (inr (inr (inl (refl, inr ((0 ∷ []), refl)))))))))))))))))))))), ((inr (inr (inr (inr (inr (inr (inr (inr (inr (inr (inr (inr (inr (inr (inr (inr (inr (inr (inr (inl (refl, inr ((0 ∷ []), refl)))))))))))))))))))))), tt)), (refl, (inr (refl, refl), tt))), ((tt, inl refl), ((((inr (inr (inr (inr (inr (inr (inr (inr (inr (inr (inl (refl, inr ((0 ∷ []), refl))))))))))))), ((inr (inr (inr (inr (inr (inr (inr (inr (inr (inr (inl (refl, inr ((0 ∷ []), refl))))))))))))), tt)), (refl, (inr (refl, refl), tt))), ((tt, refl), ((tt, refl), ((tt, refl), ((((inr (inl (refl, inl (inl refl)))), tt), (turn (inr (inr (inl (inl (refl, refl))))) (turn (inl (refl, refl)) here), refl, refl)), ((((inl (refl, inl (inl refl))), tt), (refl, refl)), ((tt, refl), ((((inr (inl (refl, refl))), tt), (refl, refl, refl)), ((tt, refl), ((tt, tt), ((((inr (inr (inr (inr (inl (refl, ([], refl))))))), ((inr (inr (inr (inr (inr (inl (refl, refl))))))), tt)), (turn (inr (inl (inl (refl, refl)))) here, refl, refl)), ((tt, refl), ((((inr (inr (inl (refl, ([], refl))))), tt), (refl, refl, refl)), ((tt, refl), ((((inl (refl, ([], refl))), tt), tt), ((tt, (refl, refl)), ((tt, tt), ((((inr (inr (inr (inr (inl (refl, ([], refl))))))), tt), (turn (inr (inl (inl (refl, refl)))) here, refl, refl)), ((tt, refl), ((((inr (inr (inl (refl, ([], refl))))), tt), (refl, refl, refl)), ((tt, refl), ((((inl (refl, ([], refl))), tt), tt), ((tt, (refl, refl)), ((((inr (inr (inl (refl, ([], refl))))), tt), (here, refl, refl)), ((((inr (inl (refl, ([], refl)))), tt), refl), ((((inl (refl, ([], refl))), tt), tt), ((tt, (refl, refl)), tt))))))))))))))))))))))))))))))
+is_legal = ((tt, inl refl), ((((inr (inr (inr (inr (inr (inr (inr (inr (inr (inr (inr (inr (inr (inr (inr (inr (inr (inr (inr (inl (refl, inr ((0 ∷ []), refl)))))))))))))))))))))), ((inr (inr (inr (inr (inr (inr (inr (inr (inr (inr (inr (inr (inr (inr (inr (inr (inr (inr (inr (inl (refl, inr ((0 ∷ []), refl)))))))))))))))))))))), tt)), (refl, (((cap.Field (call 1 2) (0 ∷ []), here, here), inr refl), tt))), ((tt, inl refl), ((((inr (inr (inr (inr (inr (inr (inr (inr (inr (inr (inl (refl, inr ((0 ∷ []), refl))))))))))))), ((inr (inr (inr (inr (inr (inr (inr (inr (inr (inr (inl (refl, inr ((0 ∷ []), refl))))))))))))), tt)), (refl, (((cap.Field (call 1 2) (0 ∷ []), here, here), inr refl), tt))), ((tt, refl), ((tt, refl), ((tt, refl), ((((inr (inl (refl, inl (inl refl)))), tt), ((cap.Object 3 5, turn (inr (inr (inl (inl (refl, refl))))) (turn (inl (refl, refl)) here), here), refl, refl)), ((((inl (refl, inl (inl refl))), tt), (refl, refl)), ((tt, refl), ((((inr (inl (refl, refl))), tt), (refl, refl, refl)), ((tt, refl), ((tt, tt), ((((inr (inr (inr (inr (inl (refl, ([], refl))))))), ((inr (inr (inr (inr (inr (inl (refl, refl))))))), tt)), ((cap.Field (call 3 1) [], turn (inr (inl (inl (refl, refl)))) here, here), refl, refl)), ((tt, refl), ((((inr (inr (inl (refl, ([], refl))))), tt), (refl, refl, refl)), ((tt, refl), ((((inl (refl, ([], refl))), tt), tt), ((tt, (refl, refl)), ((tt, tt), ((((inr (inr (inr (inr (inl (refl, ([], refl))))))), tt), ((cap.Field (call 2 1) [], turn (inr (inl (inl (refl, refl)))) here, here), refl, refl)), ((tt, refl), ((((inr (inr (inl (refl, ([], refl))))), tt), (refl, refl, refl)), ((tt, refl), ((((inl (refl, ([], refl))), tt), tt), ((tt, (refl, refl)), ((((inr (inr (inl (refl, ([], refl))))), tt), ((cap.Field (call 1 1) [], here, here), refl, refl)), ((((inr (inl (refl, ([], refl)))), tt), refl), ((((inl (refl, ([], refl))), tt), tt), ((tt, (refl, refl)), tt))))))))))))))))))))))))))))))
 
 pub is_linked : IsLinkedRun run
 is_linked = ((refl, refl), (refl, ((refl, refl), (refl, ((refl, refl), (refl, ((refl, refl), (refl, (tt, ((refl, refl), (tt, ((refl, refl), (tt, (refl, ((refl, refl), (tt, ((refl, refl), (tt, (refl, (tt, (refl, ((refl, refl), (tt, ((refl, refl), (tt, (refl, (refl, (tt, (tt, (refl, tt))))))))))))))))))))))))))))))

@@ -4,7 +4,7 @@ use Rattle.std.specs.List.{list_any}
 use Rattle.std.specs.Option.{option_or}
 use Rattle.std.proofs.lemmas.Bool.{false_from_ne_true, or_from, or_parts}
 use Rattle.run_model.specs.Types.{Name, Cap, Object, Message, Boot, Call, Step, Host, Deliver, Send, Receive}
-use Rattle.run_model.proofs.Growing.{leads_through}
+use Rattle.run_model.proofs.Meeting.{leads_meet, meets_through, meets_object}
 use Rattle.run_model.proofs.Turning.{clash, same_to_itself}
 use Rattle.run_model.proofs.Once.{once, begun_once}
 use Rattle.run_model.proofs.Goals.{Reaches, IsGoal, begun_at, goes_to_goal, sent_on, all_go}
@@ -40,26 +40,28 @@ made_some : (c : Name) (before : PastSteps) (P : Asked → Type 0) → IsSomeAnd
 made_some c [] P h = absurd h
 made_some c (s ∷ before) P h = some_made c s before P (request_in_make c s) (made_some c before P) h
 
-onto : (before : PastSteps) (a : Asked) (b : Cap) (o : Option Asked) → Leads before a.goal b → IsSomeAnd o (Reaches before a) → IsSomeAnd o (λ m. Leads before m.goal b)
-onto before a b None l h = h
-onto before a b (Some m) l h = leads_through before m.goal a.goal b h.0 l
+onto : (before : PastSteps) → EachStep IsLegal before → (a : Asked) (v object : ℕ) (o : Option Asked) → Leads before a.goal (Object v object) → IsSomeAnd o (Reaches before a) →
+    IsSomeAnd o (λ m. Leads before m.goal (Object v object))
+onto before legal a v object None l h = h
+onto before legal a v object (Some m) l h =
+    meets_object before m.goal v object (meets_through before legal m.goal a.goal (Object v object) h.0 (leads_meet before a.goal (Object v object) l))
 
 by_method : (before : PastSteps) (target : Cap) (i j : ℕ) (o : Option Asked) → IsSomeAnd o (Reaches before (asked_by_parts target i j)) → IsSomeAnd o (λ m. (i ≡ m.interface) × (j ≡ m.method))
 by_method before target i j None h = h
 by_method before target i j (Some m) h = (h.1, h.2)
 
-delivers_there : (before : PastSteps) (v : ℕ) (c : Name) (b : Cap) (o : Option Asked) → EachStep IsLegal before → EachStep IsLinked before → at_vat before c v ≡ o →
-    IsSomeAnd o (λ a. Leads before a.goal b) → (count_steps (λ s. is_some (request_in_make c s)) before ≡ 1) × IsSomeAnd (last_step_answer (request_in_make c) before) (λ m. Leads before m.goal b)
-delivers_there before v c b None legal linked e h = absurd h
-delivers_there before v c b (Some a) legal linked e h =
+delivers_there : (before : PastSteps) (v : ℕ) (c : Name) (object : ℕ) (o : Option Asked) → EachStep IsLegal before → EachStep IsLinked before → at_vat before c v ≡ o →
+    IsSomeAnd o (λ a. Leads before a.goal (Object v object)) → (count_steps (λ s. is_some (request_in_make c s)) before ≡ 1) × IsSomeAnd (last_step_answer (request_in_make c) before) (λ m. Leads before m.goal (Object v object))
+delivers_there before v c object None legal linked e h = absurd h
+delivers_there before v c object (Some a) legal linked e h =
     let goal : IsGoal before c a = goes_to_goal before legal linked c v a e in
     let most : count_steps (λ s. is_some (request_in_make c s)) before ≤ 1 = once (λ s. is_some (request_in_make c s)) before (made_fresh c before legal) in
     let least : 1 ≤ count_steps (λ s. is_some (request_in_make c s)) before = made_some c before (Reaches before a) goal in
-    (omega (arith, most, least), onto before a b (last_step_answer (request_in_make c) before) h goal)
+    (omega (arith, most, least), onto before legal a v object (last_step_answer (request_in_make c) before) h goal)
 
 carries : (before : PastSteps) (v k : ℕ) (m : Message) → EachStep IsLegal before → EachStep IsLinked before → IsLegal before (Send v k m) → CarriesMethod before m
 carries before v k (Call c target i j caps) legal linked sent =
-    by_method before target i j (last_step_answer (request_in_make c) before) (sent_on before c v target i j (at_vat before c v) refl (all_go before legal linked).0 sent.1)
+    by_method before target i j (last_step_answer (request_in_make c) before) (sent_on before legal c v target i j (at_vat before c v) refl (all_go before legal linked).0 sent.1)
 carries before v k (Boot c) legal linked sent = tt
 carries before v k _ legal linked sent = tt
 
@@ -73,7 +75,7 @@ brings_method before v k _ bound legal linked = tt
 
 reaches_at : (before : PastSteps) (s : Step) → EachStep IsLegal (s ∷ before) → EachStep IsLinked (s ∷ before) → ReachesObject before s
 reaches_at before (Deliver v c o) legal linked =
-    let r = delivers_there before v c (Object v o) (at_vat before c v) legal.1 linked.1 refl legal.0.1 in
+    let r = delivers_there before v c o (at_vat before c v) legal.1 linked.1 refl legal.0.1 in
     (r.0, r.1, delivered_fresh (Deliver v c o) before c legal.0 (λ d. place before d legal.1 linked.1) (same_to_itself c))
 reaches_at before (Send v k m) legal linked = carries before v k m legal.1 linked.1 legal.0
 reaches_at before (Receive v k m bound) legal linked = brings_method before v k m bound legal linked

@@ -1,14 +1,14 @@
 -- What is received was sent before.
 use Rattle.std.proofs.Common.{◌≡◌, ◌≢◌, inl, inr, refl, sym, ◌∙◌, ap, subst, ℕ, zero, suc, ◌==◌, List, [], ◌∷◌, ◌++◌, Bool, true, false, not, ◌&&◌, ◌||◌, Option, Some, None, reverse, slice_get, filter_map, if◌then◌else◌, append_assoc, true≢false, eqb-true}
 use Rattle.std.proofs.lemmas.List.{reverse-append, reverse-reverse}
-use Rattle.std.proofs.lemmas.List.Folds.{list_any-append}
 use Rattle.std.proofs.lemmas.Bool.{and_from, and_parts, or_left, or_right, eq-eqb, false≢true}
 use Rattle.std.specs.List.{AllByRecursion, cons_option, list_any}
-use Rattle.run_model.specs.Types.{Name, Cap, Object, FieldOf, Message, Return, Taken, Resolve, Step, Host, AnswerBy, Send, Receive}
-use Rattle.run_model.proofs.Growing.{leads_by_turns_grow, by_turns_first}
+use Rattle.run_model.specs.Types.{Name, Cap, FieldOf, Message, Return, Taken, Resolve, Step, Host, AnswerBy, Send, Receive}
+use Rattle.run_model.proofs.Growing.{passes_later}
+use Rattle.run_model.proofs.Meeting.{became_later}
 use Rattle.run_model.proofs.Once.{names_same, or_either}
-use Rattle.run_model.specs.Leads.{Leads, LeadsByTurns, MakesTurn, Turns, here, turn}
-use Rattle.run_model.specs.Legal.{IsLegal, LeadsOn, answers_call, hands, sends_on, passes_back, is_passed_back, is_passed_field}
+use Rattle.run_model.specs.Leads.{MakesTurn, Turns}
+use Rattle.run_model.specs.Legal.{IsLegal, Became, answers_call, hands, sends_on, passes_back, is_passed_back}
 use Rattle.run_model.specs.Links.{IsLinked, receives_on, sent_to}
 use Rattle.run_model.proofs.Turning.{same_to_itself}
 use Rattle.run_model.specs.Steps.{EachStep, PastSteps, count_steps, is_same_call}
@@ -63,41 +63,17 @@ legal_at : (later earlier : PastSteps) (s : Step) → EachStep IsLegal (later ++
 legal_at [] earlier s h = h.0
 legal_at (x ∷ later) earlier s h = legal_at later earlier s h.1
 
--- a step that passes a test stays
-pub passes_later : (test : Step → Bool) (later earlier : PastSteps) → list_any test earlier ≡ true → list_any test (later ++ earlier) ≡ true
-passes_later test later earlier e = list_any-append test later earlier ∙ or_right (list_any test later) (list_any test earlier) e
-
--- what is led on to is led on to from then on
-passed_later : (later earlier : PastSteps) (a : Cap) → is_passed_field a earlier ≡ true → is_passed_field a (later ++ earlier) ≡ true
-passed_later later earlier (FieldOf c path) e = passes_later (passes_back c) later earlier e
-passed_later later earlier (Object v o) e = absurd (false≢true e)
-passed_later later earlier _ e = absurd (false≢true e)
-
-pub leads_on_grow : (later earlier : PastSteps) (a b : Cap) → LeadsOn earlier a b → LeadsOn (later ++ earlier) a b
-leads_on_grow later earlier a b (inl leads) = inl (leads_by_turns_grow later earlier a b leads)
-leads_on_grow later earlier a b (inr passed) = inr (passed.0, passed_later later earlier a passed.1)
-
--- where one cap leads on to another, what that leads to is led on to, and led to
-pub on_then_leads : (before : PastSteps) (a b c : Cap) → LeadsOn before a b → Leads before b c → LeadsOn before a c
-on_then_leads before a b c (inl leads) rest = inl (by_turns_first before a b c leads rest)
-on_then_leads before a b c (inr passed) here = inr passed
-on_then_leads before a b c (inr passed) (turn {b = d} t rest) = inl (subst (λ x. LeadsByTurns before x c) (sym passed.0) (d, t, rest))
-
-pub on_leads : (before : PastSteps) (a b : Cap) → LeadsOn before a b → Leads before a b
-on_leads before a b (inl leads) = turn leads.1 leads.2
-on_leads before a b (inr passed) = subst (Leads before a) passed.0 here
-
-all_grow : (later earlier : PastSteps) (c : Name) (results : List (List ℕ × Cap)) → AllByRecursion (λ r. LeadsOn earlier (FieldOf c r.0) r.1) results →
-    AllByRecursion (λ r. LeadsOn (later ++ earlier) (FieldOf c r.0) r.1) results
+all_grow : (later earlier : PastSteps) (c : Name) (results : List (List ℕ × Cap)) → AllByRecursion (λ r. Became earlier (FieldOf c r.0) r.1) results →
+    AllByRecursion (λ r. Became (later ++ earlier) (FieldOf c r.0) r.1) results
 all_grow later earlier c [] h = h
-all_grow later earlier c (r ∷ rs) h = (leads_on_grow later earlier (FieldOf c r.0) r.1 h.0, all_grow later earlier c rs h.1)
+all_grow later earlier c (r ∷ rs) h = (became_later later earlier (FieldOf c r.0) r.1 h.0, all_grow later earlier c rs h.1)
 
 pub received_leads : (before : PastSteps) → EachStep IsLegal before → (v k : ℕ) (c : Name) (results : List (List ℕ × Cap)) (caps bound : List Cap) →
-    IsLinked before (Receive v k (Return c results caps) bound) → AllByRecursion (λ r. LeadsOn before (FieldOf c r.0) r.1) results
+    IsLinked before (Receive v k (Return c results caps) bound) → AllByRecursion (λ r. Became before (FieldOf c r.0) r.1) results
 received_leads before legal v k c results caps bound linked =
     let s = was_sent before v k (Return c results caps) bound linked in
     let there = legal_at s.1 s.2 (Send s.0 k (Return c results caps)) (subst (λ l. EachStep IsLegal l) s.4 legal) in
-    subst (λ l. AllByRecursion (λ r. LeadsOn l (FieldOf c r.0) r.1) results) (sym s.4)
+    subst (λ l. AllByRecursion (λ r. Became l (FieldOf c r.0) r.1) results) (sym s.4)
     (all_grow s.1 (Send s.0 k (Return c results caps) ∷ s.2) c results (all_grow (Send s.0 k (Return c results caps) ∷ []) s.2 c results there.1.1))
 
 -- one of two tests that steps pass stays passed
@@ -117,12 +93,12 @@ received_answered before legal v k c results caps bound linked =
     (either_later (answers_call c) (passes_back c) s.1 (Send s.0 k m ∷ s.2) (either_later (answers_call c) (passes_back c) (Send s.0 k m ∷ []) s.2 there.1.0))
 
 pub resolved_leads : (before : PastSteps) → EachStep IsLegal before → (v k : ℕ) (promise cap : Cap) (bound : List Cap) → IsLinked before (Receive v k (Resolve promise cap) bound) →
-    LeadsOn before promise cap
+    Became before promise cap
 resolved_leads before legal v k promise cap bound linked =
     let s = was_sent before v k (Resolve promise cap) bound linked in
     let there = legal_at s.1 s.2 (Send s.0 k (Resolve promise cap)) (subst (λ l. EachStep IsLegal l) s.4 legal) in
-    subst (λ l. LeadsOn l promise cap) (sym s.4)
-    (leads_on_grow s.1 (Send s.0 k (Resolve promise cap) ∷ s.2) promise cap (leads_on_grow (Send s.0 k (Resolve promise cap) ∷ []) s.2 promise cap there.1))
+    subst (λ l. Became l promise cap) (sym s.4)
+    (became_later s.1 (Send s.0 k (Resolve promise cap) ∷ s.2) promise cap (became_later (Send s.0 k (Resolve promise cap) ∷ []) s.2 promise cap there.1))
 
 -- a Return that takes its own call's results passes the call back
 passed_now : (w k : ℕ) (c by : Name) (before : PastSteps) → is_same_call c by ≡ true → is_passed_back c (Send w k (Taken c by) ∷ before) ≡ true

@@ -8,7 +8,8 @@ use Rattle.run_model.specs.Steps.{EachStep, PastSteps, is_same_call}
 use Rattle.run_model.specs.Places.{Asked, at_vat}
 use Rattle.run_model.specs.Legal.{IsLegal, arrives, begins_call, delivers_call, answers_or_faults}
 use Rattle.run_model.specs.Links.{IsLinked}
-use Rattle.run_model.proofs.Sending.{passes_later, was_sent}
+use Rattle.run_model.proofs.Growing.{passes_later}
+use Rattle.run_model.proofs.Sending.{was_sent}
 use Rattle.run_model.proofs.Once.{names_same, or_either, some_of}
 use Rattle.run_model.proofs.Turning.{same_to_itself}
 use Rattle.run_model.proofs.Goals.{begun, goes_to_goal}

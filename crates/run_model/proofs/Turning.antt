@@ -113,7 +113,7 @@ turns_one_way (s ∷ before) legal a b c (inl h) (inr k) = absurd (not_again bef
 turns_one_way (s ∷ before) legal a b c (inr h) (inl k) = absurd (not_again before s legal.0 a c b k h)
 turns_one_way (s ∷ before) legal a b c (inr h) (inr k) = turns_one_way before legal.1 a b c h k
 
-from_object : (before : PastSteps) (v o : ℕ) (x y : Cap) → x ≡ Object v o → Leads before x y → y ≡ Object v o
+pub from_object : (before : PastSteps) (v o : ℕ) (x y : Cap) → x ≡ Object v o → Leads before x y → y ≡ Object v o
 from_object before v o x y e here = e
 from_object before v o x y e (turn {b = b} t l) = absurd (objects_stay before v o b (subst (λ z. Turns before z b) e t))
 

@@ -21,6 +21,10 @@ pub data Leads (before : PastSteps) : Cap → Cap → Type 0 where
   here : {a : Cap} → Leads before a a
   turn : {a b c : Cap} → Turns before a b → Leads before b c → Leads before a c
 
+-- two caps are one: both lead, by 0 or more turns, to a common cap
+abbrev pub Meets : PastSteps → Cap → Cap → Type 0
+Meets before a b = (c : Cap) × Leads before a c × Leads before b c
+
 -- a cap leads to another by 1 or more turns: it turns to a cap that leads there
 abbrev pub LeadsByTurns : PastSteps → Cap → Cap → Type 0
 LeadsByTurns before a c = (b : Cap) × Turns before a b × Leads before b c

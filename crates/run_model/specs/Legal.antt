@@ -3,7 +3,7 @@ use Rattle.std.specs.Prelude.{ℕ, List, [], Bool, true, false, not, ⊤, filter
 use Rattle.std.specs.List.{list_any, AllByRecursion}
 use Rattle.std.specs.Str.{bytes_eq as same_path}
 use Rattle.run_model.specs.Has.{Has, comes_to}
-use Rattle.run_model.specs.Leads.{Leads, LeadsByTurns}
+use Rattle.run_model.specs.Leads.{Turns, Leads, Meets}
 use Rattle.run_model.specs.Places.{at_vat}
 use Rattle.run_model.specs.Steps.{PastSteps, call, is_same_call, vat_of, EachOf}
 use Rattle.run_model.specs.Types.{Name, Cap, Object, Promise, FieldOf, Nothing, Message, Boot, Call, Return, Late, Failed, Taken, Elsewhere, Resolve, Broken, Plain, Step, Host, Vow, Fulfil, Break, Make, Named, Deliver, Answer, AnswerBy, Fault, Send, Receive}
@@ -144,23 +144,23 @@ abbrev pub is_passed_field : Cap → PastSteps → Bool
 is_passed_field (FieldOf c path) before = is_passed_back c before
 is_passed_field _ before = false
 
--- a cap leads on to another: by 1 or more turns; a field of a call that was passed back leads on to itself too, since it
+-- a cap became another: it turned, and both are one; a field of a call that was passed back need not have turned, since it
 -- comes back to where it stands for itself
-abbrev pub LeadsOn : PastSteps → Cap → Cap → Type 0
-LeadsOn before a b = LeadsByTurns before a b ⊎ ((a ≡ b) × IsTrue (is_passed_field a before))
+abbrev pub Became : PastSteps → Cap → Cap → Type 0
+Became before a b = Meets before a b × (((c : Cap) × Turns before a c) ⊎ IsTrue (is_passed_field a before))
 
 -- what a vat may send
 abbrev pub MaySend : PastSteps → ℕ → Message → Type 0
 -- a Bootstrap: it is the vat's own call, and new
 MaySend before v (Boot c) = (c.maker ≡ v) × IsNew before c
--- a Call: it is at the vat, its goal leads to the target, and interface and method are those with which it came there
+-- a Call: it is at the vat, its goal and the target are one, and interface and method are those with which it came there
 MaySend before v (Call c target interface method caps) =
-    IsSomeAnd (at_vat before c v) (λ asked. Leads before asked.goal target × (interface ≡ asked.interface) × (method ≡ asked.method))
--- a Return with results: the call was answered or passed back, and its field leads on to the cap given at each path
+    IsSomeAnd (at_vat before c v) (λ asked. Meets before asked.goal target × (interface ≡ asked.interface) × (method ≡ asked.method))
+-- a Return with results: the call was answered or passed back, and its field became the cap given at each path
 MaySend before v (Return c results caps) =
-    IsTrue (list_any (answers_call c) before || is_passed_back c before) × AllByRecursion (λ result. LeadsOn before (FieldOf c result.0) result.1) results
--- a Resolve: the promise leads on to the cap
-MaySend before v (Resolve promise cap) = LeadsOn before promise cap
+    IsTrue (list_any (answers_call c) before || is_passed_back c before) × AllByRecursion (λ result. Became before (FieldOf c result.0) result.1) results
+-- a Resolve: the promise became the cap
+MaySend before v (Resolve promise cap) = Became before promise cap
 -- a Return that takes the results of a call: the one that it returns was answered by that one, or is that one and the vat
 -- sent it on
 MaySend before v (Taken c by) = IsTrue (list_any (hands c by) before || (is_same_call c by && list_any (sends_on c v) before))

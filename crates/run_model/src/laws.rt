@@ -5,10 +5,10 @@ ghost use Rattle.std.specs.Prelude.{◌≡◌, ◌≢◌, ◌↔◌, ◌≤◌, 
 ghost use Rattle.std.specs.List.{list_any, AllByRecursion};
 ghost use Rattle.run_model.specs.Types.{Name, Cap, Object, FieldOf, Message, Boot, Call, Return, Taken, Resolve, Step, Send, Receive};
 ghost use Rattle.run_model.specs.Steps.{PastSteps, is_same_call, OneOf, EachStep, last_step_answer, count_steps};
-ghost use Rattle.run_model.specs.Leads.{Turns, Leads, LeadsByTurns};
+ghost use Rattle.run_model.specs.Leads.{Turns, Leads, LeadsByTurns, Meets};
 ghost use Rattle.run_model.specs.Has.{Brings, Has};
 ghost use Rattle.run_model.specs.Places.{Asked, at_vat};
-ghost use Rattle.run_model.specs.Legal.{IsLegal, IsLegalRun, begins_call, ends, answers_call, hands, is_passed_back, LeadsOn, arrives, answers_or_faults, delivers_call};
+ghost use Rattle.run_model.specs.Legal.{IsLegal, IsLegalRun, begins_call, ends, answers_call, hands, is_passed_back, Became, arrives, answers_or_faults, delivers_call};
 ghost use Rattle.run_model.specs.Links.{IsLinked, IsLinkedRun};
 ghost use Rattle.run_model.specs.UnderWay.{IsUnderWay, IsSomewhere};
 ghost use Rattle.run_model.specs.Right.{request_in_make, ReachesObject, IsOrdered};
@@ -62,6 +62,23 @@ pub fn turns_go_one_way()
         → Leads before a (Object v o) → Leads before a (Object w p) → (v ≡ w) × (o ≡ p) }
 {}
 
+/// A cap is one with itself, and with what it leads to (`leads`). If it is one with another, that is one with it (`back`), and
+/// they stay one (`later`). Where each step is legal, caps that are one with a third are one (`through`). A cap that is one
+/// with an object leads to it (`object`). A cap became what it leads to by 1 or more turns (`became`).
+pub fn caps_that_are_one()
+    ensures itself { (before : PastSteps) (a : Cap) → Meets before a a }
+    ensures back { (before : PastSteps) (a b : Cap) → Meets before a b → Meets before b a }
+    ensures through { (before : PastSteps) → EachStep IsLegal before → (a b c : Cap)
+        → Meets before a b → Meets before b c → Meets before a c }
+    ensures leads { (before : PastSteps) (a b : Cap) → Leads before a b → Meets before a b }
+    ensures became { (before : PastSteps) (a b : Cap) → LeadsByTurns before a b
+        → Became before a b }
+    ensures object { (before : PastSteps) (a : Cap) (vat number : ℕ)
+        → Meets before a (Object vat number) → Leads before a (Object vat number) }
+    ensures later { (later before : PastSteps) (a b : Cap) → Meets before a b
+        → Meets (later ++ before) a b }
+{}
+
 /// What a vat has, it has for ever.
 pub fn what_is_had_stays_had()
     ensures { (later before : PastSteps) (vat : ℕ) (a : Cap) → Has before vat a
@@ -83,14 +100,14 @@ pub fn what_is_received_was_sent()
 {}
 
 /// Where each step is legal, what a received message says holds: the call of a Return with results was answered or passed
-/// back, its field leads on to what the Return gives at each path, and a promise leads on to what a Resolve says. The call of
-/// a Return that takes a call's results was answered by that one, or is that one and was passed back (`taken`). Where a call
-/// was answered by another, each of its fields turns to the other's at the same path (`fields`).
+/// back, its field became what the Return gives at each path, and a promise became what a Resolve says. The call of a Return
+/// that takes a call's results was answered by that one, or is that one and was passed back (`taken`). Where a call was
+/// answered by another, each of its fields turns to the other's at the same path (`fields`).
 pub fn what_is_received_is_led_to()
     ensures results { (before : PastSteps) → EachStep IsLegal before
         → (v connection : ℕ) (c : Name) (results : List (List ℕ × Cap)) (caps bound : List Cap)
         → IsLinked before (Receive v connection (Return c results caps) bound)
-        → AllByRecursion (λ result. LeadsOn before (FieldOf c result.0) result.1) results }
+        → AllByRecursion (λ result. Became before (FieldOf c result.0) result.1) results }
     ensures answered { (before : PastSteps) → EachStep IsLegal before
         → (v connection : ℕ) (c : Name) (results : List (List ℕ × Cap)) (caps bound : List Cap)
         → IsLinked before (Receive v connection (Return c results caps) bound)
@@ -98,7 +115,7 @@ pub fn what_is_received_is_led_to()
     ensures resolved { (before : PastSteps) → EachStep IsLegal before
         → (v connection : ℕ) (promise cap : Cap) (bound : List Cap)
         → IsLinked before (Receive v connection (Resolve promise cap) bound)
-        → LeadsOn before promise cap }
+        → Became before promise cap }
     ensures taken { (before : PastSteps) → EachStep IsLegal before
         → (v connection : ℕ) (c by : Name) (bound : List Cap)
         → IsLinked before (Receive v connection (Taken c by) bound)
@@ -163,13 +180,13 @@ pub fn a_call_is_somewhere()
         → IsSome (last_step_answer (request_in_make c) before) → IsSomewhere before c }
 {}
 
-/// Where each step is legal and keeps to its link, a call that is at a vat was made, the cap that it was made through leads
-/// to its goal there, and interface and method are its Make's.
+/// Where each step is legal and keeps to its link, a call that is at a vat was made, the cap that it was made through and its
+/// goal there are one, and interface and method are its Make's.
 pub fn calls_come_from_their_makers()
     ensures { (before : PastSteps) → EachStep IsLegal before → EachStep IsLinked before
         → (c : Name) (vat : ℕ) (here : Asked) → at_vat before c vat ≡ Some here
         → IsSomeAnd (last_step_answer (request_in_make c) before)
-        (λ asked. Leads before asked.goal here.goal × (here.interface ≡ asked.interface)
+        (λ asked. Meets before asked.goal here.goal × (here.interface ≡ asked.interface)
         × (here.method ≡ asked.method)) }
 {}
 

@@ -17,15 +17,23 @@ use Rattle.vat_log.specs.declared.body.Body.TheVariants as body
 use Rattle.decoded_records.specs.declared.table_key.TableKey.{TableKey}
 use Rattle.decoded_records.specs.Past.{Past, point, id, is, names, last_since}
 use Rattle.decoded_records.specs.Questions.{opens, opening, call_at, call_of, question_returned_lightly, returns_lightly, is_returned_lightly}
-use Rattle.decoded_records.specs.Views.{view_of_target}
-use Rattle.vat_view.specs.Connections.{abort_sent_on, aborts, is_aborted, is_aborted_here, reached_over, is_another, is_elsewhere, LeadsElsewhere}
+use Rattle.decoded_records.specs.Views.{view_of_target, view_of_reference, view_of_descriptor, placed_references}
+use Rattle.vat_view.specs.Connections.{abort_sent_on, aborts, is_aborted, is_aborted_here, reached_over, is_another, is_elsewhere}
 use Rattle.vat_rules.specs.declared.rule.Rule.TheVariants as rule
 use Rattle.vat_rules.specs.declared.outcome.Why.{Why}
 use Rattle.vat_rules.specs.declared.outcome.Outcome.TheVariants.{Good}
-use Rattle.vat_rules.specs.Types.{Edition, First, Later, RpcMessage, Abort, TakeFrom, Return, Sender, Disembargo, DecodedRecord, Host, Vow, Fulfil, Break, Make, Field, Deliver, Answer, AnswerBy, Fault, Wire, View, Object, Promise, FieldOf, Import}
+use Rattle.vat_rules.specs.Types.{Edition, First, Later, RpcMessage, Abort, Results, TakeFrom, Call, Return, Resolve, Sender, Disembargo, DecodedRecord, Host, Vow, Fulfil, Break, Make, Field, Deliver, Answer, AnswerBy, Fault, Wire, View, Object, Promise, FieldOf, Import}
 use Rattle.vat_rules.specs.Judged.{IsGoodBy}
-use Rattle.vat_rules.specs.OfConnections.{IsOpen, KeepsEmbargo}
-use Rattle.vat_rules.specs.OfResults.{ReturnsTaken, ReturnsKnown}
+use Rattle.vat_rules.specs.OfConnections.{IsOpen, LeadsAway, KeepsEmbargo}
+use Rattle.vat_rules.specs.OfResults.{ReturnsField, ReturnsFields, ReturnsTaken, ReturnsKnown}
+use Rattle.vat_rules.specs.OfCalls.{GoesToGoal}
+use Rattle.vat_rules.specs.OfCaps.{is_own_number, NotesView, Describes}
+use Rattle.vat_rules.specs.OfPromises.{ResolvesPromise}
+use Rattle.vat_rules.specs.Ways.{LeadsTo, LeadsOnTo, AreOneThere, BecameThere, WentOn}
+use Rattle.vat_view.specs.Walks.{Leads, LeadsByTurns, AreOne, Became}
+use Rattle.vat_view.proofs.Joining.{led_one, led_became}
+use Rattle.decoded_records.specs.Lives.{descriptors}
+use Rattle.decoded_records.specs.Calls.{request_of}
 use Rattle.vat_rules.specs.LogFacts.{Told}
 use Rattle.vat_rules.specs.Events.{Reader, event_of, event_or_none, events_before, past_at}
 use Rattle.decoded_records.specs.Decoding.{made_with}
@@ -66,16 +74,66 @@ aborted_too k (e ∷ before) h = elim (passed_or (λ b e. is k (abort_sent_on e)
 ]
 
 open_more : (before : Past) (e : DecodedRecord) → IsOpen First before e → IsOpen Later before e
-open_more before (Wire true k c rs Abort) h = elim (cases_Bool (is_aborted_here k before)) [
+open_more before (Wire true k c rs m) h = elim (cases_Bool (is_aborted_here k before)) [
   | inl here ↦ absurd (clash (aborted_too k before here) (not-true (is_aborted k before) h))
   | inr none ↦ ap not none
 ]
 open_more before _ h = h
 
+-- views that may be missing
+
+goes_for_more : (past : Past) (from to : Option View) → LeadsTo past from to → AreOneThere past from to
+goes_for_more past from to = some_and_more (λ a. IsSomeAnd to (λ b. Leads past a b)) (λ a. IsSomeAnd to (λ b. AreOne past a b)) (λ a. some_and_more (λ b. Leads past a b) (λ b. AreOne past a b) (λ b. led_one past a b) to) from
+
+became_more : (past : Past) (from to : Option View) → LeadsOnTo past from to → BecameThere past from to
+became_more past from to =
+    some_and_more (λ a. IsSomeAnd to (λ b. LeadsByTurns past a b)) (λ a. IsSomeAnd to (λ b. Became past a b)) (λ a. some_and_more (λ b. LeadsByTurns past a b) (λ b. Became past a b) (λ b. led_became past a b) to) from
+
+went_on_more : (own : Bool) (past : Past) (from to : Option View) → WentOn First own past from to → WentOn Later own past from to
+went_on_more true past from to = became_more past from to
+went_on_more false past from to = λ h. h
+
+each_more : {X : Type 0} (P Q : X → Type 0) → ((x : X) → P x → Q x) → (xs : List X) → AllByRecursion P xs → AllByRecursion Q xs
+each_more P Q so [] h = tt
+each_more P Q so (x ∷ xs) h = (so x h.0, each_more P Q so xs h.1)
+
+goal_more : (before : Past) (e : DecodedRecord) → GoesToGoal First before e → GoesToGoal Later before e
+goal_more before (Wire true k call rs (Call q target interface method params yourself)) h =
+    let there = view_of_target before (Wire true k call rs (Call q target interface method params yourself)) in
+    some_and_more (λ a. LeadsTo before a.goal there × (interface ≡ a.interface) × (method ≡ a.method)) (λ a. AreOneThere before a.goal there × (interface ≡ a.interface) × (method ≡ a.method))
+    (λ a led. (goes_for_more before a.goal there led.0, led.1, led.2)) (request_of call before) h
+goal_more before (Deliver call object) h = h
+goal_more before _ h = h
+
+describes_more : (before : Past) (e : DecodedRecord) → Describes First before e → Describes Later before e
+describes_more before e h = record {
+  noted_each = h.noted_each;
+  leads = λ sent in_time. each_more (NotesView First before e) (NotesView Later before e)
+      (λ n noted. (goes_for_more before (view_of_reference before n.0) (view_of_descriptor before e n.1) noted.0, noted.1)) (placed_references e) (h.leads sent in_time);
+  light = h.light;
+  kinds = h.kinds;
+}
+
+resolve_more : (before : Past) (e : DecodedRecord) → ResolvesPromise First before e → ResolvesPromise Later before e
+resolve_more before (Wire true k c rs (Resolve n resolution)) h = (h.0, λ cap. inl (h.1 cap))
+resolve_more before (Wire false k c rs (Resolve n resolution)) h = h
+resolve_more before _ h = h
+
+fields_more : (before : Past) (e : DecodedRecord) (fields : List (List ℕ × ℕ)) (call : ℕ) → ReturnsFields First before e fields call → ReturnsFields Later before e fields call
+fields_more before e fields call h = (
+  h.0,
+  each_more (ReturnsField First before e call) (ReturnsField Later before e call)
+      (λ field given cap. went_on_more (is_own_number (slice_get (descriptors e) field.1)) before (Some (FieldOf call field.0)) (view_of_descriptor before e field.1) (given cap)) fields h.1,
+)
+
 results_more : (before : Past) (e : DecodedRecord) → ReturnsKnown First before e → ReturnsKnown Later before e
 results_more before (Wire true k c rs (Return q release (TakeFrom n) light)) h =
     λ in_time. some_and_more (ReturnsTaken First before (call_of (id k true n) before)) (ReturnsTaken Later before (call_of (id k true n) before)) (λ call taken. inl taken)
     (call_at (opening (id k false q) before)) (h in_time)
+results_more before (Wire true k c rs (Return q release (Results payload) light)) h = λ in_time.
+    let e : DecodedRecord = Wire true k c rs (Return q release (Results payload) light) in
+    let there = h in_time in
+    (there.0, some_and_more (ReturnsFields First before e payload.fields) (ReturnsFields Later before e payload.fields) (fields_more before e payload.fields) (call_at (opening (id k false q) before)) there.1)
 results_more before _ h = h
 
 elsewhere_if : (k : ℕ) (o : Option ℕ) → is_another k o ≡ true → not (is k o) ≡ true
@@ -91,16 +149,10 @@ elsewhere_more k past (Import number place) h = elsewhere_if k (reached_over pas
 embargo_more : (before : Past) (e : DecodedRecord) → KeepsEmbargo First before e → KeepsEmbargo Later before e
 embargo_more before (Wire true k c rs (Disembargo n Sender target)) h = (
   h.0,
-  some_and_more (λ v. LeadsElsewhere First before v k) (λ v. LeadsElsewhere Later before v k) (λ v leads. (leads.0, leads.1, elsewhere_more k before leads.0 leads.2))
+  some_and_more (λ v. LeadsAway First before v k) (λ v. LeadsAway Later before v k) (λ v leads. inl (leads.0, leads.1, elsewhere_more k before leads.0 leads.2))
       (view_of_target before (Wire true k c rs (Disembargo n Sender target))) h.1,
 )
 embargo_more before _ h = h
-
--- what is sent that is no abort is judged alike by both
-pub open_otherwise : (edition : Edition) (before : Past) (k c : ℕ) (rs : List ℕ) (m : RpcMessage) → (m ≡ Abort → ⊥) → IsOpen edition before (Wire true k c rs m) ≡ (not (is_aborted k before) ≡ true)
-open_otherwise First before k c rs m other = refl
-open_otherwise Later before k c rs Abort other = absurd (other refl)
-open_otherwise Later before k c rs _ other = refl
 
 -- a record that is good by the first edition is good by the later one
 pub keeps_more : (before : Past) (e : DecodedRecord) → IsGoodBy First before e → IsGoodBy Later before e
@@ -113,11 +165,11 @@ keeps_more before e good rule.Here = good rule.Here
 keeps_more before e good rule.QNew = good rule.QNew
 keeps_more before e good rule.QUse = good rule.QUse
 keeps_more before e good rule.XUse = good rule.XUse
-keeps_more before e good rule.Goal = good rule.Goal
+keeps_more before e good rule.Goal = goal_more before e (good rule.Goal)
 keeps_more before e good rule.Answer = good rule.Answer
-keeps_more before e good rule.Desc = good rule.Desc
+keeps_more before e good rule.Desc = describes_more before e (good rule.Desc)
 keeps_more before e good rule.Count = good rule.Count
-keeps_more before e good rule.Resolve = good rule.Resolve
+keeps_more before e good rule.Resolve = resolve_more before e (good rule.Resolve)
 keeps_more before e good rule.RecvRef = good rule.RecvRef
 
 -- ---- what is read by the first edition

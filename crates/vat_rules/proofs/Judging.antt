@@ -32,23 +32,23 @@ all_met edition before e o a v b c d f g h i j k r l m rule.RecvRef = l
 all_met edition before e o a v b c d f g h i j k r l m rule.Emb = m
 
 -- a record that is as DESC and RECVREF say notes each of its capabilities
-notes_from : (before : Past) (e : DecodedRecord) → Describes before e → BindsEach before e → NotesEach before e
-notes_from before (Host r object) d b = refl
-notes_from before (Vow r) d b = refl
-notes_from before (Fulfil r to) d b = refl
-notes_from before (Break r) d b = refl
-notes_from before (Make call r interface method) d b = refl
-notes_from before (Field r call path) d b = refl
-notes_from before (Deliver call object) d b = refl
-notes_from before (Answer call results) d b = refl
-notes_from before (AnswerBy call by) d b = refl
-notes_from before (Fault call) d b = refl
-notes_from before (Wire true k call rs m) d b = d.noted_each refl
-notes_from before (Wire false k call rs m) d b = b refl
+notes_from : (edition : Edition) (before : Past) (e : DecodedRecord) → Describes edition before e → BindsEach before e → NotesEach before e
+notes_from edition before (Host r object) d b = refl
+notes_from edition before (Vow r) d b = refl
+notes_from edition before (Fulfil r to) d b = refl
+notes_from edition before (Break r) d b = refl
+notes_from edition before (Make call r interface method) d b = refl
+notes_from edition before (Field r call path) d b = refl
+notes_from edition before (Deliver call object) d b = refl
+notes_from edition before (Answer call results) d b = refl
+notes_from edition before (AnswerBy call by) d b = refl
+notes_from edition before (Fault call) d b = refl
+notes_from edition before (Wire true k call rs m) d b = d.noted_each refl
+notes_from edition before (Wire false k call rs m) d b = b refl
 
 -- so does a good record
 pub good_notes : (edition : Edition) (before : Past) (e : DecodedRecord) → IsGoodBy edition before e → NotesEach before e
-good_notes edition before e good = notes_from before e (good rule.Desc) (good rule.RecvRef)
+good_notes edition before e good = notes_from edition before e (good rule.Desc) (good rule.RecvRef)
 
 -- a good record is sound
 pub good_sound : (edition : Edition) (before : Past) (e : DecodedRecord) → IsGoodBy edition before e → IsSound before e

@@ -144,13 +144,13 @@ either_none false = refl
 bare_notes : (before : Past) (e : DecodedRecord) → IsBare e → NotesEach before e
 bare_notes before e bare = ap length bare.unnoted ∙ either_none (is_late before e) ∙ ap (λ ds. if is_late before e then 0 else length (places_from 0 ds)) (sym bare.uncarried)
 
-none_placed : (before : Past) (e : DecodedRecord) (rs : List ℕ) (ps : List ℕ) → rs ≡ [] → AllByRecursion (NotesView before e) (zip rs ps)
-none_placed before e rs ps none = subst (λ rs. AllByRecursion (NotesView before e) (zip rs ps)) (sym none) tt
+none_placed : (edition : Edition) (before : Past) (e : DecodedRecord) (rs : List ℕ) (ps : List ℕ) → rs ≡ [] → AllByRecursion (NotesView edition before e) (zip rs ps)
+none_placed edition before e rs ps none = subst (λ rs. AllByRecursion (NotesView edition before e) (zip rs ps)) (sym none) tt
 
 bare_describes : (edition : Edition) (before : Past) (e : DecodedRecord) → IsBare e → Meets edition rule.Desc before e
 bare_describes edition before e bare = record {
   noted_each = λ sent. bare_notes before e bare;
-  leads = λ sent late. none_placed before e (references e) (places e) bare.unnoted;
+  leads = λ sent late. none_placed edition before e (references e) (places e) bare.unnoted;
   light = λ sent late light. bare.unnoted;
   kinds = λ late. subst (λ ds. IsTrue (list_all (keeps_kind before e) ds)) (sym bare.uncarried) refl;
 }
@@ -253,10 +253,10 @@ own_here before (Wire sent k c rs m) own h = absurd (false≢true own)
 own_here before (Deliver call object) own h = absurd (false≢true (sym h))
 own_here before _ own h = tt
 
-own_goal : (before : Past) (e : DecodedRecord) → is_own e ≡ true → own_may_break e rule.Goal ≡ false → GoesToGoal before e
-own_goal before (Wire sent k c rs m) own h = absurd (false≢true own)
-own_goal before (Deliver call object) own h = absurd (false≢true (sym h))
-own_goal before _ own h = tt
+own_goal : (edition : Edition) (before : Past) (e : DecodedRecord) → is_own e ≡ true → own_may_break e rule.Goal ≡ false → GoesToGoal edition before e
+own_goal edition before (Wire sent k c rs m) own h = absurd (false≢true own)
+own_goal edition before (Deliver call object) own h = absurd (false≢true (sym h))
+own_goal edition before _ own h = tt
 
 own_answer : (before : Past) (e : DecodedRecord) → own_may_break e rule.Answer ≡ false → MayAnswer before e
 own_answer before (Answer call results) h = absurd (false≢true (sym h))
@@ -276,7 +276,7 @@ unasked_own e own rule.Here h edition before = own_here before e own h
 unasked_own e own rule.QNew h edition before = own_opens edition before e own
 unasked_own e own rule.QUse h edition before = own_uses edition before e own
 unasked_own e own rule.XUse h edition before = own_numbers edition before e own
-unasked_own e own rule.Goal h edition before = own_goal before e own h
+unasked_own e own rule.Goal h edition before = own_goal edition before e own h
 unasked_own e own rule.Answer h edition before = own_answer before e h
 unasked_own e own rule.Desc h edition before = own_describes edition before e own
 unasked_own e own rule.Count h edition before = own_gives edition before e own

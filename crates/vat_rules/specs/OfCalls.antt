@@ -2,11 +2,11 @@
 use Rattle.std.specs.Prelude.{◌≡◌, ℕ, List, [], ◌∷◌, Bool, true, not, ◌&&◌, ◌||◌, Some, IsTrue, IsSomeAnd, ⊤}
 use Rattle.std.specs.List.{list_any}
 use Rattle.std.specs.Str.{bytes_eq as same_path}
-use Rattle.vat_rules.specs.Types.{Call, DecodedRecord, Host, Vow, Fulfil, Break, Make, Field, Deliver, Answer, AnswerBy, Fault, Wire, Object}
+use Rattle.vat_rules.specs.Types.{Edition, Call, DecodedRecord, Host, Vow, Fulfil, Break, Make, Field, Deliver, Answer, AnswerBy, Fault, Wire, Object}
 use Rattle.decoded_records.specs.Past.{Past}
 use Rattle.decoded_records.specs.Views.{view_of_target}
 use Rattle.decoded_records.specs.Calls.{request_of, goal_of, is_at_vat, is_served, is_settled}
-use Rattle.vat_rules.specs.Ways.{LeadsTo}
+use Rattle.vat_rules.specs.Ways.{LeadsTo, GoesFor}
 
 -- (this project's own: a call that was passed on or delivered has gone)
 -- HERE: a call that is delivered or sent on is at the vat
@@ -16,14 +16,14 @@ IsHere before (Wire true k call references (Call q target interface method param
 IsHere before _ = ⊤
 
 -- (rpc.capnp, Call.target, interfaceId and methodId)
--- GOAL: DELIVER: the call's goal leads to that own object. SEND Call: it leads to what the target stands for, and
--- interface and method are the call's
-abbrev pub GoesToGoal : Past → DecodedRecord → Type 0
-GoesToGoal before (Deliver call object) = LeadsTo before (goal_of call before) (Some (Object object))
-GoesToGoal before (Wire true k call references (Call q target interface method params yourself)) =
+-- GOAL: DELIVER: the call's goal leads to that own object. SEND Call: it leads to what the target stands for, or in a log of
+-- the later edition is one with it, and interface and method are the call's
+abbrev pub GoesToGoal : Edition → Past → DecodedRecord → Type 0
+GoesToGoal edition before (Deliver call object) = LeadsTo before (goal_of call before) (Some (Object object))
+GoesToGoal edition before (Wire true k call references (Call q target interface method params yourself)) =
     let there = view_of_target before (Wire true k call references (Call q target interface method params yourself)) in
-    IsSomeAnd (request_of call before) (λ a. LeadsTo before a.goal there × (interface ≡ a.interface) × (method ≡ a.method))
-GoesToGoal before _ = ⊤
+    IsSomeAnd (request_of call before) (λ a. GoesFor edition before a.goal there × (interface ≡ a.interface) × (method ≡ a.method))
+GoesToGoal edition before _ = ⊤
 
 -- no path twice
 abbrev pub distinct_paths : List (ℕ × List ℕ) → Bool

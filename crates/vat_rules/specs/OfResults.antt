@@ -7,17 +7,17 @@ use Rattle.decoded_records.specs.Questions.{is_finished, is_late, is_tail, openi
 use Rattle.decoded_records.specs.Lives.{descriptors}
 use Rattle.decoded_records.specs.Views.{view_of_descriptor}
 use Rattle.decoded_records.specs.Calls.{is_known, answered_by}
-use Rattle.vat_rules.specs.Ways.{LeadsOnTo}
-use Rattle.vat_rules.specs.OfCaps.{is_cap_at}
+use Rattle.vat_rules.specs.Ways.{WentOn}
+use Rattle.vat_rules.specs.OfCaps.{is_cap_at, is_own_number}
 
--- at a path whose index is a descriptor that isn't none, the call's result leads to what that stands for
-abbrev pub ReturnsField : Past → DecodedRecord → ℕ → List ℕ × ℕ → Type 0
-ReturnsField before e call (path, place) =
-    is_cap_at (slice_get (descriptors e) place) ≡ true → LeadsOnTo before (Some (FieldOf call path)) (view_of_descriptor before e place)
+-- at a path whose index is a descriptor that isn't none, the call's result went on to what that stands for
+abbrev pub ReturnsField : Edition → Past → DecodedRecord → ℕ → List ℕ × ℕ → Type 0
+ReturnsField edition before e call (path, place) =
+    is_cap_at (slice_get (descriptors e) place) ≡ true → WentOn edition (is_own_number (slice_get (descriptors e) place)) before (Some (FieldOf call path)) (view_of_descriptor before e place)
 
--- a call's results are known, and lead to what is sent at each of these paths
-abbrev pub ReturnsFields : Past → DecodedRecord → List (List ℕ × ℕ) → ℕ → Type 0
-ReturnsFields before e fields call = IsTrue (is_known call before) × AllByRecursion (ReturnsField before e call) fields
+-- a call's results are known, and went on to what is sent at each of these paths
+abbrev pub ReturnsFields : Edition → Past → DecodedRecord → List (List ℕ × ℕ) → ℕ → Type 0
+ReturnsFields edition before e fields call = IsTrue (is_known call before) × AllByRecursion (ReturnsField edition before e call) fields
 
 -- (rpc.capnp, Return.takeFromOtherQuestion)
 -- a call was answered by another, which is the one whose results are taken. In a log of the later edition a call's own
@@ -29,13 +29,13 @@ ReturnsTaken Later before from call = IsSomeAnd (answered_by call before) (λ by
 -- (rpc.capnp, Return.results, canceled, resultsSentElsewhere and takeFromOtherQuestion)
 -- RESULT: SEND Return that isn't late: with results, its question wasn't asked with sendResultsTo yourself, the call's
 -- results are known, and at each path whose capability index is a descriptor that isn't none, the known result leads to
--- what that descriptor stands for. With resultsSentElsewhere, its question was asked so. With takeFromOtherQuestion, the
+-- what that descriptor stands for, or in a log of the later edition became what a number of the sender's own stands for. With resultsSentElsewhere, its question was asked so. With takeFromOtherQuestion, the
 -- call was answered by the one for which the question that it names stands, or, in a log of the later edition, the
 -- question stands for the call itself. Late or not, with canceled, a Finish was received
 abbrev pub ReturnsKnown : Edition → Past → DecodedRecord → Type 0
 ReturnsKnown edition before (Wire true k c rs (Return q release (Results payload) light)) =
     let e = Wire true k c rs (Return q release (Results payload) light) in
-    is_late before e ≡ false → IsFalse (is_tail (opening (id k false q) before)) × IsSomeAnd (call_at (opening (id k false q) before)) (ReturnsFields before e payload.fields)
+    is_late before e ≡ false → IsFalse (is_tail (opening (id k false q) before)) × IsSomeAnd (call_at (opening (id k false q) before)) (ReturnsFields edition before e payload.fields)
 ReturnsKnown edition before (Wire true k c rs (Return q release Elsewhere light)) =
     is_late before (Wire true k c rs (Return q release Elsewhere light)) ≡ false → IsTrue (is_tail (opening (id k false q) before))
 ReturnsKnown edition before (Wire true k c rs (Return q release (TakeFrom n) light)) =

@@ -13,7 +13,7 @@ use Rattle.vat_rules.specs.OfResults.{ReturnsKnown}
 use Rattle.vat_rules.specs.OfPromises.{KeepsVow, ResolvesPromise}
 use Rattle.vat_rules.specs.OfConnections.{IsOpen, KeepsEmbargo}
 
--- what each rule says. Three of them let more pass in a log of the later edition; what they let pass in one of the first
+-- what each rule says. Six of them let more pass in a log of the later edition; what they let pass in one of the first
 -- edition passes there too
 abbrev pub Meets : Edition → Rule → Past → DecodedRecord → Type 0
 Meets edition rule.Closed = IsOpen edition
@@ -23,12 +23,12 @@ Meets edition rule.Here = IsHere
 Meets edition rule.QNew = OpensFree
 Meets edition rule.QUse = UsesQuestions
 Meets edition rule.XUse = UsesNumbers
-Meets edition rule.Goal = GoesToGoal
+Meets edition rule.Goal = GoesToGoal edition
 Meets edition rule.Answer = MayAnswer
-Meets edition rule.Desc = Describes
+Meets edition rule.Desc = Describes edition
 Meets edition rule.Count = GivesBackHeld
 Meets edition rule.Result = ReturnsKnown edition
-Meets edition rule.Resolve = ResolvesPromise
+Meets edition rule.Resolve = ResolvesPromise edition
 Meets edition rule.RecvRef = BindsEach
 Meets edition rule.Emb = KeepsEmbargo edition
 

@@ -4,8 +4,7 @@
 /// rpc.capnp, stands in the files that `specs/Rules.antt` names; docs/RULES.md has an example for each.
 #[derive(Clone, Copy, Debug, PartialEq, Eq)]
 pub enum Rule {
-    /// Nothing is sent on a connection that was aborted, but for the abort by which, in a log of version 3, the peer's is
-    /// answered.
+    /// Nothing is sent on a connection that this vat aborted, nor, in logs of versions 1 and 2, on one that its peer aborted.
     Closed,
     /// Numbers newly bound are unused and distinct, the others are bound, and a call is noted just beside a Bootstrap or
     /// Call.

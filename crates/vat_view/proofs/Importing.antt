@@ -1,15 +1,17 @@
--- Which imports came in: the table after a record, and what lives of imports say.
+-- What came in: the table after a record, and what lives of imports say.
 use Rattle.std.proofs.Common.{◌≡◌, ◌+◌, ◌≤◌, inl, inr, refl, sym, ◌∙◌, ap, ap₂, subst, ℕ, zero, suc, ◌==◌, List, [], ◌∷◌, length, map, Bool, true, false, not, Option, Some, None, if◌then◌else◌, option_map, option_and_then, arith}
-use Rattle.std.specs.Prelude.{slice_get, is_some}
+use Rattle.std.specs.Prelude.{find, slice_get, is_some, ◌||◌}
 use Rattle.std.specs.List.{list_any, position_from}
-use Rattle.std.specs.Option.{option_or}
+use Rattle.std.specs.Option.{option_or, option_map_or}
+use Rattle.std.specs.Str.{bytes_eq as same_path}
 use Rattle.std.proofs.lemmas.Bool.{cases_Bool, false≢true, or_parts, eqb-true, ne_eqb}
 use Rattle.vat_view.specs.declared.tables.arrivals.Arrivals.{Arrivals}
-use Rattle.vat_view.specs.Types.{Descriptor, NoCap, SenderHosted, SenderPromise, ReceiverHosted, ReceiverAnswer, RpcMessage, DecodedRecord, Wire, TableKey}
+use Rattle.vat_view.specs.Types.{Descriptor, NoCap, SenderHosted, SenderPromise, ReceiverHosted, ReceiverAnswer, Results, TakeFrom, Cap, Return, Resolve, RpcMessage, DecodedRecord, Wire, TableKey}
 use Rattle.decoded_records.specs.Past.{Past, record_at}
 use Rattle.decoded_records.specs.Lives.{descriptors, descriptors_of}
 use Rattle.vat_view.specs.Arrivals.{Arrival, brings, brought_at, arrived}
-use Rattle.vat_view.specs.Glue.ArrivalTables.{hosted_in, arriving_over, arrival_over, brought_over, arrival_at, AreArrived}
+use Rattle.vat_view.specs.Connections.{names_back, brings_back}
+use Rattle.vat_view.specs.Glue.ArrivalTables.{hosted_in, has_back, may_bring_back, arriving_over, field_back, back_among, arrival_over, brought_over, arrival_at, back_at, back_of, AreArrived}
 
 some_same : {A : Type 0} {x y : A} → Some x ≡ Some y → x ≡ y
 some_same e = cc
@@ -48,22 +50,61 @@ module _ (k c : ℕ) (rs : List ℕ) (m : RpcMessage) where
   sent_none None = refl
   sent_none (Some d) = refl
 
+over_this : (b : Bool) (j k : ℕ) → (if b then Some j else None) ≡ Some k → j ≡ k
+over_this true j k h = some_same h
+over_this false j k h = absurd (none_some h)
+
 all_brought : (e : DecodedRecord) (k : ℕ) → arriving_over e ≡ Some k → (place : ℕ) → brought_over k (map hosted_in (descriptors e)) place ≡ brought_at e place
-all_brought (Wire false j c rs m) k h place = elim (cases_Bool (list_any (λ d. is_some (hosted_in d)) (descriptors_of m))) [
-  | inl any ↦
-      let same : j ≡ k = some_same (sym (ap (λ b. if b then Some j else None) any) ∙ h) in
-      subst (λ x. brought_over x (map hosted_in (descriptors_of m)) place ≡ brought_at (Wire false j c rs m) place) same (there j c rs m (descriptors_of m) place)
-  | inr none ↦ absurd (none_some (sym (ap (λ b. if b then Some j else None) none) ∙ h))
-]
+all_brought (Wire false j c rs m) k h place =
+    subst (λ x. brought_over x (map hosted_in (descriptors_of m)) place ≡ brought_at (Wire false j c rs m) place) (over_this _ j k h) (there j c rs m (descriptors_of m) place)
 all_brought _ k h place = absurd (none_some h)
 
+not_over : (b : Bool) (k : ℕ) → (if b then Some k else None) ≡ None → b ≡ false
+not_over true k h = absurd (none_some (sym h))
+not_over false k h = refl
+
 nothing_brought : (e : DecodedRecord) → arriving_over e ≡ None → (place : ℕ) → brought_at e place ≡ None
-nothing_brought (Wire false k c rs m) h place = elim (cases_Bool (list_any (λ d. is_some (hosted_in d)) (descriptors_of m))) [
-  | inl any ↦ absurd (none_some (sym h ∙ ap (λ b. if b then Some k else None) any))
-  | inr none ↦ none_there k c rs m (descriptors_of m) none place
-]
+nothing_brought (Wire false k c rs m) h place =
+    none_there k c rs m (descriptors_of m) (or_parts (list_any (λ d. is_some (hosted_in d)) (descriptors_of m)) (may_bring_back (Wire false k c rs m)) (not_over _ k h)).0 place
 nothing_brought (Wire true k c rs m) h place = sent_none k c rs m (slice_get (descriptors_of m) place)
 nothing_brought _ h place = refl
+
+-- ---- what a record brings back
+
+names_none : (ds : List Descriptor) → has_back ds ≡ false → (place : ℕ) → names_back (slice_get ds place) ≡ false
+names_none [] h place = refl
+names_none (d ∷ ds) h zero = (or_parts (names_back (Some d)) (has_back ds) h).0
+names_none (d ∷ ds) h (suc place) = names_none ds (or_parts (names_back (Some d)) (has_back ds) h).1 place
+
+-- where a record brings nothing back by its descriptors, it does so at no path
+pub brings_none : (e : DecodedRecord) → may_bring_back e ≡ false → (path : List ℕ) → brings_back path e ≡ false
+brings_none (Wire false k c rs (Return q release (Results payload) light)) h path = at (find (λ field. same_path field.0 path) payload.fields)
+  where
+    at : (o : Option (List ℕ × ℕ)) → names_back (option_and_then (λ field. slice_get payload.descriptors field.1) o) ≡ false
+    at (Some field) = names_none payload.descriptors h field.1
+    at None = refl
+brings_none (Wire false k c rs (Return q release (TakeFrom n) light)) h path = absurd (false≢true (sym h))
+brings_none (Wire false k c rs (Resolve n (Cap d))) h path = h
+brings_none _ h path = refl
+
+-- what is kept of results says what they bring back
+pub fields_kept : (ds : List Descriptor) (fields : List (List ℕ × ℕ)) (path : List ℕ) →
+    back_among path (map (field_back ds) fields)
+    ≡ names_back (option_and_then (λ field. slice_get ds field.1) (find (λ field. same_path field.0 path) fields))
+fields_kept ds [] path = refl
+fields_kept ds (f ∷ fields) path = either (same_path f.0 path) (fields_kept ds fields path)
+  where
+    either : (b : Bool) → back_among path (map (field_back ds) fields) ≡ names_back (option_and_then (λ field. slice_get ds field.1) (find (λ field. same_path field.0 path) fields)) →
+        option_map_or (λ field. field.0) (if b then Some (field_back ds f) else find (λ field. same_path field.1 path) (map (field_back ds) fields)) false
+        ≡ names_back (option_and_then (λ field. slice_get ds field.1) (if b then Some f else find (λ field. same_path field.0 path) fields))
+    either true rest = refl
+    either false rest = rest
+
+nothing_back : (e : DecodedRecord) → arriving_over e ≡ None → (path : List ℕ) → brings_back path e ≡ false
+nothing_back (Wire false k c rs m) h path =
+    brings_none (Wire false k c rs m) (or_parts (list_any (λ d. is_some (hosted_in d)) (descriptors_of m)) (may_bring_back (Wire false k c rs m)) (not_over _ k h)).1 path
+nothing_back (Wire true k c rs m) h path = refl
+nothing_back _ h path = refl
 
 -- ---- the table after a record
 
@@ -72,6 +113,16 @@ none_beyond [] n h = refl
 none_beyond (e ∷ before) n h =
     ap (λ b. option_or (if b then Some e else None) (record_at n before)) (ne_eqb (length before) n (λ same. let no : ⊥ = omega (arith, same, h) in no))
     ∙ none_beyond before n (omega (arith, h))
+
+back_next : (before : Past) (e : DecodedRecord) (n : ℕ) (path : List ℕ) → back_of (e ∷ before) n path ≡ (if length before == n then brings_back path e else back_of before n path)
+back_next before e n path = either (length before == n)
+  where
+    either : (b : Bool) → option_map_or (brings_back path) (option_or (if b then Some e else None) (record_at n before)) false ≡ (if b then brings_back path e else back_of before n path)
+    either true = refl
+    either false = refl
+
+no_back_next : (past : Past) (path : List ℕ) → back_of past (length past) path ≡ false
+no_back_next past path = ap (λ o. option_map_or (brings_back path) o false) (none_beyond past (length past) (omega arith))
 
 nothing_next : (past : Past) (place : ℕ) → arrived past (length past) place ≡ None
 nothing_next past place = ap (λ o. option_and_then (λ e. brought_at e place) o) (none_beyond past (length past) (omega arith))
@@ -85,26 +136,48 @@ arrived_next before e n place = either (length before == n)
 
 pub arrivals_after : (before : Past) (e : DecodedRecord) (old new : Arrivals) (number k : ℕ) → number ≡ length before → arriving_over e ≡ Some k →
     ((n place : ℕ) → arrival_at new n place ≡ (if number == n then brought_over k (map hosted_in (descriptors e)) place else arrival_at old n place)) →
+    ((n : ℕ) (path : List ℕ) → back_at new n path ≡ (if number == n then brings_back path e else back_at old n path)) →
     AreArrived before old → AreArrived (e ∷ before) new
-arrivals_after before e old new number k at arrives puts kept n place =
-    puts n place ∙ ap₂ (λ x y. if number == n then x else y) (all_brought e k arrives place) (kept n place)
-    ∙ ap (λ m. if m == n then brought_at e place else arrived before n place) at ∙ sym (arrived_next before e n place)
+arrivals_after before e old new number k at arrives puts puts_back kept = record {
+  imports = λ n place.
+      puts n place ∙ ap₂ (λ x y. if number == n then x else y) (all_brought e k arrives place) (kept.imports n place)
+      ∙ ap (λ m. if m == n then brought_at e place else arrived before n place) at ∙ sym (arrived_next before e n place);
+  back = λ n path.
+      puts_back n path ∙ ap (λ y. if number == n then brings_back path e else y) (kept.back n path)
+      ∙ ap (λ m. if m == n then brings_back path e else back_of before n path) at ∙ sym (back_next before e n path);
+}
 
 pub arrivals_still : (before : Past) (e : DecodedRecord) (table : Arrivals) → arriving_over e ≡ None → AreArrived before table → AreArrived (e ∷ before) table
-arrivals_still before e table none kept n place = kept n place ∙ still (length before == n) refl ∙ sym (arrived_next before e n place)
+arrivals_still before e table none kept = record {
+  imports = λ n place. kept.imports n place ∙ still n place (length before == n) refl ∙ sym (arrived_next before e n place);
+  back = λ n path. kept.back n path ∙ still_back n path (length before == n) refl ∙ sym (back_next before e n path);
+}
   where
-    still : (b : Bool) → (length before == n) ≡ b → arrived before n place ≡ (if b then brought_at e place else arrived before n place)
-    still false h = refl
-    still true h = ap (λ m. arrived before m place) (sym (eqb-true (length before) n h)) ∙ nothing_next before place ∙ sym (nothing_brought e none place)
+    still : (n place : ℕ) (b : Bool) → (length before == n) ≡ b → arrived before n place ≡ (if b then brought_at e place else arrived before n place)
+    still n place false h = refl
+    still n place true h = ap (λ m. arrived before m place) (sym (eqb-true (length before) n h)) ∙ nothing_next before place ∙ sym (nothing_brought e none place)
 
-pub arrivals_forgotten : (before : Past) (old put new : Arrivals) (number : ℕ) (f : ℕ → Option Arrival) → number ≡ length before →
+    still_back : (n : ℕ) (path : List ℕ) (b : Bool) → (length before == n) ≡ b → back_of before n path ≡ (if b then brings_back path e else back_of before n path)
+    still_back n path false h = refl
+    still_back n path true h = ap (λ m. back_of before m path) (sym (eqb-true (length before) n h)) ∙ no_back_next before path ∙ sym (nothing_back e none path)
+
+pub arrivals_forgotten : (before : Past) (old put new : Arrivals) (number : ℕ) (f : ℕ → Option Arrival) (g : List ℕ → Bool) → number ≡ length before →
     ((n place : ℕ) → arrival_at put n place ≡ (if number == n then f place else arrival_at old n place)) →
-    ((n place : ℕ) → arrival_at new n place ≡ (if number == n then None else arrival_at put n place)) → AreArrived before old → AreArrived before new
-arrivals_forgotten before old put new number f at puts forgets kept n place = forgets n place ∙ either (number == n) refl
+    ((n : ℕ) (path : List ℕ) → back_at put n path ≡ (if number == n then g path else back_at old n path)) →
+    ((n place : ℕ) → arrival_at new n place ≡ (if number == n then None else arrival_at put n place)) →
+    ((n : ℕ) (path : List ℕ) → back_at new n path ≡ (if number == n then false else back_at put n path)) → AreArrived before old → AreArrived before new
+arrivals_forgotten before old put new number f g at puts puts_back forgets forgets_back kept = record {
+  imports = λ n place. forgets n place ∙ either n place (number == n) refl;
+  back = λ n path. forgets_back n path ∙ either_back n path (number == n) refl;
+}
   where
-    either : (b : Bool) → (number == n) ≡ b → (if b then None else arrival_at put n place) ≡ arrived before n place
-    either true h = sym (nothing_next before place) ∙ ap (λ m. arrived before m place) (sym at ∙ eqb-true number n h)
-    either false h = puts n place ∙ ap (λ b. if b then f place else arrival_at old n place) h ∙ kept n place
+    either : (n place : ℕ) (b : Bool) → (number == n) ≡ b → (if b then None else arrival_at put n place) ≡ arrived before n place
+    either n place true h = sym (nothing_next before place) ∙ ap (λ m. arrived before m place) (sym at ∙ eqb-true number n h)
+    either n place false h = puts n place ∙ ap (λ b. if b then f place else arrival_at old n place) h ∙ kept.imports n place
+
+    either_back : (n : ℕ) (path : List ℕ) (b : Bool) → (number == n) ≡ b → (if b then false else back_at put n path) ≡ back_of before n path
+    either_back n path true h = sym (no_back_next before path) ∙ ap (λ m. back_of before m path) (sym at ∙ eqb-true number n h)
+    either_back n path false h = puts_back n path ∙ ap (λ b. if b then g path else back_at old n path) h ∙ kept.back n path
 
 -- ---- what lives of imports say: each view of an import is that of such a life
 

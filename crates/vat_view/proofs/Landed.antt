@@ -1,6 +1,6 @@
 -- A record turns the views that it settles to the references where they land.
 use Rattle.std.proofs.Common.{◌≡◌, ◌⊎◌, ◌+◌, ◌<◌, ◌≤◌, inl, inr, refl, sym, ◌∙◌, ap, ap₂, subst, ℕ, zero, suc, ◌==◌, List, [], ◌∷◌, length, drop, take, add-zero, zero-add, map, count_by, cond, Bool, true, false, not, ◌&&◌, Option, Some, None, if◌then◌else◌, option_map, option_and_then, arith}
-use Rattle.std.specs.Prelude.{find, slice_get, unwrap_or}
+use Rattle.std.specs.Prelude.{find, slice_get, unwrap_or, is_some}
 use Rattle.std.specs.List.{zip}
 use Rattle.std.specs.Option.{option_or}
 use Rattle.std.specs.Str.{bytes_eq as same_path}
@@ -20,7 +20,8 @@ use Rattle.decoded_records.specs.Glue.Origins.{is_cap}
 use Rattle.vat_view.specs.Glue.Tables.{reference_by}
 use Rattle.vat_view.specs.declared.record.unsettled.Unsettled.{Unsettled}
 use Rattle.vat_view.specs.declared.record.unsettled.Unsettled.TheVariants.{Promise as PromiseToKeep, Results as ResultsOf, Import as ImportToResolve}
-use Rattle.vat_view.specs.Glue.TurnTables.{is_this, promise_of, import_at, unless_elsewhere, settlement_of, reference_at, turn_target, Settler, goes, settler, call_behind, settler_at_point, settler_of, LandsBound}
+use Rattle.vat_view.specs.Glue.TurnTables.{is_this, promise_of, import_at, unless_elsewhere, settlement_of, reference_at, turn_target, Settler, goes, settler, call_behind, settler_at_point, settler_of, last_settler, LandsBound}
+use Rattle.vat_view.specs.Connections.{last_turn}
 use Rattle.decoded_records.specs.Glue.Parts.{field_path}
 use Rattle.vat_view.proofs.Originating.{noted_at, get_drop, noted_first, tail_drop, places_cons}
 use Rattle.vat_view.proofs.Viewed.{places_above, cap_here, cap_later, zip_noted, all_at}
@@ -470,6 +471,24 @@ module _ (before : Past) (e : DecodedRecord) (refers : Refers before e) (notes :
         ∙ known ∙ goes_kept v (settler_of v before) refl
         ∙ sym (ap (λ o. goes (view_of_reference (e ∷ before)) (field_path v) o) (settler_more v before e ∙ ap (λ b. if b then Some (e, behind v before e) else settler_of v before) apart))
   ]
+
+-- ---- the last record that turned a view is the one that settled it
+
+turned_if : {A : Type 0} (b : Bool) (x : A) → is_some (if b then Some x else None) ≡ b
+turned_if true x = refl
+turned_if false x = refl
+
+last_step : (v : View) (before : Past) (e : DecodedRecord) → (if settles_view v before e then Some (point before e) else last_settler v before) ≡ last_settler v (e ∷ before)
+last_step (Object object) before e = refl
+last_step (Promise p) before e = refl
+last_step (FieldOf call path) before e = refl
+last_step (Import i place) before e = refl
+
+pub turning_step : (before : Past) (e : DecodedRecord) → Refers before e → NotesEach before e → (v : View) → last_turn v before ≡ last_settler v before → last_turn v (e ∷ before) ≡ last_settler v (e ∷ before)
+turning_step before e refers notes v known =
+    ap₂ (λ b o. if b then Some (point before e) else o)
+    (ap (λ t. is_some t) (turn_settles v before e refers notes) ∙ turned_if (settles_view v before e) (there v before e)) known
+    ∙ last_step v before e
 
 -- ---- at every point of a log
 

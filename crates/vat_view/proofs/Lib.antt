@@ -18,6 +18,7 @@ pub mod Tallying
 pub mod Finding
 pub mod Turned
 pub mod Turning
+pub mod Joining
 pub mod Using
 pub mod Walking
 pub mod Connecting

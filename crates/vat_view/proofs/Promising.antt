@@ -37,7 +37,7 @@ birth_below i (e ∷ before) b h = elim (cases_option (begins i before e)) [
   | inr none ↦ let rest = birth_below i before b (sym (ap (λ o. option_or o (last_answer (begins i) before)) none) ∙ h) in omega (arith, rest)
 ]
 
-where_below : (test : Past → DecodedRecord → Bool) (past : Past) (p : Point) → last_where test past ≡ Some p → record_index p < length past
+pub where_below : (test : Past → DecodedRecord → Bool) (past : Past) (p : Point) → last_where test past ≡ Some p → record_index p < length past
 where_below test [] p h = absurd (none_some h)
 where_below test (e ∷ before) p h = elim (cases_Bool (test before e)) [
   | inl here ↦

@@ -24,7 +24,7 @@ use Rattle.vat_view.specs.Glue.TurnTables.{is_this, promise_of, import_at, unles
 use Rattle.decoded_records.specs.Glue.Parts.{field_path}
 use Rattle.vat_view.proofs.Knowing.{known_from}
 use Rattle.number_tables.proofs.Raising.{positive}
-use Rattle.vat_view.proofs.Landed.{going_step, lands_bound}
+use Rattle.vat_view.proofs.Landed.{going_step, turning_step, lands_bound}
 use Rattle.vat_view.proofs.Handed.{answerer_settles, handed_step, matched}
 
 -- ---- what a record settles, by the tables before it
@@ -85,6 +85,7 @@ settled_same past table other same kept = record {
   settlers = λ v. same.settlers v ∙ kept.settlers v;
   handed = λ c. same.handed c ∙ kept.handed c;
   going = kept.going;
+  turning = kept.turning;
   landed = kept.landed;
 }
 
@@ -109,6 +110,7 @@ settled_more before e table other number s fit place is_settled taken is_turned 
       ∙ ap (λ o. option_map (settled_as v) o) (last_more v before e);
   handed = λ c. noted.handed c ∙ handed_more c before e number s (handover_at table c) place is_settled taken (kept.handed c);
   going = λ v. going_step before e fit.refers fit.notes kept.landed v (kept.going v);
+  turning = λ v. turning_step before e fit.refers fit.notes v (kept.turning v);
   landed = (lands_bound before e fit.refers, kept.landed);
 }
 

@@ -92,7 +92,7 @@ pub record IsFew {A : Type 0} (f : A → Option A) (a : A) (index : A → ℕ) (
   pub one : (k l : ℕ) (v w x y : A) → after_turns f k (Some a) ≡ Some v → f v ≡ Some w → after_turns f l (Some a) ≡ Some x → f x ≡ Some y → index v ≡ index x → w ≡ y
 
 -- then each value that is reached is reached by r turns at most
-within : {A : Type 0} (f : A → Option A) (a : A) (index : A → ℕ) (r : ℕ) → IsFew f a index r →
+pub within : {A : Type 0} (f : A → Option A) (a : A) (index : A → ℕ) (r : ℕ) → IsFew f a index r →
     (v : A) (fuel n : ℕ) → n ≤ fuel → after_turns f n (Some a) ≡ Some v → (m : ℕ) × (m ≤ r) × (after_turns f m (Some a) ≡ Some v)
 within f a index r few v zero n le e = (n, omega arith, e)
 within f a index r few v (suc fuel) n le e = elim (cases_lt r n) [

@@ -1,11 +1,13 @@
--- The connections over which views are reached, and those that were aborted (rpc.capnp, the comments of Disembargo and
--- of Message.abort).
-use Rattle.std.specs.Prelude.{◌≡◌, ℕ, ◌==◌, Bool, true, false, not, ◌||◌, Option, Some, None, if◌then◌else◌, option_map, IsTrue}
-use Rattle.vat_view.specs.Types.{Edition, First, Later, Bootstrap, Call, Abort, DecodedRecord, Wire, View, Object, Promise, FieldOf, Import}
-use Rattle.decoded_records.specs.Past.{Past, is, last_answer}
+-- The connections over which views are reached and came back, and those that were aborted (rpc.capnp, the comments of
+-- Disembargo and of Message.abort).
+use Rattle.std.specs.Prelude.{◌≡◌, ℕ, ◌==◌, List, [], Bool, true, false, not, ◌&&◌, ◌||◌, Option, Some, None, if◌then◌else◌, option_map, option_and_then, find, is_some, slice_get, IsTrue}
+use Rattle.std.specs.Option.{option_map_or}
+use Rattle.std.specs.Str.{bytes_eq as same_path}
+use Rattle.vat_view.specs.Types.{Descriptor, ReceiverHosted, ReceiverAnswer, Edition, First, Later, Results, TakeFrom, Cap, Bootstrap, Call, Return, Resolve, Abort, DecodedRecord, Wire, View, Object, Promise, FieldOf, Import}
+use Rattle.decoded_records.specs.Past.{Past, Point, is, last_answer, last_where}
 use Rattle.vat_view.specs.Arrivals.{arrived}
 use Rattle.decoded_records.specs.Calls.{has_passed}
-use Rattle.vat_view.specs.Walks.{Leads}
+use Rattle.vat_view.specs.Walks.{turn, next, turned_to, Leads}
 
 -- (rpc.capnp, Message.abort: sent when a connection is being aborted; the sender will completely close it shortly
 -- thereafter)
@@ -74,3 +76,37 @@ is_elsewhere Later k past v = not (is k (reached_over past v))
 -- a view leads, by 0 or more turns, to one that is elsewhere
 abbrev pub LeadsElsewhere : Edition → Past → View → ℕ → Type 0
 LeadsElsewhere edition past from k = (v : View) × Leads past from v × IsTrue (is_elsewhere edition k past v)
+
+-- (rpc.capnp, CapDescriptor.receiverHosted and receiverAnswer)
+-- a descriptor names what is its receiver's: what that hosts, or a result of a call that it answers
+abbrev pub names_back : Option Descriptor → Bool
+names_back (Some (ReceiverHosted n)) = true
+names_back (Some (ReceiverAnswer n path)) = true
+names_back _ = false
+
+-- what a received record has at a path is its receiver's: a result in a Return, any result where a Return takes those of
+-- another question, and whatever a Resolve resolves to
+abbrev pub brings_back : List ℕ → DecodedRecord → Bool
+brings_back path (Wire false k c rs (Return q release (Results payload) light)) =
+    names_back (option_and_then (λ field. slice_get payload.descriptors field.1) (find (λ field. same_path field.0 path) payload.fields))
+brings_back path (Wire false k c rs (Return q release (TakeFrom n) light)) = true
+brings_back path (Wire false k c rs (Resolve n (Cap d))) = names_back (Some d)
+brings_back path _ = false
+
+-- the path of a view: a field's own, and of any other view the empty one
+abbrev pub path_of : View → List ℕ
+path_of (FieldOf call path) = path
+path_of _ = []
+
+-- the last record that turned a view, or stopped it
+abbrev pub last_turn : View → Past → Option Point
+last_turn v past = last_where (λ before e. is_some (turn v before e)) past
+
+-- a view is reached over this connection, and came back over it: the message that turned it turned it to what is this
+-- vat's own
+abbrev pub is_back : ℕ → Past → View → Bool
+is_back k past v = is k (reached_over past v) && (is_some (turned_to (next past v)) && option_map_or (λ p. brings_back (path_of v) p.event) (last_turn v past) false)
+
+-- a view leads, by 0 or more turns, to one that came back over this connection
+abbrev pub CameBack : Past → View → ℕ → Type 0
+CameBack past from k = (v : View) × Leads past from v × IsTrue (is_back k past v)

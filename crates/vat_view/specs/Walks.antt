@@ -115,6 +115,14 @@ pub data Leads (past : Past) : View → View → Type 0 where
 pub data LeadsByTurns (past : Past) : View → View → Type 0 where
   turned : {a b c : View} → next past a ≡ turns b → Leads past b c → LeadsByTurns past a c
 
+-- two views are one: both lead, by 0 or more turns, to a common view
+abbrev pub AreOne : Past → View → View → Type 0
+AreOne past a b = (c : View) × Leads past a c × Leads past b c
+
+-- a view became another: it turned, and is one with it
+abbrev pub Became : Past → View → View → Type 0
+Became past a b = (c : View) × (next past a ≡ turns c) × AreOne past a b
+
 -- a view's end is the last of its walk; it has none where the walk stops or goes in a circle
 pub record IsEnd (past : Past) (a end : View) : Type 0 where
   pub led : Leads past a end

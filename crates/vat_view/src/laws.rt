@@ -9,7 +9,7 @@ ghost use Rattle.decoded_records.specs.Uses.{UsesQuestions};
 ghost use Rattle.decoded_records.specs.Views.{view_of_reference, view_of_number};
 ghost use Rattle.decoded_records.specs.Bindings.{Refers, is_bound, is_bound_call};
 ghost use Rattle.vat_view.specs.Sound.{IsSound};
-ghost use Rattle.vat_view.specs.Walks.{next, turns, stops, stays, TurnsOnce, Leads, LeadsByTurns, IsEnd};
+ghost use Rattle.vat_view.specs.Walks.{next, turns, stops, stays, TurnsOnce, Leads, LeadsByTurns, IsEnd, AreOne, Became};
 ghost use Rattle.vat_view.specs.Laws.{count_since, LivesOn, EachAfter};
 
 /// Since its last opening a question has one Return and one Finish at most, where the records before use questions as
@@ -93,4 +93,18 @@ pub fn objects_stay()
 /// A view has one end at most.
 pub fn ends_are_one()
     ensures { (past : Past) (a b c : View) → IsEnd past a b → IsEnd past a c → b ≡ c }
+{}
+
+/// Being one parts views into classes.
+pub fn ones_are_classes()
+    ensures itself { (past : Past) (a : View) → AreOne past a a }
+    ensures back { (past : Past) (a b : View) → AreOne past a b → AreOne past b a }
+    ensures through { (past : Past) (a b c : View) → AreOne past a b → AreOne past b c
+        → AreOne past a c }
+{}
+
+/// A view is one with what it leads to, and became it where it leads there by 1 or more turns.
+pub fn leads_are_one()
+    ensures leads { (past : Past) (a b : View) → Leads past a b → AreOne past a b }
+    ensures by_turns { (past : Past) (a b : View) → LeadsByTurns past a b → Became past a b }
 {}

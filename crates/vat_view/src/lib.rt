@@ -23,7 +23,7 @@ pub use decoded_records::{
 };
 pub use laws::{
     a_life_is_resolved_once, a_promise_is_kept_once, bound_references_have_views, ends_are_one,
-    no_more_goes, numbers_keep_views, objects_stay, openings_are_closed_once,
-    references_keep_views, turns_go_to_references, turns_only_grow,
+    leads_are_one, no_more_goes, numbers_keep_views, objects_stay, ones_are_classes,
+    openings_are_closed_once, references_keep_views, turns_go_to_references, turns_only_grow,
 };
 pub use state::VatState;

@@ -1,9 +1,10 @@
 //! How far a call came that has no Return, over all vats, and where it stands.
 
-use crate::open::fates::Fate;
-use crate::open::open_case::{OpenCase, OpenLog};
+use crate::call_steps::Does;
+use crate::open::open_case::{LogEnd, OpenCase};
+use crate::open::open_log::{Fate, OpenLog};
 use past_records::NoteText;
-use std::alloc::{AllocError, Global};
+use std::alloc::AllocError;
 use vat_view::TableKey;
 
 /// How many records of a call's way a note tells at most.
@@ -13,18 +14,8 @@ const MOST: usize = 32;
 #[derive(Clone, Copy)]
 struct Sent {
     vat: u32,
-    connection: u32,
-    question: u32,
+    question: TableKey,
     at: usize,
-}
-
-/// How a record brings a call further.
-#[derive(Clone, Copy)]
-pub(crate) enum Does {
-    Receives,
-    SendsOn,
-    Delivers,
-    Ends,
 }
 
 /// A record that brings a call further, and its vat.
@@ -41,198 +32,149 @@ pub(crate) enum Stands {
     /// It was sent to a vat whose log isn't there.
     Sent,
     /// It was sent to this vat, which never received it.
-    NotReceived(u32),
+    NotReceived,
     /// This vat returned it, and the Return was never received.
-    Returned(u32),
+    Returned,
     /// This vat received it, and nothing has become of it.
-    Waits(u32),
+    Waits,
     /// It was delivered there, and isn't answered.
-    Delivered(u32),
+    Delivered,
     /// It was answered or ended there, and isn't returned.
-    Ended(u32),
+    Ended,
 }
 
-/// The records that brought a call further, one vat after another, and where it stands.
+/// The records that brought a call further, one vat after another, where it stands, and at which vat, where its log is there.
 #[derive(Drop)]
 pub(crate) struct Way {
     pub(crate) hops: Vec<Hop>,
     pub(crate) stands: Stands,
+    pub(crate) stands_at: Option<u32>,
 }
 
 impl Does {
-    /// The word for it in an object.
-    pub(crate) fn word(self) -> &'static str {
+    /// The word for it in an object, and what a note says of it with its record and vat.
+    pub(crate) fn words(self) -> (&'static str, &'static str) {
         match self {
-            Does::Receives => "receive",
-            Does::SendsOn => "send",
-            Does::Delivers => "deliver",
-            Does::Ends => "end",
+            Does::Receives => ("receive", ", received by record # of vat #"),
+            Does::SendsOn => ("send", ", sent on by record #"),
+            Does::Delivers => ("deliver", ", delivered by record #"),
+            Does::Answers | Does::Ends => ("end", ", ended by record #"),
         }
     }
 }
 
 impl Stands {
-    /// The word for it in an object.
-    pub(crate) fn word(self) -> &'static str {
+    /// The word for it in an object, and what a note says of it with its vat.
+    pub(crate) fn words(self) -> (&'static str, &'static str) {
         match self {
-            Stands::Sent => "sent",
-            Stands::NotReceived(_) => "not received",
-            Stands::Returned(_) => "returned",
-            Stands::Waits(_) => "waits",
-            Stands::Delivered(_) => "delivered",
-            Stands::Ended(_) => "ended",
-        }
-    }
-
-    /// The vat at which it stands, where its log is there.
-    pub(crate) fn vat(self) -> Option<u32> {
-        match self {
-            Stands::Sent => None,
-            Stands::NotReceived(vat)
-            | Stands::Returned(vat)
-            | Stands::Waits(vat)
-            | Stands::Delivered(vat)
-            | Stands::Ended(vat) => Some(vat),
+            Stands::Sent => ("sent", ""),
+            Stands::NotReceived => ("not received", ", and never received by vat #"),
+            Stands::Returned => {
+                (
+                    "returned",
+                    ", and returned by vat #, whose Return was never received",
+                )
+            }
+            Stands::Waits => ("waits", ", and never delivered, sent on or ended"),
+            Stands::Delivered => ("delivered", ", and never answered"),
+            Stands::Ended => ("ended", ", and never returned"),
         }
     }
 }
 
 impl Way {
-    /// A record of a vat brings the call further.
-    fn add(&mut self, vat: u32, at: usize, does: Does) -> Result<(), AllocError> {
-        self.hops.push(Hop { vat, at, does })?;
-        Ok(())
-    }
-
     /// What became of the call at a vat that received it; and how it was sent on, if it was.
     fn add_fate(&mut self, log: &OpenLog<'_>, call: u64) -> Result<Option<Sent>, AllocError> {
         let vat = log.log.vat();
-        match log.fate_of(call) {
-            Fate::Waits => self.stands = Stands::Waits(vat),
-            Fate::Delivered(at) => {
-                self.add(vat, at, Does::Delivers)?;
-                self.stands = Stands::Delivered(vat);
-            }
-            Fate::Ended(at) => {
-                self.add(vat, at, Does::Ends)?;
-                self.stands = Stands::Ended(vat);
-            }
-            Fate::SentOn {
-                at,
-                connection,
-                question,
-            } => {
-                self.add(vat, at, Does::SendsOn)?;
-                self.stands = Stands::Sent;
-                return Ok(Some(Sent {
-                    vat,
-                    connection,
-                    question,
-                    at,
-                }));
-            }
-        }
-        Ok(None)
+        self.stands = Stands::Waits;
+        self.stands_at = Some(vat);
+        let Some(fate) = log.fate_of(call) else {
+            return Ok(None);
+        };
+        let Fate { at, does, question } = fate;
+        self.hops.push(Hop { vat, at, does })?;
+        self.stands = match does {
+            Does::Delivers => Stands::Delivered,
+            Does::Answers | Does::Ends => Stands::Ended,
+            Does::Receives | Does::SendsOn => Stands::Sent,
+        };
+        let Some(question) = question else {
+            return Ok(None);
+        };
+        self.stands_at = None;
+        Ok(Some(Sent { vat, question, at }))
     }
 
     /// What became of a call at the vat to which it was sent; and how it was sent on from there, if it was.
     fn add_hop(&mut self, case: &OpenCase<'_>, sent: Sent) -> Result<Option<Sent>, AllocError> {
-        let Sent {
-            vat,
+        let TableKey {
             connection,
-            question,
-            at,
-        } = sent;
-        let Some(peer) = case.peer_of(vat, connection) else {
+            number,
+            ..
+        } = sent.question;
+        let Some(vat) = case.peer_of(sent.vat, connection) else {
             return Ok(None);
         };
-        let (Some(from), Some(to)) = (case.log_of(vat), case.log_of(peer)) else {
+        let (Some(from), Some(to)) = (case.log_of(sent.vat), case.log_of(vat)) else {
             return Ok(None);
         };
-        if to.received_on(connection) <= from.sent_before(connection, at) {
-            self.stands = Stands::NotReceived(peer);
+        self.stands_at = Some(vat);
+        if to.received_on(connection) <= from.sent_before(connection, sent.at) {
+            self.stands = Stands::NotReceived;
             return Ok(None);
         }
-        let Some(there) = to.question_asked(connection, question) else {
-            self.stands = Stands::Returned(peer);
+        let Some((call, at)) = to.question_asked(connection, number) else {
+            self.stands = Stands::Returned;
             return Ok(None);
         };
-        self.add(peer, there.at, Does::Receives)?;
-        self.add_fate(to, there.call)
+        let does = Does::Receives;
+        self.hops.push(Hop { vat, at, does })?;
+        self.add_fate(to, call)
+    }
+
+    /// Follows a call that was sent so from vat to vat.
+    fn follow(&mut self, case: &OpenCase<'_>, sent: Sent) -> Result<(), AllocError> {
+        let mut next = Some(sent);
+        for _ in 0..case.records() {
+            let Some(sent) = next else {
+                return Ok(());
+            };
+            next = self.add_hop(case, sent)?;
+        }
+        Ok(())
     }
 }
 
 /// The way of a call that has no Return, from this record of a log on, which sent or received it as this question.
 pub(crate) fn way_of(
-    alloc: Global,
-    case: &OpenCase<'_>,
-    log: &OpenLog<'_>,
+    told: LogEnd<'_, '_>,
     question: TableKey,
     call: u64,
     at: usize,
 ) -> Result<Way, AllocError> {
     let mut way = Way {
-        hops: Vec::new(alloc),
+        hops: Vec::new(told.alloc),
         stands: Stands::Sent,
+        stands_at: None,
     };
-    if !question.ours {
-        let _ = way.add_fate(log, call)?;
-        return Ok(way);
-    }
-    let mut next = Some(Sent {
-        vat: log.log.vat(),
-        connection: question.connection,
-        question: question.number,
-        at,
-    });
-    for _ in 0..case.records() {
-        let Some(sent) = next else {
-            return Ok(way);
-        };
-        next = way.add_hop(case, sent)?;
+    if question.ours {
+        let vat = told.vat();
+        way.follow(told.case, Sent { vat, question, at })?;
+    } else {
+        let _ = way.add_fate(told.log, call)?;
     }
     Ok(way)
-}
-
-/// Appends a record of a call's way.
-fn put_hop(text: &mut NoteText, hop: Hop) {
-    let Hop { vat, at, does } = hop;
-    match does {
-        Does::Receives => text.tell(
-            ", received by record # of vat #",
-            &[at as u64, u64::from(vat)],
-        ),
-        Does::SendsOn => text.tell(", sent on by record #", &[at as u64]),
-        Does::Delivers => text.tell(", delivered by record #", &[at as u64]),
-        Does::Ends => text.tell(", ended by record #", &[at as u64]),
-    }
-}
-
-/// Appends where a call stands.
-fn put_stands(text: &mut NoteText, stands: Stands) {
-    match stands {
-        Stands::Sent => {}
-        Stands::NotReceived(peer) => {
-            text.tell(", and never received by vat #", &[u64::from(peer)]);
-        }
-        Stands::Returned(peer) => text.tell(
-            ", and returned by vat #, whose Return was never received",
-            &[u64::from(peer)],
-        ),
-        Stands::Waits(_) => text.words(", and never delivered, sent on or ended"),
-        Stands::Delivered(_) => text.words(", and never answered"),
-        Stands::Ended(_) => text.words(", and never returned"),
-    }
 }
 
 /// Appends the way of a call, and where it stands. Long ways are cut.
 pub(crate) fn put_way(text: &mut NoteText, way: &Way) {
     for hop in way.hops.iter().take(MOST) {
-        put_hop(text, *hop);
+        let (_, sentence) = hop.does.words();
+        text.tell(sentence, &[hop.at as u64, u64::from(hop.vat)]);
     }
     if way.hops.len() > MOST {
-        text.words(", and so on");
-    } else {
-        put_stands(text, way.stands);
+        return text.words(", and so on");
     }
+    let (_, sentence) = way.stands.words();
+    text.tell(sentence, &[u64::from(way.stands_at.unwrap_or(0))]);
 }

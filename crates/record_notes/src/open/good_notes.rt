@@ -1,173 +1,152 @@
 //! The notes of what is open at the end of good logs.
 
 use crate::open::call_ways::{put_way, way_of};
-use crate::open::open_case::{OpenCase, OpenLog};
+use crate::open::open_case::{LogEnd, OpenCase};
+use crate::open::open_log::Aborted;
 use crate::open::under_way::put_under_way;
 use crate::open_counts::OpenCounts;
 use left_open::Open;
-use past_records::NoteText;
-use std::alloc::{AllocError, Global};
+use past_records::{NoteText, NumberText, put_reason};
+use std::alloc::Global;
 use vat_view::TableKey;
 
 /// How many of a kind are told at most.
 pub(crate) const MOST: usize = 5;
 
-/// Appends the beginning of the note of a question without a Return.
-fn put_asked(text: &mut NoteText, vat: u32, question: TableKey, call: u64, at: usize) {
-    text.tell(
-        "note: call # of vat # has no Return: it was ",
-        &[call, u64::from(vat)],
-    );
-    text.words(if question.ours { "sent" } else { "received" });
-    text.tell(
-        " by record # as question # of connection #",
-        &[
-            at as u64,
-            u64::from(question.number),
-            u64::from(question.connection),
-        ],
-    );
-}
-
-/// Appends the note of a question without a Return.
+/// Appends the note of a question without a Return: its call, how far that came, and where it stands.
 fn put_question(
-    alloc: Global,
     text: &mut NoteText,
-    case: &OpenCase<'_>,
-    log: &OpenLog<'_>,
+    told: LogEnd<'_, '_>,
     question: TableKey,
     call: u64,
     at: usize,
 ) {
-    put_asked(text, log.log.vat(), question, call, at);
-    match way_of(alloc, case, log, question, call, at) {
-        Ok(way) => put_way(text, &way),
-        Err(AllocError) => text.refuse(),
+    let word = if question.ours { "sent" } else { "received" };
+    let vat = u64::from(told.vat());
+    text.tell_of(
+        "note: call # of vat # has no Return: it was @",
+        &word,
+        &[call, vat],
+    );
+    text.tell_of(
+        " by record # as question @",
+        &NumberText(question),
+        &[at as u64],
+    );
+    if let Some(way) = text.granted(way_of(told, question, call, at)) {
+        put_way(text, &way);
     }
     text.words("\n");
 }
 
-/// Appends the notes of the questions of a log without a Return.
-fn put_questions(alloc: Global, text: &mut NoteText, case: &OpenCase<'_>, log: &OpenLog<'_>) {
-    let mut count = 0_usize;
-    for left in log.list.iter() {
-        if let Open::Question { question, call, at } = left {
-            if case.is_question_told(log, *question, *call) {
-                if count < MOST {
-                    put_question(alloc, text, case, log, *question, *call, *at);
-                }
-                count = count.saturating_add(1);
-            }
+/// Appends the note of what is open at the end of a log: of a question without a Return, a loopback without an echo, or a promise
+/// that the vat vowed and neither kept nor broke.
+fn put_left(text: &mut NoteText, told: LogEnd<'_, '_>, left: &Open) {
+    let vat = u64::from(told.vat());
+    match left {
+        Open::Question { question, call, at } => put_question(text, told, *question, *call, *at),
+        Open::Loopback { number, at } => {
+            let word = if number.ours { "sent" } else { "received" };
+            text.tell_of("note: loopback @, ", &NumberText(*number), &[]);
+            text.tell_of(
+                "@ by record # of vat #, has no echo\n",
+                &word,
+                &[*at as u64, vat],
+            );
         }
+        Open::Promise { reference, at } => text.note(
+            "the promise of reference #, vowed by record # of vat #, was neither kept nor broken",
+            &[*reference, *at as u64, vat],
+        ),
+        Open::Unfinished { .. } | Open::Number { .. } => {}
     }
-    put_more(text, log.log.vat(), count, "questions without a Return")
 }
 
-/// Appends the note of a loopback without an echo.
-fn put_loopback(text: &mut NoteText, vat: u32, loopback: TableKey, at: usize) {
-    text.tell(
-        "note: loopback # of connection #, ",
-        &[u64::from(loopback.number), u64::from(loopback.connection)],
-    );
-    text.words(if loopback.ours { "sent" } else { "received" });
-    text.tell(
-        " by record # of vat #, has no echo\n",
-        &[at as u64, u64::from(vat)],
-    );
-}
-
-/// Appends the notes of the loopbacks of a log without an echo.
-fn put_loopbacks(text: &mut NoteText, case: &OpenCase<'_>, log: &OpenLog<'_>) {
+/// Appends the notes of what is open of a kind at the end of a log: of the first few, and how many more there are.
+fn put_kind<F: Fn(&Open) -> bool>(text: &mut NoteText, told: LogEnd<'_, '_>, kind: &str, is_of: F)
+    requires { F.IsAlwaysCallable is_of }
+{
     let mut count = 0_usize;
-    for left in log.list.iter() {
-        if let Open::Loopback { number, at } = left {
-            if case.is_told(log.log.vat(), *number) {
-                if count < MOST {
-                    put_loopback(text, log.log.vat(), *number, *at);
-                }
-                count = count.saturating_add(1);
-            }
-        }
-    }
-    put_more(text, log.log.vat(), count, "loopbacks without an echo")
-}
-
-/// Appends the note of a promise that a vat vowed and neither kept nor broke.
-fn put_promise(text: &mut NoteText, vat: u32, reference: u64, at: usize) {
-    text.tell(
-        "note: the promise of reference #, vowed by record # of vat #, was neither kept nor broken\n",
-        &[reference, at as u64, u64::from(vat)],
-    );
-}
-
-/// Appends the notes of the promises that a vat vowed and neither kept nor broke.
-fn put_promises(text: &mut NoteText, log: &OpenLog<'_>) {
-    let vat = log.log.vat();
-    let mut count = 0_usize;
-    for left in log.list.iter() {
-        if let Open::Promise { reference, at } = left {
+    for left in told.log.list.iter() {
+        if is_of(left) && told.tells(left) {
             if count < MOST {
-                put_promise(text, vat, *reference, *at);
+                put_left(text, told, left);
             }
             count = count.saturating_add(1);
         }
     }
-    put_more(
-        text,
-        vat,
-        count,
-        "promises that were neither kept nor broken",
-    );
+    put_more(text, told.vat(), count, kind)
 }
 
 /// Appends the note of how many more of a kind a log has, if it has more than are told.
 fn put_more(text: &mut NoteText, vat: u32, count: usize, kind: &str) {
     if count > MOST {
         let more = count.saturating_sub(MOST);
-        text.tell("note: vat # has # more ", &[u64::from(vat), more as u64]);
-        text.words(kind);
-        text.words("\n");
+        text.note_of("vat # has # more @", &kind, &[u64::from(vat), more as u64]);
     }
 }
 
-/// Appends the note of what is counted at the end of a log, if anything is.
-fn put_counts(text: &mut NoteText, vat: u32, counts: OpenCounts) {
-    if counts.is_any() {
-        text.tell("note: open at the end of vat #: ", &[u64::from(vat)]);
-        text.shown(&counts);
-        text.words("\n");
-    }
+/// Appends the note of an abort, with its reason.
+fn put_abort(text: &mut NoteText, told: LogEnd<'_, '_>, abort: Aborted) {
+    let word = if abort.sent { "sent" } else { "received" };
+    let vat = u64::from(told.vat());
+    text.tell_of(
+        "note: record # of vat # @ an abort",
+        &word,
+        &[abort.at as u64, vat],
+    );
+    text.tell(" of connection #", &[u64::from(abort.connection)]);
+    put_reason(told.alloc, text, told.log.log, abort.at, ": ");
+    text.words("\n");
 }
 
 /// Appends the notes of the aborts of a log.
-fn put_aborts(alloc: Global, text: &mut NoteText, case: &OpenCase<'_>, log: &OpenLog<'_>) {
-    let vat = log.log.vat();
+fn put_aborts(text: &mut NoteText, told: LogEnd<'_, '_>) {
     let mut count = 0_usize;
-    for abort in log.aborts.iter() {
-        if abort.is_told(case, vat) {
+    for abort in told.log.aborts.iter() {
+        if told.is_told(abort.sent, abort.connection) {
             if count < MOST {
-                abort.put(alloc, text, log);
+                put_abort(text, told, *abort);
             }
             count = count.saturating_add(1);
         }
     }
-    put_more(text, vat, count, "aborts")
+    put_more(text, told.vat(), count, "aborts")
 }
 
 /// Appends the notes of what is open at the end of a log, and of its aborts, which may be why.
-fn put_log(alloc: Global, text: &mut NoteText, case: &OpenCase<'_>, log: &OpenLog<'_>) {
-    put_aborts(alloc, text, case, log);
-    put_questions(alloc, text, case, log);
-    put_loopbacks(text, case, log);
-    put_promises(text, log);
-    let counts = OpenCounts::of(log.list.as_slice()).held();
-    put_counts(text, log.log.vat(), counts);
+fn put_log(text: &mut NoteText, told: LogEnd<'_, '_>) {
+    put_aborts(text, told);
+    put_kind(
+        text,
+        told,
+        "questions without a Return",
+        |left| matches!(left, Open::Question { .. }),
+    );
+    put_kind(
+        text,
+        told,
+        "loopbacks without an echo",
+        |left| matches!(left, Open::Loopback { .. }),
+    );
+    let unsettled = "promises that were neither kept nor broken";
+    put_kind(
+        text,
+        told,
+        unsettled,
+        |left| matches!(left, Open::Promise { .. }),
+    );
+    let counts = OpenCounts::of(told.log.list.as_slice()).held();
+    if counts.is_any() {
+        let vat = u64::from(told.vat());
+        text.note_of("open at the end of vat #: @", &counts, &[vat]);
+    }
 }
 
 /// Appends the notes of what is open at the end of a case whose report is yes, or of a log that is good.
 pub fn put_good(alloc: Global, text: &mut NoteText, case: &OpenCase<'_>) {
     put_under_way(alloc, text, case);
     for log in case.logs.iter() {
-        put_log(alloc, text, case, log);
+        put_log(text, LogEnd { alloc, case, log });
     }
 }

@@ -1,8 +1,8 @@
 //! What is open at the end, as a JSON object (docs/FORMATS.md).
 
 use crate::open::call_ways::{Hop, Way, way_of};
-use crate::open::open_case::{OpenCase, OpenLog};
-use crate::open::under_way::{UnderWay, under_way_on};
+use crate::open::open_case::{LogEnd, OpenCase};
+use crate::open::under_way::{UnderWay, all_under_way};
 use left_open::Open;
 use serde_json::{Map, Value, put};
 use std::alloc::{AllocError, Global};
@@ -14,17 +14,6 @@ struct ObjectMembers {
     alloc: Global,
     members: Map<String, Value>,
     is_refused: bool,
-}
-
-/// A list of objects for each kind of what is open.
-#[derive(Drop)]
-struct OpenLists {
-    loopbacks: Vec<Value>,
-    numbers: Vec<Value>,
-    promises: Vec<Value>,
-    questions: Vec<Value>,
-    under_way: Vec<Value>,
-    unfinished: Vec<Value>,
 }
 
 impl ObjectMembers {
@@ -49,11 +38,6 @@ impl ObjectMembers {
         self.add(name, Value::from(number));
     }
 
-    /// Adds a yes or no.
-    fn flag(&mut self, name: &str, is_set: bool) {
-        self.add(name, Value::Bool(is_set));
-    }
-
     /// Adds a word.
     fn word(&mut self, name: &str, word: &str) {
         match String::from_str(self.alloc, word) {
@@ -62,9 +46,12 @@ impl ObjectMembers {
         }
     }
 
-    /// Adds a list.
-    fn list(&mut self, name: &str, items: Vec<Value>) {
-        self.add(name, Value::Array(items));
+    /// Adds a list, where memory wasn't refused for it.
+    fn list(&mut self, name: &str, items: Result<Vec<Value>, AllocError>) {
+        match items {
+            Ok(items) => self.add(name, Value::Array(items)),
+            Err(AllocError) => self.is_refused = true,
+        }
     }
 
     /// Adds a record of a vat.
@@ -78,7 +65,15 @@ impl ObjectMembers {
         self.record(vat, at);
         self.number("connection", u64::from(key.connection));
         self.number(name, u64::from(key.number));
-        self.flag("sent", key.ours);
+        self.add("sent", Value::Bool(key.ours));
+    }
+
+    /// Adds how far a call came, and where it stands.
+    fn way(&mut self, way: &Way) {
+        let (word, _) = way.stands.words();
+        self.list("way", hop_objects(self.alloc, way.hops.as_slice()));
+        self.word("stands", word);
+        self.add("stands_at", Value::from(way.stands_at));
     }
 
     /// The object.
@@ -95,14 +90,6 @@ impl ObjectMembers {
     }
 }
 
-/// The object of a record that brings a call further.
-fn hop_object(alloc: Global, hop: Hop) -> Result<Value, AllocError> {
-    let mut object = ObjectMembers::new(alloc);
-    object.record(hop.vat, hop.at);
-    object.word("does", hop.does.word());
-    object.finish()
-}
-
 /// Adds what is made to a list.
 fn push(list: &mut Vec<Value>, made: Result<Value, AllocError>) -> Result<(), AllocError> {
     match made {
@@ -114,100 +101,22 @@ fn push(list: &mut Vec<Value>, made: Result<Value, AllocError>) -> Result<(), Al
     }
 }
 
-/// Adds the objects of the records that bring a call further to a list.
-fn push_hops(alloc: Global, list: &mut Vec<Value>, hops: &[Hop]) -> Result<(), AllocError> {
+/// The object of a record that brings a call further.
+fn hop_object(alloc: Global, hop: Hop) -> Result<Value, AllocError> {
+    let (word, _) = hop.does.words();
+    let mut object = ObjectMembers::new(alloc);
+    object.record(hop.vat, hop.at);
+    object.word("does", word);
+    object.finish()
+}
+
+/// The objects of the records that bring a call further.
+fn hop_objects(alloc: Global, hops: &[Hop]) -> Result<Vec<Value>, AllocError> {
+    let mut list = Vec::new(alloc);
     for hop in hops {
-        push(list, hop_object(alloc, *hop))?;
+        push(&mut list, hop_object(alloc, *hop))?;
     }
-    Ok(())
-}
-
-/// The object of a question without a Return that has this way.
-fn way_object(
-    alloc: Global,
-    vat: u32,
-    question: TableKey,
-    call: u64,
-    at: usize,
-    way: &Way,
-) -> Result<Value, AllocError> {
-    let mut hops = Vec::new(alloc);
-    push_hops(alloc, &mut hops, way.hops.as_slice())?;
-    let mut object = ObjectMembers::new(alloc);
-    object.opened(vat, at, question, "question");
-    object.number("call", call);
-    object.list("way", hops);
-    object.word("stands", way.stands.word());
-    object.add("stands_at", Value::from(way.stands.vat()));
-    object.finish()
-}
-
-/// The object of a question without a Return: its call, how far that came, and where it stands.
-fn question_object(
-    alloc: Global,
-    case: &OpenCase<'_>,
-    log: &OpenLog<'_>,
-    question: TableKey,
-    call: u64,
-    at: usize,
-) -> Result<Value, AllocError> {
-    match way_of(alloc, case, log, question, call, at) {
-        Ok(way) => way_object(alloc, log.log.vat(), question, call, at, &way),
-        Err(AllocError) => Err(AllocError),
-    }
-}
-
-/// The object of a question with a Return, and without a Finish that it needs.
-fn unfinished_object(
-    alloc: Global,
-    vat: u32,
-    question: TableKey,
-    call: u64,
-    at: usize,
-) -> Result<Value, AllocError> {
-    let mut object = ObjectMembers::new(alloc);
-    object.opened(vat, at, question, "question");
-    object.number("call", call);
-    object.finish()
-}
-
-/// The object of a loopback without an echo.
-fn loopback_object(
-    alloc: Global,
-    vat: u32,
-    loopback: TableKey,
-    at: usize,
-) -> Result<Value, AllocError> {
-    let mut object = ObjectMembers::new(alloc);
-    object.opened(vat, at, loopback, "embargo");
-    object.finish()
-}
-
-/// The object of a promise that was neither kept nor broken.
-fn promise_object(alloc: Global, vat: u32, reference: u64, at: usize) -> Result<Value, AllocError> {
-    let mut object = ObjectMembers::new(alloc);
-    object.record(vat, at);
-    object.number("reference", reference);
-    object.finish()
-}
-
-/// The object of an export or import that is held.
-fn number_object(
-    alloc: Global,
-    vat: u32,
-    key: TableKey,
-    held: (u64, bool),
-    at: usize,
-) -> Result<Value, AllocError> {
-    let (count, unresolved) = held;
-    let mut object = ObjectMembers::new(alloc);
-    object.word("kind", if key.ours { "export" } else { "import" });
-    object.record(vat, at);
-    object.number("connection", u64::from(key.connection));
-    object.number("id", u64::from(key.number));
-    object.number("count", count);
-    object.flag("unresolved", unresolved);
-    object.finish()
+    Ok(list)
 }
 
 /// The object of frames that were sent on a connection and never received.
@@ -220,116 +129,73 @@ fn under_way_object(alloc: Global, under_way: UnderWay) -> Result<Value, AllocEr
     object.finish()
 }
 
-impl OpenLists {
-    /// Lists of nothing.
-    fn new(alloc: Global) -> OpenLists {
-        OpenLists {
-            loopbacks: Vec::new(alloc),
-            numbers: Vec::new(alloc),
-            promises: Vec::new(alloc),
-            questions: Vec::new(alloc),
-            under_way: Vec::new(alloc),
-            unfinished: Vec::new(alloc),
-        }
+/// The objects of what was sent in a case and never received.
+fn under_way_objects(alloc: Global, case: &OpenCase<'_>) -> Result<Vec<Value>, AllocError> {
+    let mut list = Vec::new(alloc);
+    for under_way in all_under_way(alloc, case)?.iter() {
+        push(&mut list, under_way_object(alloc, *under_way))?;
     }
+    Ok(list)
+}
 
-    /// With what was sent on the links of a case and never received.
-    fn add_under_way(&mut self, alloc: Global, case: &OpenCase<'_>) -> Result<(), AllocError> {
-        for link in case.links {
-            for under_way in under_way_on(case, *link) {
-                if let Some(under_way) = under_way {
-                    push(&mut self.under_way, under_way_object(alloc, under_way))?;
-                }
-            }
-        }
-        Ok(())
-    }
-
-    /// With a question without a Return, or without a Finish that it needs, where it is told there.
-    fn add_question(
-        &mut self,
-        alloc: Global,
-        case: &OpenCase<'_>,
-        log: &OpenLog<'_>,
-        left: Open,
-    ) -> Result<(), AllocError> {
-        let vat = log.log.vat();
-        match left {
-            Open::Question { question, call, at } if case.is_question_told(log, question, call) => {
-                let made = question_object(alloc, case, log, question, call, at);
-                push(&mut self.questions, made)
-            }
-            Open::Unfinished { question, call, at } if case.is_told(vat, question) => {
-                let made = unfinished_object(alloc, vat, question, call, at);
-                push(&mut self.unfinished, made)
-            }
-            _ => Ok(()),
-        }
-    }
-
-    /// With something that is open at the end of a log, where it is told there.
-    fn add(
-        &mut self,
-        alloc: Global,
-        case: &OpenCase<'_>,
-        log: &OpenLog<'_>,
-        left: Open,
-    ) -> Result<(), AllocError> {
-        let vat = log.log.vat();
-        match left {
-            Open::Loopback { number, at } if case.is_told(vat, number) => {
-                push(&mut self.loopbacks, loopback_object(alloc, vat, number, at))
-            }
-            Open::Promise { reference, at } => {
-                push(
-                    &mut self.promises,
-                    promise_object(alloc, vat, reference, at),
-                )
-            }
-            Open::Number {
-                number,
-                count,
-                unresolved,
-                at,
-                ..
-            } => {
-                let made = number_object(alloc, vat, number, (count, unresolved), at);
-                push(&mut self.numbers, made)
-            }
-            _ => self.add_question(alloc, case, log, left),
-        }
-    }
-
-    /// With all that is open in a case.
-    fn add_all(&mut self, alloc: Global, case: &OpenCase<'_>) -> Result<(), AllocError> {
-        self.add_under_way(alloc, case)?;
-        for log in case.logs.iter() {
-            for left in log.list.iter() {
-                self.add(alloc, case, log, *left)?;
+/// The object of something that is open at the end of a log.
+fn left_object(told: LogEnd<'_, '_>, left: Open) -> Result<Value, AllocError> {
+    let vat = told.vat();
+    let mut object = ObjectMembers::new(told.alloc);
+    match left {
+        Open::Question { question, call, at } => {
+            object.opened(vat, at, question, "question");
+            object.number("call", call);
+            match way_of(told, question, call, at) {
+                Ok(way) => object.way(&way),
+                Err(AllocError) => object.is_refused = true,
             }
         }
-        Ok(())
+        Open::Unfinished { question, call, at } => {
+            object.opened(vat, at, question, "question");
+            object.number("call", call);
+        }
+        Open::Loopback { number, at } => object.opened(vat, at, number, "embargo"),
+        Open::Promise { reference, at } => {
+            object.record(vat, at);
+            object.number("reference", reference);
+        }
+        Open::Number {
+            number,
+            count,
+            unresolved,
+            at,
+            ..
+        } => {
+            object.word("kind", if number.ours { "export" } else { "import" });
+            object.record(vat, at);
+            object.number("connection", u64::from(number.connection));
+            object.number("id", u64::from(number.number));
+            object.number("count", count);
+            object.add("unresolved", Value::Bool(unresolved));
+        }
     }
+    object.finish()
+}
 
-    /// The object of the lists.
-    fn into_object(self, alloc: Global) -> Result<Value, AllocError> {
-        let OpenLists {
-            loopbacks,
-            numbers,
-            promises,
-            questions,
-            under_way,
-            unfinished,
-        } = self;
-        let mut object = ObjectMembers::new(alloc);
-        object.list("loopbacks", loopbacks);
-        object.list("numbers", numbers);
-        object.list("promises", promises);
-        object.list("questions", questions);
-        object.list("under_way", under_way);
-        object.list("unfinished", unfinished);
-        object.finish()
+/// The objects of what is open of a kind in a case, where it is told.
+fn kind_objects<F: Fn(&Open) -> bool>(
+    alloc: Global,
+    case: &OpenCase<'_>,
+    is_of: F,
+) -> Result<Vec<Value>, AllocError>
+    requires { F.IsAlwaysCallable is_of }
+{
+    let mut list = Vec::new(alloc);
+    for log in case.logs.iter() {
+        let told = LogEnd { alloc, case, log };
+        for left in log.list.iter() {
+            if is_of(left) && told.tells(left) {
+                push(&mut list, left_object(told, *left))?;
+            }
+        }
     }
+    Ok(list)
 }
 
 /// All that is open at the end of a case whose report is yes, or of a log that is good.
@@ -338,9 +204,17 @@ impl OpenLists {
 ///
 /// Out of memory.
 pub fn open_object(alloc: Global, case: &OpenCase<'_>) -> Result<Value, AllocError> {
-    let mut lists = OpenLists::new(alloc);
-    match lists.add_all(alloc, case) {
-        Ok(()) => lists.into_object(alloc),
-        Err(AllocError) => Err(AllocError),
-    }
+    let loopbacks = kind_objects(alloc, case, |left| matches!(left, Open::Loopback { .. }));
+    let numbers = kind_objects(alloc, case, |left| matches!(left, Open::Number { .. }));
+    let promises = kind_objects(alloc, case, |left| matches!(left, Open::Promise { .. }));
+    let questions = kind_objects(alloc, case, |left| matches!(left, Open::Question { .. }));
+    let unfinished = kind_objects(alloc, case, |left| matches!(left, Open::Unfinished { .. }));
+    let mut object = ObjectMembers::new(alloc);
+    object.list("loopbacks", loopbacks);
+    object.list("numbers", numbers);
+    object.list("promises", promises);
+    object.list("questions", questions);
+    object.list("under_way", under_way_objects(alloc, case));
+    object.list("unfinished", unfinished);
+    object.finish()
 }

@@ -1,147 +1,15 @@
 //! What is open at the end of each log of a case.
 
 use crate::at_end::events_of;
-use crate::kept_logs::vat_of;
-use crate::open::aborts::{Aborted, add_aborts};
-use crate::open::fates::{Fate, add_fates};
-use crate::open::passed::{FramesPassed, add_passed};
+use crate::kept_logs::name_in;
+use crate::open::open_log::OpenLog;
 use bytes::Bytes;
 use case_book::{Case, Findings, Link};
-use left_open::{Open, open_at_end};
+use left_open::Open;
 use std::alloc::{AllocError, Global};
-use std::collections::BTreeMap;
 use vat_log::VatLog;
 use vat_rules::Outcome;
-use vat_view::{DecodedRecord, TableKey};
-
-/// A question that was received: its call at the vat that received it, and the record there.
-#[derive(Clone, Copy)]
-pub(crate) struct Received {
-    pub(crate) call: u64,
-    pub(crate) at: usize,
-}
-
-/// A log and what is open at its end; the questions without a Return that a peer asked of it, their calls by rising number, and
-/// what became of these; what passed on each of its connections; and its aborts.
-#[derive(Drop)]
-pub(crate) struct OpenLog<'a> {
-    pub(crate) log: &'a VatLog,
-    pub(crate) list: Vec<Open>,
-    asked: BTreeMap<TableKey, Received>,
-    calls: Vec<u64>,
-    fates: BTreeMap<u64, Fate>,
-    passed: BTreeMap<u32, FramesPassed>,
-    pub(crate) aborts: Vec<Aborted>,
-}
-
-/// Adds the questions without a Return that a peer asked.
-fn add_asked(asked: &mut BTreeMap<TableKey, Received>, list: &[Open]) -> Result<(), AllocError> {
-    for left in list {
-        if let Open::Question { question, call, at } = left {
-            if !question.ours {
-                let received = Received {
-                    call: *call,
-                    at: *at,
-                };
-                asked.insert(*question, received)?;
-            }
-        }
-    }
-    Ok(())
-}
-
-/// Adds the calls of the questions without a Return that a peer asked, and sorts them by rising number.
-fn add_calls(calls: &mut Vec<u64>, list: &[Open]) -> Result<(), AllocError> {
-    for left in list {
-        if let Open::Question { question, call, .. } = left {
-            if !question.ours {
-                calls.push(*call)?;
-            }
-        }
-    }
-    calls.sort_unstable();
-    Ok(())
-}
-
-impl<'a> OpenLog<'a> {
-    /// A log with this open at its end, of which nothing else is told yet.
-    fn with(alloc: Global, log: &'a VatLog, list: Vec<Open>) -> OpenLog<'a> {
-        OpenLog {
-            log,
-            list,
-            asked: BTreeMap::new(alloc),
-            calls: Vec::new(alloc),
-            fates: BTreeMap::new(alloc),
-            passed: BTreeMap::new(alloc),
-            aborts: Vec::new(alloc),
-        }
-    }
-
-    /// Adds what its records tell.
-    fn add(&mut self, alloc: Global, events: &[DecodedRecord]) -> Result<(), AllocError> {
-        add_asked(&mut self.asked, self.list.as_slice())?;
-        add_calls(&mut self.calls, self.list.as_slice())?;
-        add_fates(&mut self.fates, events, self.calls.as_slice())?;
-        add_passed(alloc, &mut self.passed, events)?;
-        add_aborts(&mut self.aborts, events)
-    }
-
-    /// What is open in a log that has these records. None where it isn't good.
-    fn of(
-        alloc: Global,
-        log: &'a VatLog,
-        events: &[DecodedRecord],
-    ) -> Result<Option<OpenLog<'a>>, AllocError> {
-        let Some(list) = open_at_end(alloc, events)? else {
-            return Ok(None);
-        };
-        let mut open = OpenLog::with(alloc, log, list);
-        match open.add(alloc, events) {
-            Ok(()) => Ok(Some(open)),
-            Err(AllocError) => Err(AllocError),
-        }
-    }
-
-    /// The question of this number that a peer asked on a connection and that has no Return, if there is one.
-    pub(crate) fn question_asked(&self, connection: u32, number: u32) -> Option<Received> {
-        let question = TableKey::of_sender(false, connection, number);
-        self.asked.get(&question).copied()
-    }
-
-    /// Whether this call was received by a question that has no Return.
-    fn was_asked(&self, call: u64) -> bool {
-        self.calls.binary_search(&call).is_ok()
-    }
-
-    /// What became last of a call that was received by a question that has no Return.
-    pub(crate) fn fate_of(&self, call: u64) -> Fate {
-        self.fates.get(&call).copied().unwrap_or(Fate::Waits)
-    }
-
-    /// How many frames were received on a connection.
-    pub(crate) fn received_on(&self, connection: u32) -> usize {
-        match self.passed.get(&connection) {
-            Some(passed) => passed.received,
-            None => 0,
-        }
-    }
-
-    /// How many frames the records before this one send on a connection.
-    pub(crate) fn sent_before(&self, connection: u32, at: usize) -> usize {
-        match self.passed.get(&connection) {
-            Some(passed) => passed.sent_before(at),
-            None => 0,
-        }
-    }
-
-    /// The records that send a frame on a connection.
-    pub(crate) fn sends_on(&self, connection: u32) -> &[usize] {
-        match self.passed.get(&connection) {
-            Some(passed) => passed.sends.as_slice(),
-            None => &[],
-        }
-    }
-}
+use vat_view::DecodedRecord;
 
 /// The logs of a case with what is open at the end of each, by rising vat, or one log alone; and the files that they came from.
 #[derive(Drop)]
@@ -281,21 +149,13 @@ impl<'a> OpenCase<'a> {
 
     /// How many records the logs have.
     pub(crate) fn records(&self) -> usize {
-        let mut count = 0_usize;
-        for one in self.logs.iter() {
-            count = count.saturating_add(one.log.len());
-        }
-        count
+        let lengths = self.logs.iter().map(|one| one.log.len());
+        lengths.fold(0_usize, |count, length| count.saturating_add(length))
     }
 
     /// The name of the file that has the log of a vat.
     pub(crate) fn name_of(&self, vat: u32) -> Option<&'a str> {
-        for (name, bytes) in self.files {
-            if vat_of(bytes) == Some(vat) {
-                return Some(name.as_str());
-            }
-        }
-        None
+        name_in(self.files, vat)
     }
 
     /// The vat at the other end of a connection, where the case has it. Its links stand by rising connection.
@@ -313,24 +173,41 @@ impl<'a> OpenCase<'a> {
             None
         }
     }
+}
 
-    /// Whether what has this number is told at this vat: what the vat opened itself, and what a peer opened whose log isn't
-    /// there.
-    pub(crate) fn is_told(&self, vat: u32, number: TableKey) -> bool {
-        number.ours || self.peer_of(vat, number.connection).is_none()
+/// A log of a case, to be told of.
+#[derive(Clone, Copy)]
+pub(crate) struct LogEnd<'a, 'b> {
+    pub(crate) alloc: Global,
+    pub(crate) case: &'a OpenCase<'b>,
+    pub(crate) log: &'a OpenLog<'b>,
+}
+
+impl LogEnd<'_, '_> {
+    /// The vat.
+    pub(crate) fn vat(self) -> u32 {
+        self.log.log.vat()
     }
 
-    /// Whether a question without a Return is told at this vat: likewise, unless the vat sent on what it was asked.
-    pub(crate) fn is_question_told(
-        &self,
-        log: &OpenLog<'_>,
-        question: TableKey,
-        call: u64,
-    ) -> bool {
-        if question.ours {
-            !log.was_asked(call)
-        } else {
-            self.is_told(log.log.vat(), question)
-        }
+    /// Whether what was begun on a connection is told of this log: what the vat began itself, and what a peer began whose log
+    /// isn't there.
+    pub(crate) fn is_told(self, ours: bool, connection: u32) -> bool {
+        ours || self.case.peer_of(self.vat(), connection).is_none()
+    }
+
+    /// Whether this is told of the log. A question without a Return isn't where the vat sent on what it was asked.
+    pub(crate) fn tells(self, left: &Open) -> bool {
+        let key = match left {
+            Open::Question { question, call, .. } => {
+                if question.ours && self.log.was_asked(*call) {
+                    return false;
+                }
+                *question
+            }
+            Open::Unfinished { question, .. } => *question,
+            Open::Loopback { number, .. } => *number,
+            Open::Promise { .. } | Open::Number { .. } => return true,
+        };
+        self.is_told(key.ours, key.connection)
     }
 }

@@ -3,9 +3,8 @@
 use crate::open::good_notes::MOST;
 use crate::open::open_case::OpenCase;
 use crate::record_note::put_record;
-use case_book::Link;
 use past_records::NoteText;
-use std::alloc::Global;
+use std::alloc::{AllocError, Global};
 
 /// How many frames one end of a connection sent and the other never received, and the record that sent the first of them.
 #[derive(Clone, Copy)]
@@ -35,16 +34,25 @@ fn under_way_from(
     })
 }
 
-/// What was sent on a link and never received, from either end.
-pub(crate) fn under_way_on(case: &OpenCase<'_>, link: Link) -> [Option<UnderWay>; 2] {
-    [
-        under_way_from(case, link.connection, link.a, link.b),
-        under_way_from(case, link.connection, link.b, link.a),
-    ]
+/// What was sent on the links of a case and never received, by link, from either end.
+pub(crate) fn all_under_way(
+    alloc: Global,
+    case: &OpenCase<'_>,
+) -> Result<Vec<UnderWay>, AllocError> {
+    let mut all = Vec::new(alloc);
+    for link in case.links {
+        if let Some(under_way) = under_way_from(case, link.connection, link.a, link.b) {
+            all.push(under_way)?;
+        }
+        if let Some(under_way) = under_way_from(case, link.connection, link.b, link.a) {
+            all.push(under_way)?;
+        }
+    }
+    Ok(all)
 }
 
-/// Appends how many frames were sent and never received.
-fn put_count(text: &mut NoteText, under_way: UnderWay) {
+/// Appends the notes of frames that were sent and never received.
+fn put_direction(alloc: Global, text: &mut NoteText, case: &OpenCase<'_>, under_way: UnderWay) {
     text.tell(
         "note: connection #, vat # to vat #: ",
         &[
@@ -53,48 +61,34 @@ fn put_count(text: &mut NoteText, under_way: UnderWay) {
             u64::from(under_way.receiver),
         ],
     );
-    if under_way.count == 1 {
-        text.words("1 message was sent and never received\n");
+    let sentence = if under_way.count == 1 {
+        "1 message was sent and never received\n"
     } else {
-        text.tell(
-            "# messages were sent and never received, the first of them this\n",
-            &[under_way.count as u64],
-        );
-    }
-}
-
-/// Appends the notes of frames that were sent and never received.
-fn put_direction(alloc: Global, text: &mut NoteText, case: &OpenCase<'_>, under_way: UnderWay) {
-    put_count(text, under_way);
-    match (
+        "# messages were sent and never received, the first of them this\n"
+    };
+    text.tell(sentence, &[under_way.count as u64]);
+    if let (Some(name), Some(from)) = (
         case.name_of(under_way.sender),
         case.log_of(under_way.sender),
     ) {
-        (Some(name), Some(from)) => put_record(alloc, text, name, from.log, under_way.first),
-        _ => {}
+        put_record(alloc, text, name, from.log, under_way.first);
     }
 }
 
 /// Appends the notes of what was sent and never received, by link: of at most so many directions, and then how many more there
 /// are.
 pub(crate) fn put_under_way(alloc: Global, text: &mut NoteText, case: &OpenCase<'_>) {
-    let mut count = 0_usize;
-    for link in case.links {
-        for under_way in under_way_on(case, *link) {
-            if let Some(under_way) = under_way {
-                if count < MOST {
-                    put_direction(alloc, text, case, under_way);
-                }
-                count = count.saturating_add(1);
-            }
-        }
-    }
-    if count <= MOST {
+    let Some(all) = text.granted(all_under_way(alloc, case)) else {
         return;
+    };
+    for under_way in all.iter().take(MOST) {
+        put_direction(alloc, text, case, *under_way);
     }
-    let more = count.saturating_sub(MOST);
-    text.tell(
-        "note: messages were sent and never received in # more directions\n",
-        &[more as u64],
-    )
+    if all.len() > MOST {
+        let more = all.len().saturating_sub(MOST);
+        text.note(
+            "messages were sent and never received in # more directions",
+            &[more as u64],
+        )
+    }
 }

@@ -1,236 +1,119 @@
 //! Calls that have gone where they are delivered or sent on, and that are answered where they can't be.
 
+use crate::call_steps::{Does, step_of};
 use cap_frame::Path;
 use past_records::{NoteText, Past};
 use report_lines::Shown;
 use rpc_view::{Outcome, RpcMessage};
-use vat_view::DecodedRecord;
+use vat_view::{DecodedRecord, TableKey};
 
 /// The record that brought a call: its MAKE, or the Bootstrap or the received Call that it is.
-#[derive(Clone, Copy)]
-pub(crate) enum CallOrigin {
-    /// Its MAKE, through this reference.
-    Made(usize, u64),
-    /// The Bootstrap that it is.
-    Bootstrap(usize),
-    /// The received Call that it is.
-    Received(usize),
-}
-
-/// What a record is to a call, if it brought it.
-fn brought(at: usize, event: &DecodedRecord, sought: u64) -> Option<CallOrigin> {
-    match event {
-        DecodedRecord::Make {
-            call,
-            reference,
-            ..
-        } if *call == sought => Some(CallOrigin::Made(at, *reference)),
-        DecodedRecord::Wire {
-            call,
-            message: RpcMessage::Bootstrap { .. },
-            ..
-        } if *call == sought => Some(CallOrigin::Bootstrap(at)),
-        DecodedRecord::Wire {
-            sent: false,
-            call,
-            message: RpcMessage::Call { .. },
-            ..
-        } if *call == sought => Some(CallOrigin::Received(at)),
-        _ => None,
-    }
-}
-
-/// The record that brought a call.
-fn origin_of(past: &Past<'_>, sought: u64) -> Option<CallOrigin> {
-    for at in 0..past.at {
-        if let Some(origin) = brought(at, past.get(at)?, sought) {
-            return Some(origin);
-        }
-    }
-    None
-}
-
-impl CallOrigin {
-    /// The record.
-    fn at(self) -> usize {
-        match self {
-            CallOrigin::Made(at, _) | CallOrigin::Bootstrap(at) | CallOrigin::Received(at) => at,
-        }
-    }
-}
-
-/// The number of the record that brought a call.
 pub(crate) fn brought_by(past: &Past<'_>, call: u64) -> Option<usize> {
-    Some(origin_of(past, call)?.at())
-}
-
-/// Notes the record that received a call, and its target.
-fn put_came(text: &mut NoteText, call: u64, at: usize, event: &DecodedRecord) {
-    if let DecodedRecord::Wire {
-        message: RpcMessage::Call { target, .. },
-        ..
-    } = event
-    {
-        text.tell("note: call # came by record #, for ", &[call, at as u64]);
-        text.shown(&Shown(target));
-        text.words("\n");
-    }
+    past.find(0, |event| event.new_call() == Some(call))
 }
 
 /// Notes the record that brought a call, and says whether the call is a Bootstrap.
 pub(crate) fn put_origin(past: &Past<'_>, text: &mut NoteText, call: u64) -> bool {
-    match origin_of(past, call) {
-        Some(CallOrigin::Made(at, reference)) => {
-            text.tell(
-                "note: call # was made by record #, through reference #\n",
-                &[call, at as u64, reference],
-            );
-            false
+    let Some(at) = brought_by(past, call) else {
+        return false;
+    };
+    match past.get(at) {
+        Some(DecodedRecord::Make { reference, .. }) => text.note(
+            "call # was made by record #, through reference #",
+            &[call, at as u64, *reference],
+        ),
+        Some(
+            DecodedRecord::Wire {
+                message: RpcMessage::Call { target, .. },
+                ..
+            },
+        ) => text.note_of(
+            "call # came by record #, for @",
+            &Shown(target),
+            &[call, at as u64],
+        ),
+        _ => {
+            text.note("call # is the Bootstrap of record #", &[call, at as u64]);
+            return true;
         }
-        Some(CallOrigin::Bootstrap(at)) => {
-            text.tell(
-                "note: call # is the Bootstrap of record #\n",
-                &[call, at as u64],
-            );
-            true
-        }
-        Some(CallOrigin::Received(at)) => {
-            if let Some(event) = past.get(at) {
-                put_came(text, call, at, event);
-            }
-            false
-        }
-        None => false,
     }
+    false
 }
 
-/// The question under which a call came in: its connection, its number, and the record.
-fn question_of(past: &Past<'_>, call: u64) -> Option<(u32, u32, usize)> {
-    let at = brought_by(past, call)?;
-    match past.get(at)? {
+/// Whether a record is a Return of this question and says that its call failed.
+fn fails(event: &DecodedRecord, question: TableKey) -> bool {
+    let is_failure = matches!(
+        event,
         DecodedRecord::Wire {
-            sent: false,
-            connection,
-            message: RpcMessage::Call { question, .. } | RpcMessage::Bootstrap { question },
-            ..
-        } => Some((*connection, *question, at)),
-        _ => None,
-    }
-}
-
-/// Whether a record is a Return that is sent to this question and says that its call failed.
-fn fails(event: &DecodedRecord, connection: u32, question: u32) -> bool {
-    match event {
-        DecodedRecord::Wire {
-            sent: true,
-            connection: over,
             message: RpcMessage::Return {
-                answer,
                 outcome: Outcome::Exception | Outcome::Canceled,
                 ..
             },
             ..
-        } => *over == connection && *answer == question,
-        _ => false,
-    }
+        }
+    );
+    is_failure && event.question_returned() == Some(question)
 }
 
 /// The record that answered a received call with an exception or as canceled.
 fn failed_by(past: &Past<'_>, call: u64) -> Option<usize> {
-    let (connection, question, came) = question_of(past, call)?;
-    for at in came..past.at {
-        if fails(past.get(at)?, connection, question) {
-            return Some(at);
-        }
+    let came = brought_by(past, call)?;
+    let question = past.get(came)?.question_opened()?;
+    if question.ours {
+        return None;
     }
-    None
+    past.find(came, |event| fails(event, question))
 }
 
 /// What a record does with a call, so that it has gone from the vat.
 fn leaves(event: &DecodedRecord, sought: u64) -> Option<&'static str> {
-    match event {
-        DecodedRecord::Deliver { call, .. } if *call == sought => Some("delivered"),
-        DecodedRecord::Fault { call } if *call == sought => Some("ended without results"),
-        DecodedRecord::Wire {
-            sent: true,
-            call,
-            message: RpcMessage::Call { .. },
-            ..
-        } if *call == sought => Some("sent on"),
+    match step_of(event)? {
+        (call, _) if call != sought => None,
+        (_, Does::Delivers) => Some("delivered"),
+        (_, Does::Ends) => Some("ended without results"),
+        (_, Does::SendsOn) => Some("sent on"),
         _ => None,
     }
-}
-
-/// The record that sent a call on, delivered it or ended it, and the word for that.
-fn sent_on_by(past: &Past<'_>, call: u64) -> Option<(usize, &'static str)> {
-    for at in 0..past.at {
-        if let Some(word) = leaves(past.get(at)?, call) {
-            return Some((at, word));
-        }
-    }
-    None
 }
 
 /// The record by which a call left the vat, and how.
 fn left_by(past: &Past<'_>, call: u64) -> Option<(usize, &'static str)> {
-    if let Some(found) = sent_on_by(past, call) {
-        return Some(found);
+    if let Some(at) = past.find(0, |event| leaves(event, call).is_some()) {
+        return Some((at, leaves(past.get(at)?, call)?));
     }
     Some((failed_by(past, call)?, "answered as failed"))
 }
 
-/// Notes by which record a call left the vat, and how.
-fn put_leaving(text: &mut NoteText, call: u64, word: &str, at: usize) {
-    text.tell("note: call # was ", &[call]);
-    text.words(word);
-    text.tell(" by record #\n", &[at as u64]);
-}
-
 /// Notes by which record a call left the vat, where it did.
 pub(crate) fn put_left(past: &Past<'_>, text: &mut NoteText, call: u64) {
-    match left_by(past, call) {
-        Some((at, word)) => put_leaving(text, call, word, at),
-        None => {}
-    }
-}
-
-/// The call that is delivered or sent on.
-fn call_moved(event: &DecodedRecord) -> Option<u64> {
-    match event {
-        DecodedRecord::Deliver { call, .. } | DecodedRecord::Wire { call, .. } => Some(*call),
-        _ => None,
+    if let Some((at, word)) = left_by(past, call) {
+        text.note_of("call # was @ by record #", &word, &[call, at as u64]);
     }
 }
 
 /// Notes where a call has gone that is delivered or sent on.
 pub(crate) fn put_absent(past: &Past<'_>, text: &mut NoteText) {
-    let Some(call) = call_moved(&past.event) else {
+    let (DecodedRecord::Deliver { call, .. } | DecodedRecord::Wire { call, .. }) = &past.event
+    else {
         return;
     };
-    if put_origin(past, text, call) {
-        return text.words("note: the call of a Bootstrap is never at a vat\n");
+    if put_origin(past, text, *call) {
+        return text.say("the call of a Bootstrap is never at a vat");
     }
-    put_left(past, text, call);
+    put_left(past, text, *call);
 }
 
-/// Whether a record ends a call here.
-fn settles(event: &DecodedRecord, sought: u64) -> bool {
-    match event {
-        DecodedRecord::Answer { call, .. }
-        | DecodedRecord::AnswerBy { call, .. }
-        | DecodedRecord::Fault { call } => *call == sought,
-        _ => false,
+/// The call that a record answers here, or ends without results.
+fn call_settled(event: &DecodedRecord) -> Option<u64> {
+    match step_of(event)? {
+        (call, Does::Answers | Does::Ends) => Some(call),
+        _ => None,
     }
 }
 
 /// The record that answered a call here, or ended it without results.
 pub(crate) fn settled_by(past: &Past<'_>, call: u64) -> Option<usize> {
-    for at in 0..past.at {
-        if settles(past.get(at)?, call) {
-            return Some(at);
-        }
-    }
-    None
+    past.find(0, |event| call_settled(event) == Some(call))
 }
 
 /// The first path that stands twice among results.
@@ -248,20 +131,8 @@ fn repeated_path(results: &[(u64, Path)]) -> Option<&Path> {
 fn put_repeated(text: &mut NoteText, event: &DecodedRecord) {
     if let DecodedRecord::Answer { results, .. } = event {
         if let Some(path) = repeated_path(results.as_slice()) {
-            text.words("note: path ");
-            text.shown(&Shown(path));
-            text.words(" stands there twice\n");
+            text.note_of("path @ stands there twice", &Shown(path), &[]);
         }
-    }
-}
-
-/// The call that is answered, or ended without results.
-fn call_settled(event: &DecodedRecord) -> Option<u64> {
-    match event {
-        DecodedRecord::Answer { call, .. }
-        | DecodedRecord::AnswerBy { call, .. }
-        | DecodedRecord::Fault { call } => Some(*call),
-        _ => None,
     }
 }
 
@@ -272,17 +143,14 @@ pub(crate) fn put_answered(past: &Past<'_>, text: &mut NoteText) {
     };
     let is_boot = put_origin(past, text, call);
     if let Some(at) = settled_by(past, call) {
-        return text.tell(
-            "note: record # answered it, or ended it, before\n",
-            &[at as u64],
-        );
+        return text.note("record # answered it, or ended it, before", &[at as u64]);
     }
     if past.state.is_served(call) {
         return put_repeated(text, &past.event);
     }
     if is_boot {
-        return text.words("note: this vat asked for it, so the answer is the peer's\n");
+        return text.say("this vat asked for it, so the answer is the peer's");
     }
     put_left(past, text, call);
-    text.words("note: no record before delivers it here\n");
+    text.say("no record before delivers it here");
 }

@@ -3,93 +3,56 @@
 use crate::rules::number_changes::put_changed;
 use crate::rules::view_text::ViewText;
 use crate::rules::view_turns::put_reference;
-use past_records::{NoteText, NumberLife, Past, number_described, put_life, put_opening};
+use past_records::{NoteText, Past, put_life, put_opening};
 use report_lines::Shown;
-use rpc_view::{Descriptor, RpcMessage};
-use std::alloc::AllocError;
+use rpc_view::Descriptor;
 use std::fmt;
-use std::fmt::{Display, Formatter, Write};
+use std::fmt::{Display, Formatter};
 use vat_view::{BorrowedView, DecodedRecord, View};
 
-/// An entry of the record's table, as people are told of it. A Resolve has one capability and no table.
+/// The entry of a record's table at a place, as people are told of it. A Resolve has one capability and no table.
 #[derive(Clone, Copy)]
-struct EntryText {
-    place: usize,
-    is_of_resolve: bool,
-}
+struct EntryText<'a>(&'a DecodedRecord, usize);
 
-impl EntryText {
-    /// The entry at a place.
-    fn at(past: &Past<'_>, place: usize) -> EntryText {
-        EntryText {
-            place,
-            is_of_resolve: is_resolve(&past.event),
-        }
-    }
-}
-
-impl Display for EntryText {
+impl Display for EntryText<'_> {
     fn fmt<W: fmt::Write>(&self, f: &mut Formatter<W>) -> fmt::Result {
-        if self.is_of_resolve {
+        if is_resolve(self.0) {
             return write!(f, "the Resolve's capability");
         }
-        let place = self.place;
+        let place = self.1;
         write!(f, "entry {place} of its table")
     }
 }
 
+/// An entry of the record's table, the reference beside it, and what it stands for.
+#[derive(Clone, Copy)]
+struct Entry<'a> {
+    place: usize,
+    reference: u64,
+    stands: Option<&'a View>,
+}
+
 /// Whether a record sends or receives a Resolve.
 fn is_resolve(event: &DecodedRecord) -> bool {
-    matches!(
-        event,
-        DecodedRecord::Wire {
-            message: RpcMessage::Resolve { .. },
-            ..
-        }
-    )
-}
-
-/// How many entries of a table are capabilities.
-fn caps_in(descriptors: &[Descriptor]) -> usize {
-    let mut count = 0_usize;
-    for descriptor in descriptors {
-        if !matches!(descriptor, Descriptor::NoCap) {
-            count = count.saturating_add(1);
-        }
-    }
-    count
-}
-
-/// Notes how many capabilities a record has, and how many references are noted beside them.
-fn put_counts(text: &mut NoteText, is_of_resolve: bool, caps: usize, noted: usize) {
-    text.words("note: capabilities in ");
-    text.words(if is_of_resolve {
-        "the Resolve"
-    } else {
-        "its table"
-    });
-    text.tell(": #, references noted: #\n", &[caps as u64, noted as u64]);
-}
-
-/// How many references are noted beside the record, where they are more or fewer than its capabilities.
-fn unpaired(past: &Past<'_>) -> Option<usize> {
-    match &past.event {
-        DecodedRecord::Wire { references, .. } if !past.state.notes_each(&past.event) => {
-            Some(references.as_slice().len())
-        }
-        _ => None,
-    }
+    event.promise_resolved().is_some()
 }
 
 /// Notes that there are more or fewer references than capabilities, where it is so; and says whether it is.
 fn put_unpaired(past: &Past<'_>, text: &mut NoteText) -> bool {
-    let Some(noted) = unpaired(past) else {
+    if past.state.notes_each(&past.event) {
         return false;
+    }
+    let caps = past.event.descriptors().iter();
+    let caps = caps.filter(|one| !matches!(one, Descriptor::NoCap)).count() as u64;
+    let noted = past.event.references().len() as u64;
+    let sentence = if is_resolve(&past.event) {
+        "capabilities in the Resolve: #, references noted: #"
+    } else {
+        "capabilities in its table: #, references noted: #"
     };
-    let caps = caps_in(past.event.descriptors());
-    put_counts(text, is_resolve(&past.event), caps, noted);
+    text.note(sentence, &[caps, noted]);
     if past.state.is_late(&past.event) {
-        text.words("note: it is a late Return, beside which no reference is noted\n");
+        text.say("it is a late Return, beside which no reference is noted");
     }
     true
 }
@@ -99,43 +62,13 @@ pub(crate) fn put_references(past: &Past<'_>, text: &mut NoteText) {
     let _ = put_unpaired(past, text);
 }
 
-/// Whether a reference leads to what an entry stands for.
-fn leads(past: &Past<'_>, view: Option<&View>, stands: Option<&View>) -> bool {
-    match (view, stands) {
-        (Some(view), Some(stands)) => past.state.leads(view, stands),
-        _ => false,
-    }
-}
-
-/// The life of the number that an entry of the record's table names.
-pub(crate) fn life_of(past: &Past<'_>, descriptor: &Descriptor) -> Option<NumberLife> {
-    match &past.event {
-        DecodedRecord::Wire { connection, .. } => past
-            .lives
-            .of(*connection, number_described(&past.event, descriptor)?),
-        _ => None,
-    }
-}
-
-/// Notes what an entry stands for.
-fn put_standing(text: &mut NoteText, entry: EntryText, descriptor: &Descriptor, stands: &View) {
-    text.words("note: ");
-    text.shown(&entry);
-    text.words(", ");
-    text.shown(&Shown(descriptor));
-    text.words(", stands for ");
-    text.shown(&ViewText(BorrowedView::of(stands)));
-    text.words("\n");
-}
-
 /// Notes the record since which an entry stands for what it does.
 fn put_since(past: &Past<'_>, text: &mut NoteText, descriptor: &Descriptor) {
-    match life_of(past, descriptor) {
-        Some(life) if life.held > 0 => put_life(past, text, life),
-        _ => {}
+    if let Some(life) = past.life_of(descriptor).filter(|life| life.held > 0) {
+        put_life(past, text, life);
     }
     if let Some(key) = past.event.question_described(descriptor) {
-        put_opening(past, text, key);
+        let _ = put_opening(past, text, key);
     }
 }
 
@@ -145,187 +78,106 @@ pub(crate) fn put_entry(past: &Past<'_>, text: &mut NoteText, place: usize, stan
         return;
     };
     if let Some(stands) = stands {
-        put_standing(text, EntryText::at(past, place), descriptor, stands);
+        text.tell_of("note: @, ", &EntryText(&past.event, place), &[]);
+        text.tell_of("@, stands for ", &Shown(descriptor), &[]);
+        text.tell_of("@\n", &ViewText::of(stands), &[]);
     }
     put_since(past, text, descriptor);
 }
 
-/// Notes that an entry has a reference beside it.
-fn put_beside(text: &mut NoteText, entry: EntryText, reference: u64) {
-    text.words("note: ");
-    text.shown(&entry);
-    text.tell(" has reference # beside it\n", &[reference]);
-}
-
-/// Notes of an entry for which another reference is noted.
-fn put_mismatch(
-    past: &Past<'_>,
-    text: &mut NoteText,
-    reference: u64,
-    place: usize,
-    stands: Option<&View>,
-) {
-    put_beside(text, EntryText::at(past, place), reference);
-    put_reference(past, text, reference);
-    put_entry(past, text, place, stands);
-}
-
-/// Whether a capability came as senderHosted.
-fn came_hosted(past: &Past<'_>, at: usize, place: usize) -> bool {
-    match past.get(at) {
-        Some(event) => matches!(
-            event.descriptors().get(place),
-            Some(Descriptor::SenderHosted(_))
-        ),
-        None => false,
-    }
+/// Whether the entry of a record at a place says senderHosted.
+fn is_hosted(event: &DecodedRecord, place: usize) -> bool {
+    matches!(
+        event.descriptors().get(place),
+        Some(Descriptor::SenderHosted(_))
+    )
 }
 
 /// Where a view ends that is still open and stands beside an entry that says senderHosted, where it is so.
 fn open_end<'a>(past: &'a Past<'_>, place: usize, view: &'a View) -> Option<BorrowedView<'a>> {
-    if !matches!(
-        past.event.descriptors().get(place),
-        Some(Descriptor::SenderHosted(_))
-    ) {
+    if !is_hosted(&past.event, place) {
         return None;
     }
-    match past.state.end(view) {
-        None | Some(BorrowedView::Object(_)) => None,
-        Some(BorrowedView::Import(at, brought)) if came_hosted(past, at, brought) => None,
-        Some(end) => Some(end),
-    }
-}
-
-/// Notes that a senderPromise was expected of an entry, since a view is still open.
-fn put_expected(text: &mut NoteText, entry: EntryText, end: BorrowedView<'_>) {
-    text.words("note: ");
-    text.shown(&ViewText(end));
-    text.words(" is still open, so ");
-    if entry.is_of_resolve {
-        text.words("the Resolve's capability");
-    } else {
-        text.tell("entry #", &[entry.place as u64]);
-    }
-    text.words(" was expected to be a senderPromise\n");
+    let end = past.state.end(view)?;
+    let is_open = match end {
+        BorrowedView::Object(_) => false,
+        BorrowedView::Import(at, brought) => match past.get(at) {
+            Some(event) => !is_hosted(event, brought),
+            None => true,
+        },
+        _ => true,
+    };
+    if is_open { Some(end) } else { None }
 }
 
 /// Notes of an entry that says senderHosted of what is still open, and says whether it does.
-fn put_open(
-    past: &Past<'_>,
-    text: &mut NoteText,
-    reference: u64,
-    place: usize,
-    view: &View,
-) -> bool {
-    match open_end(past, place, view) {
-        Some(end) => {
-            put_reference(past, text, reference);
-            put_expected(text, EntryText::at(past, place), end);
-            true
-        }
-        None => false,
-    }
+fn put_open(past: &Past<'_>, text: &mut NoteText, entry: Entry<'_>, view: &View) -> bool {
+    let Some(end) = open_end(past, entry.place, view) else {
+        return false;
+    };
+    put_reference(past, text, entry.reference);
+    let sentence = if is_resolve(&past.event) {
+        "@ is still open, so the Resolve's capability was expected to be a senderPromise"
+    } else {
+        "@ is still open, so entry # was expected to be a senderPromise"
+    };
+    text.note_of(sentence, &ViewText(end), &[entry.place as u64]);
+    true
 }
 
-/// Notes of the entry at a place, where the view of its reference doesn't lead to what it stands for; and says whether it
-/// doesn't.
-fn put_if_other(
-    past: &Past<'_>,
-    text: &mut NoteText,
-    reference: u64,
-    place: usize,
-    views: (Option<&View>, Option<&View>),
-) -> bool {
-    let (view, stands) = views;
-    if !leads(past, view, stands) {
-        put_mismatch(past, text, reference, place, stands);
+/// Notes of an entry whose reference doesn't lead to what it stands for; and says whether it doesn't, or memory was refused.
+fn put_if_amiss(past: &Past<'_>, text: &mut NoteText, entry: Entry<'_>) -> bool {
+    let Some(view) = text.granted(past.state.view_of_reference(entry.reference)) else {
         return true;
-    }
-    match view {
-        Some(view) => put_open(past, text, reference, place, view),
-        None => false,
-    }
-}
-
-/// Notes of the entry at a place, where its reference doesn't lead to what it stands for; and says whether it doesn't, or memory
-/// was refused.
-fn put_if_amiss(
-    past: &Past<'_>,
-    text: &mut NoteText,
-    reference: u64,
-    place: usize,
-    stands: Option<&View>,
-) -> bool {
-    match past.state.view_of_reference(reference) {
-        Ok(view) => put_if_other(past, text, reference, place, (view.as_ref(), stands)),
-        Err(AllocError) => {
-            text.refuse();
-            true
+    };
+    if let (Some(view), Some(stands)) = (&view, entry.stands) {
+        if past.state.leads(view, stands) {
+            return put_open(past, text, entry, view);
         }
     }
+    let shown = EntryText(&past.event, entry.place);
+    text.note_of("@ has reference # beside it", &shown, &[entry.reference]);
+    put_reference(past, text, entry.reference);
+    put_entry(past, text, entry.place, entry.stands);
+    true
 }
 
-/// Notes of the first entry whose reference doesn't lead to what it stands for, and says whether there is one.
-fn put_first_amiss(
-    past: &Past<'_>,
-    text: &mut NoteText,
-    references: &[u64],
-    stands: &[Option<View>],
-) -> bool {
-    let mut rest = references;
+/// Notes of the first entry whose reference doesn't lead to what it stands for, and says whether there is one, or memory was refused.
+fn put_amiss(past: &Past<'_>, text: &mut NoteText) -> bool {
+    let Some(stands) = text.granted(past.state.views_of_descriptors(&past.event)) else {
+        return true;
+    };
+    let mut references = past.event.references().iter();
     for (place, descriptor) in past.event.descriptors().iter().enumerate() {
         if matches!(descriptor, Descriptor::NoCap) {
             continue;
         }
-        let (Some((reference, others)), Some(view)) = (rest.split_first(), stands.get(place)) else {
+        let (Some(reference), Some(stands)) = (references.next(), stands.get(place)) else {
             return false;
         };
-        if put_if_amiss(past, text, *reference, place, view.as_ref()) {
+        let entry = Entry {
+            place,
+            reference: *reference,
+            stands: stands.as_ref(),
+        };
+        if put_if_amiss(past, text, entry) {
             return true;
         }
-        rest = others;
     }
     false
 }
 
-/// The same of the record's entries.
-fn put_amiss(past: &Past<'_>, text: &mut NoteText) -> bool {
-    let DecodedRecord::Wire { references, .. } = &past.event else {
-        return false;
-    };
-    match past.state.views_of_descriptors(&past.event) {
-        Ok(stands) => put_first_amiss(past, text, references.as_slice(), stands.as_slice()),
-        Err(AllocError) => {
-            text.refuse();
-            true
-        }
-    }
-}
-
-/// How many references stand beside a Return which needs no Finish, where there are any.
-fn noted_lightly(event: &DecodedRecord) -> Option<usize> {
-    match event {
-        DecodedRecord::Wire {
-            references,
-            message: RpcMessage::Return { light: true, .. },
-            ..
-        } if !references.as_slice().is_empty() => Some(references.as_slice().len()),
-        _ => None,
-    }
-}
-
 /// Notes that a Return which needs no Finish has references beside it, where it has; and says whether it has.
 fn put_light(past: &Past<'_>, text: &mut NoteText) -> bool {
-    match noted_lightly(&past.event) {
-        Some(noted) => {
-            text.tell(
-                "note: it says noFinishNeeded, so no capability was expected in its table, and references noted are #\n",
-                &[noted as u64],
-            );
-            true
-        }
-        None => false,
+    let noted = past.event.references().len();
+    let is_light = past.event.question_returned_lightly().is_some() && noted > 0;
+    if is_light {
+        text.note(
+            "it says noFinishNeeded, so no capability was expected in its table, and references noted are #",
+            &[noted as u64],
+        );
     }
+    is_light
 }
 
 /// Notes what was expected of a table, and what stands there.

@@ -5,7 +5,7 @@ use crate::rules::view_turns::binder_of;
 use past_records::{NoteText, Past};
 use rpc_view::RpcMessage;
 use std::alloc::AllocError;
-use vat_log::{Body, VatLog};
+use vat_log::Body;
 use vat_view::DecodedRecord;
 
 /// Of how many references of a record the one that bound it is sought, at most.
@@ -30,26 +30,6 @@ fn brings(body: &Body, sought: u64) -> bool {
     }
 }
 
-/// The first record behind this one that binds a reference.
-fn bound_after(log: &VatLog, at: usize, reference: u64) -> Option<usize> {
-    for later in at..log.len() {
-        if later > at && binds(log.get(later)?.body(), reference) {
-            return Some(later);
-        }
-    }
-    None
-}
-
-/// The first record behind this one that makes or receives a call.
-fn brought_after(log: &VatLog, at: usize, call: u64) -> Option<usize> {
-    for later in at..log.len() {
-        if later > at && brings(log.get(later)?.body(), call) {
-            return Some(later);
-        }
-    }
-    None
-}
-
 /// Whether a record before binds a reference, or it stands for something.
 fn is_bound(past: &Past<'_>, reference: u64) -> Result<bool, AllocError> {
     if binder_of(past, reference).is_some() {
@@ -60,15 +40,11 @@ fn is_bound(past: &Past<'_>, reference: u64) -> Result<bool, AllocError> {
 
 /// Notes of a reference that the record names, where none before binds it.
 fn put_if_unbound(past: &Past<'_>, text: &mut NoteText, reference: u64) {
-    match is_bound(past, reference) {
-        Ok(false) => {
-            text.tell("note: no record before binds reference #\n", &[reference]);
-            if let Some(at) = bound_after(past.log, past.at, reference) {
-                text.tell("note: record # binds it, behind this one\n", &[at as u64]);
-            }
+    if let Some(false) = text.granted(is_bound(past, reference)) {
+        text.note("no record before binds reference #", &[reference]);
+        if let Some(at) = past.find_behind(|body| binds(body, reference)) {
+            text.note("record # binds it, behind this one", &[at as u64]);
         }
-        Ok(true) => {}
-        Err(AllocError) => text.refuse(),
     }
 }
 
@@ -77,47 +53,32 @@ fn put_if_unmade(past: &Past<'_>, text: &mut NoteText, call: u64) {
     if call == 0 || brought_by(past, call).is_some() || !past.is_whole() {
         return;
     }
-    text.tell("note: no record before makes or receives call #\n", &[call]);
-    if let Some(at) = brought_after(past.log, past.at, call) {
-        text.tell("note: record # does, behind this one\n", &[at as u64]);
-    }
-}
-
-/// Notes the record that bound a reference which is bound again.
-fn put_if_bound(past: &Past<'_>, text: &mut NoteText, reference: u64) {
-    if let Some(at) = binder_of(past, reference) {
-        text.tell(
-            "note: reference # was bound by record #\n",
-            &[reference, at as u64],
-        );
+    text.note("no record before makes or receives call #", &[call]);
+    if let Some(at) = past.find_behind(|body| brings(body, call)) {
+        text.note("record # does, behind this one", &[at as u64]);
     }
 }
 
 /// Notes the record that brought a call which is bound again.
 fn put_if_made(past: &Past<'_>, text: &mut NoteText, call: u64) {
     if let Some(at) = brought_by(past, call) {
-        text.tell("note: call # was bound by record #\n", &[call, at as u64]);
+        text.note("call # was bound by record #", &[call, at as u64]);
     }
 }
 
 /// Notes of the call that a frame's record names or binds.
-fn put_noted_call(
-    past: &Past<'_>,
-    text: &mut NoteText,
-    sent: bool,
-    call: u64,
-    message: &RpcMessage,
-) {
+fn put_noted_call(past: &Past<'_>, text: &mut NoteText, call: u64, message: &RpcMessage) {
     match message {
-        RpcMessage::Call { .. } | RpcMessage::Bootstrap { .. } if call == 0 => {
-            text.words("note: no call is noted beside it\n")
+        RpcMessage::Call { .. } | RpcMessage::Bootstrap { .. } => {
+            if call == 0 {
+                text.say("no call is noted beside it")
+            } else if past.event.new_call().is_some() {
+                put_if_made(past, text, call)
+            } else {
+                put_if_unmade(past, text, call)
+            }
         }
-        RpcMessage::Call { .. } if sent => put_if_unmade(past, text, call),
-        RpcMessage::Call { .. } | RpcMessage::Bootstrap { .. } => put_if_made(past, text, call),
-        _ if call != 0 => text.tell(
-            "note: call # is noted beside it, and it is no call\n",
-            &[call],
-        ),
+        _ if call != 0 => text.note("call # is noted beside it, and it is no call", &[call]),
         _ => {}
     }
 }
@@ -134,12 +95,7 @@ fn put_call(past: &Past<'_>, text: &mut NoteText) {
             put_if_unmade(past, text, *call);
             put_if_unmade(past, text, *by)
         }
-        DecodedRecord::Wire {
-            sent,
-            call,
-            message,
-            ..
-        } => put_noted_call(past, text, *sent, *call, message),
+        DecodedRecord::Wire { call, message, .. } => put_noted_call(past, text, *call, message),
         _ => {}
     }
 }
@@ -175,7 +131,12 @@ fn put_named(past: &Past<'_>, text: &mut NoteText) {
 /// Notes of the references and calls that a record binds again, or names unbound.
 pub(crate) fn put_unbound(past: &Past<'_>, text: &mut NoteText) {
     for reference in past.event.new_references().iter().take(MOST) {
-        put_if_bound(past, text, *reference);
+        if let Some(at) = binder_of(past, *reference) {
+            text.note(
+                "reference # was bound by record #",
+                &[*reference, at as u64],
+            );
+        }
     }
     put_named(past, text);
     put_call(past, text)

@@ -6,20 +6,15 @@ use crate::rules::view_turns::put_turns;
 use past_records::{NoteText, Past, QuestionOpening, opening_of};
 use rpc_view::{Descriptor, Outcome, Payload, RpcMessage};
 use std::alloc::AllocError;
-use vat_log::{Body, VatLog};
-use vat_view::{DecodedRecord, Number, TableKey, View};
+use vat_log::Body;
+use vat_view::{DecodedRecord, TableKey, View};
 
-/// The first record behind this one that answers a call here.
-fn answered_after(log: &VatLog, at: usize, sought: u64) -> Option<usize> {
-    for later in at..log.len() {
-        match log.get(later)?.body() {
-            Body::Answer { call, .. } | Body::AnswerBy { call, .. } if *call == sought => {
-                return Some(later);
-            }
-            _ => {}
-        }
+/// Whether a record answers a call here, as its body says.
+fn answers(body: &Body, sought: u64) -> bool {
+    match body {
+        Body::Answer { call, .. } | Body::AnswerBy { call, .. } => *call == sought,
+        _ => false,
     }
-    None
 }
 
 /// Notes of a Return of results that aren't known.
@@ -27,32 +22,21 @@ fn put_unknown(past: &Past<'_>, text: &mut NoteText, call: u64) {
     let _ = put_origin(past, text, call);
     put_left(past, text, call);
     match settled_by(past, call) {
-        Some(at) => text.tell("note: record # ended it without results\n", &[at as u64]),
-        None => text.words("note: no record before tells its results\n"),
+        Some(at) => text.note("record # ended it without results", &[at as u64]),
+        None => text.say("no record before tells its results"),
     }
-    if let Some(later) = answered_after(past.log, past.at, call) {
-        text.tell(
-            "note: record # tells them, behind the Return\n",
-            &[later as u64],
-        );
+    if let Some(later) = past.find_behind(|body| answers(body, call)) {
+        text.note("record # tells them, behind the Return", &[later as u64]);
     }
 }
 
-/// Whether an entry of the table is a capability.
-fn is_cap(past: &Past<'_>, place: usize) -> bool {
-    match past.event.descriptors().get(place) {
-        Some(Descriptor::NoCap) | None => false,
-        Some(_) => true,
-    }
-}
-
-/// Whether what stands at a place of the table is another than was known.
+/// Whether what stands at a place of the table, a capability, is another than was known.
 fn is_other(past: &Past<'_>, known: &View, place: usize, stands: &[Option<View>]) -> bool {
-    let leads = match stands.get(place) {
-        Some(Some(stands)) => past.state.leads_by_turns(known, stands),
-        _ => false,
-    };
-    is_cap(past, place) && !leads
+    match (past.event.descriptors().get(place), stands.get(place)) {
+        (None | Some(Descriptor::NoCap), _) => false,
+        (_, Some(Some(stands))) => !past.state.leads_by_turns(known, stands),
+        _ => true,
+    }
 }
 
 /// The first of the results that is another than was known, with its place in the table.
@@ -72,20 +56,18 @@ fn first_other(
     Ok(None)
 }
 
-/// Notes which record tells of the results of a call, where that leads that was known of one of them, and what stands there.
-fn put_known(
-    past: &Past<'_>,
-    text: &mut NoteText,
-    call: u64,
-    other: (View, usize),
-    stands: &[Option<View>],
-) {
-    let (known, place) = other;
+/// Notes of results that are others than those that were known: which record tells of them, where that leads that was known of the
+/// first of them, and what stands there.
+fn put_other(past: &Past<'_>, text: &mut NoteText, payload: &Payload, call: u64) {
+    let Some(stands) = text.granted(past.state.views_of_descriptors(&past.event)) else {
+        return;
+    };
+    let other = first_other(past, payload, stands.as_slice(), call);
+    let Some(Some((known, place))) = text.granted(other) else {
+        return;
+    };
     if let Some(at) = settled_by(past, call) {
-        text.tell(
-            "note: record # tells the results of call #\n",
-            &[at as u64, call],
-        );
+        text.note("record # tells the results of call #", &[at as u64, call]);
     }
     put_turns(past, text, known);
     if let Some(view) = stands.get(place) {
@@ -93,107 +75,58 @@ fn put_known(
     }
 }
 
-/// Notes of the first of the results that is another than was known.
-fn put_first_other(
-    past: &Past<'_>,
-    text: &mut NoteText,
-    payload: &Payload,
-    stands: &[Option<View>],
-    call: u64,
-) {
-    match first_other(past, payload, stands, call) {
-        Ok(Some(other)) => put_known(past, text, call, other, stands),
-        Ok(None) => {}
-        Err(AllocError) => text.refuse(),
-    }
-}
-
-/// Notes of results that are others than those that were known.
-fn put_other(past: &Past<'_>, text: &mut NoteText, payload: &Payload, call: u64) {
-    match past.state.views_of_descriptors(&past.event) {
-        Ok(stands) => put_first_other(past, text, payload, stands.as_slice(), call),
-        Err(AllocError) => text.refuse(),
-    }
-}
-
 /// Notes that the question was or wasn't asked so that its results stay with their answerer.
 fn put_asked(text: &mut NoteText, opening: QuestionOpening) {
-    let sentence = if opening.yourself {
-        "note: record # asked with sendResultsTo yourself\n"
-    } else {
-        "note: record # asked without sendResultsTo yourself\n"
-    };
-    text.tell(sentence, &[opening.at as u64]);
+    let how = if opening.yourself { "with" } else { "without" };
+    text.note_of(
+        "record # asked @ sendResultsTo yourself",
+        &how,
+        &[opening.at as u64],
+    );
 }
 
 /// Notes of results that are sent.
 fn put_results(past: &Past<'_>, text: &mut NoteText, payload: &Payload, opening: QuestionOpening) {
     if opening.yourself {
-        return put_asked(text, opening);
-    }
-    if past.state.is_known(opening.call) {
+        put_asked(text, opening)
+    } else if past.state.is_known(opening.call) {
         put_other(past, text, payload, opening.call)
     } else {
         put_unknown(past, text, opening.call)
     }
 }
 
-/// Notes by which call a call was answered, and by which record, where that is known.
-fn put_answerer(text: &mut NoteText, call: u64, by: Option<u64>, at: Option<usize>) {
-    match (by, at) {
-        (Some(by), Some(at)) => text.tell(
-            "note: call # was answered by call #, by record #\n",
+/// Notes by which call a call was answered, of a Return that takes the results of a question.
+fn put_taken(past: &Past<'_>, text: &mut NoteText, call: u64, taken: TableKey) {
+    match (past.state.answered_by(call), settled_by(past, call)) {
+        (Some(by), Some(at)) => text.note(
+            "call # was answered by call #, by record #",
             &[call, by, at as u64],
         ),
-        _ => text.tell(
-            "note: no record before answers call # by another\n",
-            &[call],
-        ),
+        _ => text.note("no record before answers call # by another", &[call]),
     }
-}
-
-/// Notes by which call a call was answered, of a Return that takes the results of a question.
-fn put_taken(past: &Past<'_>, text: &mut NoteText, opening: QuestionOpening, taken: TableKey) {
-    let call = opening.call;
-    put_answerer(
-        text,
-        call,
-        past.state.answered_by(call),
-        settled_by(past, call),
-    );
-    match (past.state.call_of(taken), opening_of(past, taken)) {
-        (Some(other), Some(asked)) => text.tell(
-            "note: question # stands for call #, since record #\n",
+    if let (Some(other), Some(asked)) = (past.state.call_of(taken), opening_of(past, taken)) {
+        text.note(
+            "question # stands for call #, since record #",
             &[u64::from(taken.number), other, asked.at as u64],
-        ),
-        _ => {}
+        );
     }
-}
-
-/// Notes what is said of a Return as canceled.
-fn put_canceled(text: &mut NoteText, opening: QuestionOpening) {
-    text.tell(
-        "note: the question was opened by record #, and no Finish of it has passed since\n",
-        &[opening.at as u64],
-    );
 }
 
 /// Notes what was known of the call of a Return that is sent, whose question was opened so, and what stands there.
-fn put_outcome(
-    past: &Past<'_>,
-    text: &mut NoteText,
-    connection: u32,
-    outcome: &Outcome,
-    opening: QuestionOpening,
-) {
+fn put_outcome(past: &Past<'_>, text: &mut NoteText, outcome: &Outcome, opening: QuestionOpening) {
     match outcome {
         Outcome::Results(payload) => put_results(past, text, payload, opening),
         Outcome::Elsewhere => put_asked(text, opening),
-        Outcome::TakeFrom(number) => {
-            let taken = Number::Question(*number).on(connection);
-            put_taken(past, text, opening, taken);
+        Outcome::TakeFrom(_) => {
+            if let Some(taken) = past.event.question_taken() {
+                put_taken(past, text, opening.call, taken);
+            }
         }
-        Outcome::Canceled => put_canceled(text, opening),
+        Outcome::Canceled => text.note(
+            "the question was opened by record #, and no Finish of it has passed since",
+            &[opening.at as u64],
+        ),
         Outcome::Exception => {}
     }
 }
@@ -202,18 +135,14 @@ fn put_outcome(
 pub(crate) fn put_misreturned(past: &Past<'_>, text: &mut NoteText) {
     let DecodedRecord::Wire {
         sent: true,
-        connection,
-        message: RpcMessage::Return {
-            answer,
-            outcome,
-            ..
-        },
+        message: RpcMessage::Return { outcome, .. },
         ..
     } = &past.event
     else {
         return;
     };
-    if let Some(opening) = opening_of(past, Number::Answer(*answer).on(*connection)) {
-        put_outcome(past, text, *connection, outcome, opening);
+    let returned = past.event.question_returned();
+    if let Some(opening) = returned.and_then(|key| opening_of(past, key)) {
+        put_outcome(past, text, outcome, opening);
     }
 }

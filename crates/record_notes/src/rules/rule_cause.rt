@@ -9,17 +9,15 @@ use crate::rules::promise_notes::{put_misresolved, put_unvowed};
 use crate::rules::reference_notes::put_unbound;
 use crate::rules::result_notes::put_misreturned;
 use past_records::{NoteText, Past, put_gone, put_miscounted, put_misused, put_reopened};
-use std::alloc::{AllocError, Global};
+use std::alloc::Global;
 use vat_log::VatLog;
 use vat_rules::Rule;
 
 /// Notes of the records that lead to a broken rule, where they are found. The log is walked up to the record; for a number
 /// that a Return or a Finish gives back too often, twice.
 pub fn put_rule_cause(alloc: Global, text: &mut NoteText, log: &VatLog, at: usize, rule: Rule) {
-    match Past::of(alloc, log, at) {
-        Ok(Some(past)) => put_past_cause(&past, text, rule),
-        Ok(None) => {}
-        Err(AllocError) => text.refuse(),
+    if let Some(Some(past)) = text.granted(Past::of(alloc, log, at)) {
+        put_past_cause(&past, text, rule);
     }
 }
 

@@ -3,11 +3,18 @@
 use report_lines::Shown;
 use std::fmt;
 use std::fmt::{Display, Formatter};
-use vat_view::BorrowedView;
+use vat_view::{BorrowedView, View};
 
 /// What a reference or a number stands for.
 #[derive(Clone, Copy)]
 pub(crate) struct ViewText<'a>(pub(crate) BorrowedView<'a>);
+
+impl<'a> ViewText<'a> {
+    /// This view.
+    pub(crate) fn of(view: &'a View) -> ViewText<'a> {
+        ViewText(BorrowedView::of(view))
+    }
+}
 
 impl Display for ViewText<'_> {
     fn fmt<W: fmt::Write>(&self, f: &mut Formatter<W>) -> fmt::Result {

@@ -5,12 +5,12 @@ ghost use Rattle.std.specs.Option.{option_copied};
 ghost use Rattle.vat_rules.specs.Types.{Object};
 ghost use Rattle.decoded_records.specs.Views.{view_of_target};
 ghost use Rattle.decoded_records.specs.Calls.{request_of, goal_of, is_at_vat, is_served, is_settled};
-ghost use Rattle.vat_rules.specs.Ways.{LeadsTo};
+ghost use Rattle.vat_rules.specs.Ways.{LeadsTo, GoesFor};
 ghost use Rattle.vat_rules.specs.OfCalls.{IsHere, GoesToGoal, MayAnswer};
 
-use crate::rules::leads::leads_to;
+use crate::rules::leads::{goes_for, leads_to};
 use crate::rules::result_paths::distinct_paths;
-use rpc_view::RpcMessage;
+use rpc_view::{Edition, RpcMessage};
 use std::alloc::{AllocError, Global};
 use vat_view::{DecodedRecord, VatState, View};
 
@@ -41,8 +41,9 @@ fn reaches_object(state: &VatState, call: u64, object: u64) -> Result<bool, Allo
     Ok(leads_to(state, goal.as_ref(), Some(&object)))
 }
 
-/// Whether a call at the vat asked for this method of this interface, and its goal leads to this target.
+/// Whether a call at the vat asked for this method of this interface, and its goal goes for this target.
 fn is_asked(
+    edition: Edition,
     state: &VatState,
     target: Option<&View>,
     call: u64,
@@ -52,7 +53,7 @@ fn is_asked(
     requires { IsTrue (is_at_vat call state.now) }
     ensures { IfOk result (λ b.
         Decides b (IsSomeAnd (request_of call state.now) (λ a.
-        LeadsTo state.now a.goal (option_copied target.entry)
+        GoesFor edition state.now a.goal (option_copied target.entry)
         × (interface ≡ a.interface) × (method ≡ a.method)))) }
 {
     let Some(asked) = state.request_of(call)? else {
@@ -61,18 +62,20 @@ fn is_asked(
     if interface != asked.interface || method != asked.method {
         return Ok(false);
     }
-    Ok(leads_to(state, asked.goal.as_ref(), target))
+    Ok(goes_for(edition, state, asked.goal.as_ref(), target))
 }
 
-/// Whether a call that is delivered or sent on, and is at the vat, goes where its goal leads, and by its own method.
+/// Whether a call that is delivered or sent on, and is at the vat, goes to its goal as the edition has it, and by its own
+/// method.
 pub(crate) fn goes_to_goal(
+    edition: Edition,
     state: &VatState,
     event: &DecodedRecord,
     target: Option<&View>,
 ) -> Result<bool, AllocError>
     requires target { option_copied target ≡ view_of_target state.now event.now }
     requires here { IsHere state.now event.now }
-    ensures { IfOk result (λ b. Decides b (GoesToGoal state.now event.now)) }
+    ensures { IfOk result (λ b. Decides b (GoesToGoal edition state.now event.now)) }
 {
     match event {
         DecodedRecord::Deliver { call, object } => reaches_object(state, *call, *object),
@@ -85,7 +88,7 @@ pub(crate) fn goes_to_goal(
                 ..
             },
             ..
-        } => is_asked(state, target, *call, *interface, *method),
+        } => is_asked(edition, state, target, *call, *interface, *method),
         _ => Ok(true),
     }
 }

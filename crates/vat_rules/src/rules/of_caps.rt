@@ -8,12 +8,12 @@ ghost use Rattle.decoded_records.specs.Lives.{descriptors};
 ghost use Rattle.decoded_records.specs.Borrowed.{as_view};
 ghost use Rattle.decoded_records.specs.Views.{places, references, placed_references, view_of_reference, views_of_descriptors};
 ghost use Rattle.vat_rules.specs.Ways.{EndsIn};
-ghost use Rattle.vat_rules.specs.OfCaps.{is_sent, is_received, is_light_return, is_cap_at, is_hosted, is_hosted_end, NotesView, Describes, BindsEach};
+ghost use Rattle.vat_rules.specs.OfCaps.{is_sent, is_received, is_light_return, is_cap_at, is_own_number, is_hosted, is_hosted_end, NotesView, Describes, BindsEach};
 ghost use Rattle.vat_rules.specs.Glue.Facts.{view_at, facts_before};
 
 use crate::facts::plain_facts::PlainFacts;
-use crate::rules::leads::leads_to;
-use rpc_view::{Descriptor, RpcMessage};
+use crate::rules::leads::goes_for;
+use rpc_view::{Descriptor, Edition, RpcMessage};
 use std::alloc::{AllocError, Global};
 use vat_view::{BorrowedView, DecodedRecord, VatState, View, ends_are_one};
 
@@ -53,6 +53,16 @@ pub(crate) fn is_cap_at(descriptor: Option<&Descriptor>) -> bool
         Some(descriptor) => !matches!(descriptor, Descriptor::NoCap),
         None => false,
     }
+}
+
+/// Whether there is a descriptor and it names a number of its sender's own.
+pub(crate) fn is_own_number(descriptor: Option<&Descriptor>) -> bool
+    ensures { result ≡ is_own_number (option_copied descriptor.entry) }
+{
+    matches!(
+        descriptor,
+        Some(Descriptor::SenderHosted(_) | Descriptor::SenderPromise(_))
+    )
 }
 
 /// Whether there is a descriptor and it is senderHosted.
@@ -98,9 +108,10 @@ pub(crate) fn view_at(views: &[Option<View>], place: usize) -> Option<&View>
     }
 }
 
-/// Whether a noted reference leads to what the descriptor at this place stands for, one of these, and to one that is
+/// Whether a noted reference goes for what the descriptor at this place stands for, one of these, and leads to one that is
 /// hosted where that says so.
 fn notes_view(
+    edition: Edition,
     state: &VatState,
     event: &DecodedRecord,
     caps: &[Option<View>],
@@ -108,10 +119,10 @@ fn notes_view(
     place: usize,
 ) -> Result<bool, AllocError>
     requires { caps.now ≡ views_of_descriptors state.now event.now }
-    ensures { IfOk result (λ b. Decides b (NotesView state.now event.now (reference, place))) }
+    ensures { IfOk result (λ b. Decides b (NotesView edition state.now event.now (reference, place))) }
 {
     let view = state.view_of_reference(reference)?;
-    if !leads_to(state, view.as_ref(), view_at(caps, place)) {
+    if !goes_for(edition, state, view.as_ref(), view_at(caps, place)) {
         return Ok(false);
     }
     if !is_hosted(event.descriptors().get(place)) {
@@ -162,8 +173,9 @@ fn placed_references(alloc: Global, event: &DecodedRecord) -> Result<Vec<(u64, u
     }
 }
 
-/// Whether each of these references leads to what the descriptor at its place stands for.
+/// Whether each of these references goes for what the descriptor at its place stands for.
 fn notes_views(
+    edition: Edition,
     state: &VatState,
     event: &DecodedRecord,
     caps: &[Option<View>],
@@ -171,10 +183,10 @@ fn notes_views(
 ) -> Result<bool, AllocError>
     requires { caps.now ≡ views_of_descriptors state.now event.now }
     ensures { IfOk result (λ b.
-        Decides b (AllByRecursion (NotesView state.now event.now) noted.now)) }
+        Decides b (AllByRecursion (NotesView edition state.now event.now) noted.now)) }
 {
     for (reference, place) in noted {
-        if !notes_view(state, event, caps, *reference, *place)? {
+        if !notes_view(edition, state, event, caps, *reference, *place)? {
             return Ok(false);
         }
     }
@@ -198,34 +210,42 @@ fn only_noted(event: &DecodedRecord) -> Option<u64>
     }
 }
 
-/// Whether each reference that a record notes leads to what the descriptor at its place stands for.
+/// Whether each reference that a record notes goes for what the descriptor at its place stands for.
 fn notes_each_view(
     alloc: Global,
+    edition: Edition,
     state: &VatState,
     event: &DecodedRecord,
     caps: &[Option<View>],
 ) -> Result<bool, AllocError>
     requires { caps.now ≡ views_of_descriptors state.now event.now }
     ensures { IfOk result (λ b.
-        Decides b (AllByRecursion (NotesView state.now event.now) (placed_references event.now))) }
+        Decides b (AllByRecursion (NotesView edition state.now event.now) (placed_references event.now))) }
 {
     match only_noted(event) {
-        Some(reference) => notes_view(state, event, caps, reference, 0),
-        None => notes_views(state, event, caps, &placed_references(alloc, event)?),
+        Some(reference) => notes_view(edition, state, event, caps, reference, 0),
+        None => notes_views(
+            edition,
+            state,
+            event,
+            caps,
+            &placed_references(alloc, event)?,
+        ),
     }
 }
 
-/// Whether a sent record notes one reference for each descriptor that isn't none, each leading to what that stands
-/// for, and none where it is a Return that says that no Finish is needed; and a record introduces numbers by the kind of
+/// Whether a sent record notes one reference for each descriptor that isn't none, each going for what that stands
+/// for as the edition has it, and none where it is a Return that says that no Finish is needed; and a record introduces numbers by the kind of
 /// their lives.
 pub(crate) fn describes(
     alloc: Global,
+    edition: Edition,
     state: &VatState,
     event: &DecodedRecord,
     facts: &PlainFacts,
 ) -> Result<bool, AllocError>
     requires { facts.now ≡ facts_before state.now event.now }
-    ensures { IfOk result (λ b. Decides b (Describes state.now event.now)) }
+    ensures { IfOk result (λ b. Decides b (Describes edition state.now event.now)) }
 {
     let sent = is_sent(event);
     if sent && !state.notes_each(event) {
@@ -240,7 +260,7 @@ pub(crate) fn describes(
     if sent && !is_light_without_caps(event) {
         return Ok(false);
     }
-    if sent && !notes_each_view(alloc, state, event, facts.caps())? {
+    if sent && !notes_each_view(alloc, edition, state, event, facts.caps())? {
         return Ok(false);
     }
     state.keeps_kinds(event)

@@ -1,33 +1,30 @@
 //! The rules on a connection as a whole: when it has ended, and when an embargo may be asked for and lifted.
 
-ghost use Rattle.std.specs.Prelude.{◌≡◌, ℕ, List, true, false, not, is_some, Decides, IsTrue, IsSomeAnd};
+ghost use Rattle.std.specs.Prelude.{◌≡◌, true, false, not, is_some, Decides, IsTrue, IsSomeAnd};
 ghost use Rattle.std.specs.Option.{option_copied};
 ghost use Rattle.decoded_records.specs.Past.{id};
 ghost use Rattle.decoded_records.specs.Views.{view_of_target};
 ghost use Rattle.decoded_records.specs.Loopbacks.{loopback_of, embargoed_view, IsHeldUp};
-ghost use Rattle.vat_view.specs.Connections.{LeadsOver, LeadsElsewhere};
-ghost use Rattle.vat_rules.specs.Types.{Wire, Abort};
+ghost use Rattle.vat_view.specs.Connections.{LeadsOver};
 ghost use Rattle.vat_rules.specs.Ways.{LeadsTo};
-ghost use Rattle.vat_rules.specs.OfConnections.{IsOpen, KeepsEmbargo};
+ghost use Rattle.vat_rules.specs.OfConnections.{is_closed, IsOpen, LeadsAway, KeepsEmbargo};
 
 use crate::rules::leads::leads_to;
 use rpc_view::{Edition, Loopback, RpcMessage};
 use vat_view::{DecodedRecord, TableKey, VatState, View};
 
-/// Whether an abort may be sent on a connection: none was sent or received there, or, by the later edition, none was sent.
-fn may_abort(edition: Edition, state: &VatState, connection: u32) -> bool
-    ensures { (call : ℕ) (references : List ℕ) → Decides result
-        (IsOpen edition state.now (Wire true connection call references Abort)) }
+/// Whether a connection takes nothing more from this vat: it was aborted, by the first edition from either end, by the
+/// later one by this vat.
+fn is_closed(edition: Edition, state: &VatState, connection: u32) -> bool
+    ensures { result ≡ is_closed edition connection state.now }
 {
     match edition {
-        Edition::First => !state.is_aborted(connection),
-        Edition::Later => !state.is_aborted_here(connection),
+        Edition::First => state.is_aborted(connection),
+        Edition::Later => state.is_aborted_here(connection),
     }
 }
 
-/// Whether a record sends nothing on a connection that was aborted; by the later edition, nothing but the one abort that
-/// answers another.
-#[tactic(auto, using(crate::proofs::Editions::open_otherwise))]
+/// Whether a record sends nothing on a connection that is closed.
 pub(crate) fn is_open(edition: Edition, state: &VatState, event: &DecodedRecord) -> bool
     ensures { Decides result (IsOpen edition state.now event.now) }
 {
@@ -35,12 +32,8 @@ pub(crate) fn is_open(edition: Edition, state: &VatState, event: &DecodedRecord)
         DecodedRecord::Wire {
             sent: true,
             connection,
-            message,
             ..
-        } => match message {
-            RpcMessage::Abort => may_abort(edition, state, *connection),
-            _ => !state.is_aborted(*connection),
-        },
+        } => !is_closed(edition, state, *connection),
         _ => true,
     }
 }
@@ -67,8 +60,22 @@ fn theirs(connection: u32, number: u32) -> TableKey
     }
 }
 
-/// Whether a sent senderLoopback has a number that isn't outstanding, and a target that leads elsewhere than over its
-/// connection, as the edition has it.
+/// Whether a loopback may be sent over a connection for a view: that leads elsewhere, as the edition has it; or, by the
+/// later edition, it came back.
+fn leads_away(edition: Edition, state: &VatState, connection: u32, target: &View) -> bool
+    ensures { Decides result (LeadsAway edition state.now target.now connection) }
+{
+    match edition {
+        Edition::First => state.leads_elsewhere(target, connection, edition),
+        Edition::Later => {
+            state.leads_elsewhere(target, connection, edition)
+                || state.came_back(target, connection)
+        }
+    }
+}
+
+/// Whether a sent senderLoopback has a number that isn't outstanding, and a target for which it may be sent over its
+/// connection.
 fn asks_echo(
     edition: Edition,
     state: &VatState,
@@ -79,13 +86,13 @@ fn asks_echo(
     ensures { Decides result
         (IsTrue (not (is_some (loopback_of (id connection true number) state.now)))
         × IsSomeAnd (option_copied target.entry)
-        (λ v. LeadsElsewhere edition state.now v connection)) }
+        (λ v. LeadsAway edition state.now v connection)) }
 {
     if state.awaits_echo(ours(connection, number)) {
         return false;
     }
     match target {
-        Some(target) => state.leads_elsewhere(target, connection, edition),
+        Some(target) => leads_away(edition, state, connection, target),
         None => false,
     }
 }

@@ -7,15 +7,16 @@ ghost use Rattle.decoded_records.specs.Views.{views_of_descriptors};
 ghost use Rattle.decoded_records.specs.Calls.{answered_by};
 ghost use Rattle.vat_rules.specs.OfResults.{ReturnsField, ReturnsFields, ReturnsTaken, ReturnsKnown};
 
-use crate::rules::leads::leads_on_to;
-use crate::rules::of_caps::{is_cap_at, view_at};
+use crate::rules::leads::went_on;
+use crate::rules::of_caps::{is_cap_at, is_own_number, view_at};
 use cap_frame::Path;
 use rpc_view::{Edition, Outcome, RpcMessage};
 use std::alloc::AllocError;
 use vat_view::{DecodedRecord, Number, TableKey, VatState, View};
 
-/// Whether a call's result at a path leads to what the descriptor at this place stands for, if that isn't none.
+/// Whether a call's result at a path went on to what the descriptor at this place stands for, if that isn't none.
 fn returns_field(
+    edition: Edition,
     state: &VatState,
     event: &DecodedRecord,
     caps: &[Option<View>],
@@ -25,17 +26,20 @@ fn returns_field(
 ) -> Result<bool, AllocError>
     requires { caps.now ≡ views_of_descriptors state.now event.now }
     ensures { IfOk result (λ b.
-        Decides b (ReturnsField state.now event.now call (path.now, place))) }
+        Decides b (ReturnsField edition state.now event.now call (path.now, place))) }
 {
-    if !is_cap_at(event.descriptors().get(place)) {
+    let descriptor = event.descriptors().get(place);
+    if !is_cap_at(descriptor) {
         return Ok(true);
     }
     let from = View::Field(call, path.copy()?);
-    Ok(leads_on_to(state, Some(&from), view_at(caps, place)))
+    let own = is_own_number(descriptor);
+    Ok(went_on(edition, own, state, Some(&from), view_at(caps, place)))
 }
 
-/// Whether a call's result leads to what is sent at each of these paths.
+/// Whether a call's result went on to what is sent at each of these paths.
 fn returns_each(
+    edition: Edition,
     state: &VatState,
     event: &DecodedRecord,
     caps: &[Option<View>],
@@ -44,18 +48,19 @@ fn returns_each(
 ) -> Result<bool, AllocError>
     requires { caps.now ≡ views_of_descriptors state.now event.now }
     ensures { IfOk result (λ b.
-        Decides b (AllByRecursion (ReturnsField state.now event.now call) fields.now)) }
+        Decides b (AllByRecursion (ReturnsField edition state.now event.now call) fields.now)) }
 {
     for (path, place) in fields {
-        if !returns_field(state, event, caps, call, path, *place as usize)? {
+        if !returns_field(edition, state, event, caps, call, path, *place as usize)? {
             return Ok(false);
         }
     }
     Ok(true)
 }
 
-/// Whether a call's results are known, and lead to what is sent at each of these paths.
+/// Whether a call's results are known, and went on to what is sent at each of these paths.
 fn returns_fields(
+    edition: Edition,
     state: &VatState,
     event: &DecodedRecord,
     caps: &[Option<View>],
@@ -63,17 +68,18 @@ fn returns_fields(
     call: u64,
 ) -> Result<bool, AllocError>
     requires { caps.now ≡ views_of_descriptors state.now event.now }
-    ensures { IfOk result (λ b. Decides b (ReturnsFields state.now event.now fields.now call)) }
+    ensures { IfOk result (λ b. Decides b (ReturnsFields edition state.now event.now fields.now call)) }
 {
     if !state.is_known(call) {
         return Ok(false);
     }
-    returns_each(state, event, caps, call, fields)
+    returns_each(edition, state, event, caps, call, fields)
 }
 
-/// Whether a question wasn't asked with its results to be sent elsewhere, and those of its call are known, and lead to
-/// what is sent at each of these paths.
+/// Whether a question wasn't asked with its results to be sent elsewhere, and those of its call are known, and went
+/// on to what is sent at each of these paths.
 fn returns_results(
+    edition: Edition,
     state: &VatState,
     event: &DecodedRecord,
     caps: &[Option<View>],
@@ -83,13 +89,13 @@ fn returns_results(
     requires { caps.now ≡ views_of_descriptors state.now event.now }
     ensures { IfOk result (λ b.
         Decides b (IsFalse (is_tail (opening question state.now)) × IsSomeAnd
-        (call_at (opening question state.now)) (ReturnsFields state.now event.now fields.now))) }
+        (call_at (opening question state.now)) (ReturnsFields edition state.now event.now fields.now))) }
 {
     if state.is_tail(question) {
         return Ok(false);
     }
     match state.opening_call(question) {
-        Some(call) => returns_fields(state, event, caps, fields, call),
+        Some(call) => returns_fields(edition, state, event, caps, fields, call),
         None => Ok(false),
     }
 }
@@ -127,7 +133,7 @@ fn takes_answer(edition: Edition, state: &VatState, question: TableKey, taken: T
     }
 }
 
-/// Whether a sent Return that isn't late gives results that are known, and at each path what they lead to, or says truly
+/// Whether a sent Return that isn't late gives results that are known, and at each path what they went on to, or says truly
 /// where else they went or from where they may be taken by an edition; and one that is canceled comes after a Finish.
 pub(crate) fn returns_known(
     edition: Edition,
@@ -158,7 +164,14 @@ pub(crate) fn returns_known(
         Outcome::Canceled => Ok(state.is_finished(question)),
         _ if late => Ok(true),
         Outcome::Results(payload) => {
-            returns_results(state, event, caps, payload.fields.as_slice(), question)
+            returns_results(
+                edition,
+                state,
+                event,
+                caps,
+                payload.fields.as_slice(),
+                question,
+            )
         }
         Outcome::Elsewhere => Ok(state.is_tail(question)),
         Outcome::TakeFrom(number) => {

@@ -1,17 +1,20 @@
 -- For the code's contracts, and no part of the meaning: the table of connections, and walks to views of a kind.
-use Rattle.std.specs.Prelude.{◌≡◌, ℕ, ◌==◌, Bool, true, false, not, ◌||◌, Option, Some, None, if◌then◌else◌, option_map, option_and_then, unwrap_or, is_some, IsTrue}
+use Rattle.std.specs.Prelude.{◌≡◌, ℕ, ◌==◌, Bool, true, false, not, ◌&&◌, ◌||◌, Option, Some, None, if◌then◌else◌, option_map, option_and_then, unwrap_or, is_some, IsTrue}
 use Rattle.std.specs.Ordering.{nat_cmp}
 use Rattle.std.specs.BTreeMap.{BTreeMap, get}
+use Rattle.std.specs.Option.{option_map_or}
 use Rattle.rising_table.specs.Entries.{entry_at}
 use Rattle.vat_view.specs.declared.tables.arrivals.Arrivals.{Arrivals}
 use Rattle.vat_view.specs.declared.tables.connections.Connections.{Connections}
 use Rattle.vat_view.specs.declared.walks.reachable.Sought.{Sought}
-use Rattle.vat_view.specs.declared.walks.reachable.Sought.TheVariants.{Over, Elsewhere}
+use Rattle.vat_view.specs.declared.walks.reachable.Sought.TheVariants.{Over, Elsewhere, Back}
+use Rattle.vat_view.specs.declared.tables.turns.settlements.Settlements.{Settlements}
+use Rattle.decoded_records.specs.Glue.Parts.{field_path}
 use Rattle.vat_view.specs.Types.{Edition, First, Later, Bootstrap, Call, DecodedRecord, Wire, View, FieldOf, Import}
 use Rattle.decoded_records.specs.Past.{Past, is}
 use Rattle.vat_view.specs.Connections.{is_aborted, is_aborted_here, asked_on, is_own, is_another}
-use Rattle.vat_view.specs.Glue.ArrivalTables.{arrival_at}
-use Rattle.vat_view.specs.Glue.TurnTables.{after_turns}
+use Rattle.vat_view.specs.Glue.ArrivalTables.{arrival_at, back_at}
+use Rattle.vat_view.specs.Glue.TurnTables.{settled_at, turn_by, after_turns}
 
 -- the call for which a record asks a question of this vat's, with the connection
 abbrev pub call_sent_on : DecodedRecord → Option (ℕ × ℕ)
@@ -67,14 +70,20 @@ abbrev pub is_elsewhere_by : Edition → ℕ → View → Option ℕ → Bool
 is_elsewhere_by First k v over = is_own v || is_another k over
 is_elsewhere_by Later k v over = not (is k over)
 
--- a view is sought, where it is reached over this connection
-abbrev pub is_sought : Sought → View → Option ℕ → Bool
-is_sought (Over k) v over = is k over
-is_sought (Elsewhere k edition) v over = is_elsewhere_by edition k v over
+-- a view turned, and what turned it brought it back, by the tables
+abbrev pub brought_back_by : Settlements → (ℕ → Option View) → Arrivals → View → Bool
+brought_back_by turns named arrivals v =
+    is_some (turn_by turns named v) && option_map_or (λ s. back_at arrivals s.0 (field_path v)) (settled_at turns v) false
+
+-- a view is sought, where it is reached over this connection, and where it was brought back or not
+abbrev pub is_sought : Sought → View → Option ℕ → Bool → Bool
+is_sought (Over k) v over back = is k over
+is_sought (Elsewhere k edition) v over back = is_elsewhere_by edition k v over
+is_sought (Back k) v over back = is k over && back
 
 -- the same by the tables
-abbrev pub sought_by : Arrivals → Connections → Sought → View → Bool
-sought_by arrivals table sought v = is_sought sought v (over_by arrivals table v)
+abbrev pub sought_by : Settlements → (ℕ → Option View) → Arrivals → Connections → Sought → View → Bool
+sought_by turns named arrivals table sought v = is_sought sought v (over_by arrivals table v) (brought_back_by turns named arrivals v)
 
 -- one that passes a test is reached by some number of turns
 abbrev pub ReachesOne : {A : Type 0} → (A → Option A) → (A → Bool) → A → Type 0

@@ -33,6 +33,7 @@ use Rattle.decoded_records.specs.Lives.{Birth, birth}
 use Rattle.decoded_records.specs.Views.{placed_references, view_of_reference}
 use Rattle.decoded_records.specs.Calls.{answerer, call_taken_from}
 use Rattle.vat_view.specs.Walks.{Next, turns, stays, on_to, next, turned_to}
+use Rattle.vat_view.specs.Connections.{last_turn}
 use Rattle.decoded_records.specs.Bindings.{is_bound}
 use Rattle.vat_view.specs.Glue.FieldTargets.{target_among}
 use Rattle.vat_view.specs.Glue.Tables.{bound_at}
@@ -369,11 +370,12 @@ by_handover number None = None
 
 -- the table of turns at a point of a log: for each view it has the number of the last record that settled it and where
 -- that turned it, and for each call the last that answered it by another; each view goes where the record that settled it
--- says, and what it goes to is bound
+-- says, which is the last that turned it, and what it goes to is bound
 pub record AreSettled (past : Past) (table : Settlements) : Type 0 where
   pub settlers : (v : View) → settled_at table v ≡ option_map (settled_as v) (last_settler v past)
   pub handed : (c : ℕ) → handover_at table c ≡ handover_of c past
   pub going : (v : View) → next past v ≡ goes (view_of_reference past) (field_path v) (settler_of v past)
+  pub turning : (v : View) → last_turn v past ≡ last_settler v past
   pub landed : Each LandsBound past
 
 -- the call by whose results the record of this number settled a view, by the table: only of a field
@@ -458,6 +460,14 @@ TurnsAndThen turn a n c = after_turns turn n (turn a) ≡ Some c
 -- so many turns are made, to this view; and where they are at most so many, none after them
 abbrev pub TurnsOn : {A : Type 0} → (A → Option A) → A → ℕ → A → ℕ → Type 0
 TurnsOn turn a most last n = (after_turns turn n (Some a) ≡ Some last) × (n ≤ most → turn last ≡ None)
+
+-- two reach a common one
+abbrev pub ReachOne : {A : Type 0} → (A → Option A) → A → A → Type 0
+ReachOne {A} turn a b = (c : A) × Reaches turn a c × Reaches turn b c
+
+-- one is reached from another at last: from each that is reached so
+abbrev pub IsLast : {A : Type 0} → (A → Option A) → A → A → Type 0
+IsLast {A} turn a last = Reaches turn a last × ((c : A) → Reaches turn a c → Reaches turn c last)
 
 -- the last that is reached, where it stays
 abbrev pub EndsBy : (View → Next) → View → View → Type 0

@@ -2,8 +2,8 @@
 
 ghost use Rattle.std.specs.Prelude.{◌≡◌, ◌<◌, ◌↔◌, Decides, IsTrue, MatchOption, option_map};
 ghost use Rattle.decoded_records.specs.declared.view.View.{View};
-ghost use Rattle.vat_view.specs.Walks.{next, stays, turned_to, Leads, LeadsByTurns, IsEnd};
-ghost use Rattle.vat_view.specs.Connections.{LeadsOver, LeadsElsewhere};
+ghost use Rattle.vat_view.specs.Walks.{next, stays, turned_to, Leads, LeadsByTurns, AreOne, Became, IsEnd};
+ghost use Rattle.vat_view.specs.Connections.{LeadsOver, LeadsElsewhere, CameBack};
 ghost use Rattle.decoded_records.specs.Borrowed.{as_view};
 
 use crate::state::VatState;
@@ -58,6 +58,26 @@ impl VatState {
         )
     }
 
+    /// Whether two views are one: both lead, by 0 or more turns, to a common view. It walks twice as often as
+    /// [`VatState::leads`] at most, and takes no memory.
+    pub fn are_one(&self, a: &View, b: &View) -> bool
+        ensures { IsTrue result ↔ AreOne self.now a.now b.now }
+    {
+        hops::are_one(
+            &self.tables.turns,
+            &self.tables.bound,
+            BorrowedView::of(a),
+            BorrowedView::of(b),
+        )
+    }
+
+    /// Whether a view became another: it turned, and is one with it. It takes no memory.
+    pub fn became(&self, from: &View, to: &View) -> bool
+        ensures { IsTrue result ↔ Became self.now from.now to.now }
+    {
+        self.turned_to(from).is_some() && self.are_one(from, to)
+    }
+
     /// The end of a view: the view to which it leads and which goes on nowhere. It has none where its walk stops or
     /// goes in a circle. It takes no memory.
     pub fn end<'a>(&'a self, view: &'a View) -> Option<BorrowedView<'a>>
@@ -99,6 +119,22 @@ impl VatState {
             &self.tables.connections,
             BorrowedView::of(from),
             sought,
+        )
+    }
+
+    /// Whether a view leads, by 0 or more turns, to one that came back over this connection: it is reached over it, and the
+    /// message that turned it turned it to what is this vat's own (rpc.capnp, the comments of `Disembargo`,
+    /// `CapDescriptor.receiverHosted` and `receiverAnswer`). It takes no memory.
+    pub fn came_back(&self, from: &View, connection: u32) -> bool
+        ensures { Decides result (CameBack self.now from.now connection) }
+    {
+        leads_to(
+            &self.tables.turns,
+            &self.tables.bound,
+            &self.tables.arrivals,
+            &self.tables.connections,
+            BorrowedView::of(from),
+            Sought::Back(connection),
         )
     }
 }

@@ -18,7 +18,7 @@ use crate::tables::turns::settlements::Settlements;
 use crate::tables::waits::embargoes::Embargoes;
 use crate::tables::waits::loopbacks::{asks_for_echo, sender_loopback};
 use crate::tables::waits::waiting_calls::{call_taken_by, heading_taken};
-use decoded_records::{DecodedRecord, descriptors, promise_resolved};
+use decoded_records::{DecodedRecord, promise_resolved};
 use number_tables::{Calls, ExportsImports, Questions};
 use std::alloc::{AllocError, Global};
 
@@ -205,8 +205,8 @@ impl AllTables {
         }
     }
 
-    /// Tells the tables of one record that brings imports over a connection, and has this number in the log. Where memory
-    /// is refused, they are of the records before.
+    /// Tells the tables of one record that brings imports or something back over a connection, and has this number in the
+    /// log. Where memory is refused, they are of the records before.
     fn tell_arriving(
         &mut self,
         number: usize,
@@ -222,8 +222,7 @@ impl AllTables {
             → AreWhole before number self.new) }
     {
         let alloc = self.lives.allocator();
-        self.arrivals
-            .put(alloc, number, connection, descriptors(event))?;
+        self.arrivals.put(alloc, number, connection, event)?;
         if self.tell_others(number, event).is_err() {
             self.arrivals.forget(number);
             return Err(AllocError);

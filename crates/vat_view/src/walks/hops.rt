@@ -4,7 +4,7 @@ ghost use Rattle.std.specs.Prelude.{◌≡◌, ◌↔◌, ◌<◌, ◌^◌, IsTr
 ghost use Rattle.vat_view.specs.Types.{View, FieldOf};
 ghost use Rattle.decoded_records.specs.Borrowed.{as_view};
 ghost use Rattle.vat_view.specs.Glue.Tables.{bound_at};
-ghost use Rattle.vat_view.specs.Glue.TurnTables.{settled_at, goes_by, turn_by, landed_by, reference_by, turns_of, most_turns, after_turns, Reaches, TurnsAndThen, TurnsOn, ReachesByTurns, EndsBy, HaveAhead, view_ahead_at};
+ghost use Rattle.vat_view.specs.Glue.TurnTables.{settled_at, goes_by, turn_by, landed_by, reference_by, turns_of, most_turns, after_turns, Reaches, TurnsAndThen, TurnsOn, ReachesByTurns, ReachOne, IsLast, EndsBy, HaveAhead, view_ahead_at};
 
 use crate::tables::references::BoundReferences;
 use crate::tables::turns::settlements::Settlements;
@@ -337,6 +337,46 @@ pub(crate) fn leads_by_turns(
         Some(next) => leads(turns, bound, next, to),
         None => false,
     }
+}
+
+/// A view to which a view comes at last, from each view to which it leads: the one that turns no more, or where it goes in a
+/// circle one of that. It walks as [`end`] does.
+fn last<'a>(
+    turns: &Settlements,
+    bound: &'a BoundReferences,
+    view: BorrowedView<'a>,
+) -> BorrowedView<'a>
+    requires { HaveAhead turns.now bound.now }
+    ensures { IsLast (turns_of turns.now bound.now) (as_view view.entry) (as_view result) }
+{
+    let mut at = view;
+    let mut mark = view;
+    for hop in 0..most_turns(turns, bound) {
+        match hop_by(turns, bound, at) {
+            Some(next) => at = next,
+            None => return at,
+        }
+        if at.is_same(mark) {
+            return at;
+        }
+        if hop.is_power_of_two() {
+            mark = at;
+        }
+    }
+    at
+}
+
+/// Whether two views lead to a common one. Mostly the first leads to the second.
+pub(crate) fn are_one(
+    turns: &Settlements,
+    bound: &BoundReferences,
+    a: BorrowedView<'_>,
+    b: BorrowedView<'_>,
+) -> bool
+    requires { HaveAhead turns.now bound.now }
+    ensures { IsTrue result ↔ ReachOne (turns_of turns.now bound.now) (as_view a.entry) (as_view b.entry) }
+{
+    leads(turns, bound, a, b) || leads(turns, bound, a, last(turns, bound, b))
 }
 
 /// A view, where no record settled it.

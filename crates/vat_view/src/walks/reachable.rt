@@ -1,12 +1,12 @@
 //! Walks to views of a kind.
 
-ghost use Rattle.std.specs.Prelude.{◌≡◌, ◌↔◌, IsTrue};
+ghost use Rattle.std.specs.Prelude.{◌≡◌, ◌↔◌, IsTrue, option_map};
 ghost use Rattle.decoded_records.specs.Past.{is};
 ghost use Rattle.decoded_records.specs.Borrowed.{as_view};
 ghost use Rattle.vat_view.specs.Glue.Tables.{bound_at};
 ghost use Rattle.vat_view.specs.Connections.{is_own, is_another};
-ghost use Rattle.vat_view.specs.Glue.TurnTables.{turn_by, HaveAhead};
-ghost use Rattle.vat_view.specs.Glue.ConnectionTables.{over_by, is_elsewhere_by, sought_by, ReachesOne};
+ghost use Rattle.vat_view.specs.Glue.TurnTables.{settled_at, turn_by, HaveAhead};
+ghost use Rattle.vat_view.specs.Glue.ConnectionTables.{over_by, is_elsewhere_by, brought_back_by, sought_by, ReachesOne};
 
 use crate::tables::arrivals::Arrivals;
 use crate::tables::connections::Connections;
@@ -23,6 +23,8 @@ pub(crate) enum Sought {
     Over(u32),
     /// Those that are elsewhere than over this connection, by the edition of the log.
     Elsewhere(u32, Edition),
+    /// Those that came back over this connection.
+    Back(u32),
 }
 
 /// The connection over which a view is reached.
@@ -86,19 +88,55 @@ fn is_elsewhere(
     }
 }
 
+/// The number of the record that settled a view, if one did.
+fn settled_at(turns: &Settlements, view: BorrowedView<'_>) -> Option<usize>
+    ensures { result ≡ option_map (λ s. s.0) (settled_at turns.now (as_view view.entry)) }
+{
+    match view {
+        BorrowedView::Object(_) => None,
+        BorrowedView::Promise(promise) => turns.of_promise(promise),
+        BorrowedView::Field(call, _) => turns.of_call(call),
+        BorrowedView::Import(number, place) => turns.of_import(number, place),
+    }
+}
+
+/// Whether a view turned, and what turned it brought it back.
+fn was_brought_back(
+    turns: &Settlements,
+    bound: &BoundReferences,
+    arrivals: &Arrivals,
+    view: BorrowedView<'_>,
+) -> bool
+    ensures { result
+        ≡ brought_back_by turns.now (bound_at bound.now) arrivals.now (as_view view.entry) }
+{
+    match settled_at(turns, view) {
+        Some(number) => {
+            turned_to(turns, bound, view).is_some() && arrivals.brings_back(number, view.path())
+        }
+        None => false,
+    }
+}
+
 /// Whether a view is sought.
 fn is_sought(
+    turns: &Settlements,
+    bound: &BoundReferences,
     arrivals: &Arrivals,
     connections: &Connections,
     sought: Sought,
     view: BorrowedView<'_>,
 ) -> bool
-    ensures { result ≡ sought_by arrivals.now connections.now sought (as_view view.entry) }
+    ensures { result ≡ sought_by
+        turns.now (bound_at bound.now) arrivals.now connections.now sought (as_view view.entry) }
 {
     let over = reached_over(arrivals, connections, view);
     match sought {
         Sought::Over(connection) => is_this(connection, over),
         Sought::Elsewhere(connection, edition) => is_elsewhere(edition, connection, view, over),
+        Sought::Back(connection) => {
+            is_this(connection, over) && was_brought_back(turns, bound, arrivals, view)
+        }
     }
 }
 
@@ -115,13 +153,13 @@ pub(crate) fn leads_to(
     requires { HaveAhead turns.now bound.now }
     ensures { IsTrue result
         ↔ ReachesOne (turn_by turns.now (bound_at bound.now))
-        (sought_by arrivals.now connections.now sought) (as_view from.entry) }
+        (sought_by turns.now (bound_at bound.now) arrivals.now connections.now sought) (as_view from.entry) }
 {
     let mut view = from;
     let mut far = from;
     for _made in 0..most_turns(turns, bound) {
-        if is_sought(arrivals, connections, sought, far)
-            || is_sought(arrivals, connections, sought, view)
+        if is_sought(turns, bound, arrivals, connections, sought, far)
+            || is_sought(turns, bound, arrivals, connections, sought, view)
         {
             return true;
         }
@@ -131,5 +169,5 @@ pub(crate) fn leads_to(
         }
         far = further(turns, bound, far);
     }
-    is_sought(arrivals, connections, sought, view)
+    is_sought(turns, bound, arrivals, connections, sought, view)
 }

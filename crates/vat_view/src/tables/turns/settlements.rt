@@ -1,6 +1,6 @@
 //! The table of turns.
 
-ghost use Rattle.std.specs.Prelude.{◌≡◌, ◌==◌, ◌<◌, ◌^◌, ◌⊎◌, ℕ, unwrap_or, Option, None, Some, OnOk, IsTrue, is_some, option_and_then, if◌then◌else◌};
+ghost use Rattle.std.specs.Prelude.{◌≡◌, ◌==◌, ◌<◌, ◌^◌, ◌⊎◌, ℕ, unwrap_or, Option, None, Some, OnOk, IsTrue, is_some, option_map, option_and_then, if◌then◌else◌};
 ghost use Rattle.std.specs.BTreeMap.{get};
 ghost use Rattle.rising_table.specs.Entries.{entry_at};
 ghost use Rattle.vat_view.specs.declared.record.unsettled.Unsettled.{Unsettled};
@@ -153,6 +153,16 @@ impl Settlements {
         }
     }
 
+    /// The number of the record that settled this promise, if one did.
+    pub(crate) fn of_promise(&self, promise: u64) -> Option<usize>
+        ensures { result ≡ option_map (λ s. s.0) (settled_at self.now (Promise promise)) }
+    {
+        match self.promises.get(promise) {
+            Some(ended) => ended.number(),
+            None => None,
+        }
+    }
+
     /// The reference to which the record that settled this promise turned it, if one did.
     pub(crate) fn promise_target(&self, promise: u64) -> Option<u64>
         ensures { result ≡ option_and_then (λ s. s.1) (settled_at self.now (Promise promise)) }
@@ -179,6 +189,16 @@ impl Settlements {
     {
         match self.imports.get(&Unsettled::Import(number, place)) {
             Some(ended) => ended.target(),
+            None => None,
+        }
+    }
+
+    /// The number of the record that settled this import, if one did.
+    pub(crate) fn of_import(&self, number: usize, place: usize) -> Option<usize>
+        ensures { result ≡ option_map (λ s. s.0) (settled_at self.now (Import number place)) }
+    {
+        match self.imports.get(&Unsettled::Import(number, place)) {
+            Some(ended) => ended.number(),
             None => None,
         }
     }

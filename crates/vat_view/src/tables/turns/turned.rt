@@ -1,6 +1,6 @@
 //! Where records turned what they settled, kept without the records.
 
-ghost use Rattle.std.specs.Prelude.{◌≡◌, Some, option_and_then, is_some};
+ghost use Rattle.std.specs.Prelude.{◌≡◌, Some, option_and_then, option_map, is_some};
 ghost use Rattle.vat_view.specs.Glue.TurnTables.{target_in, is_nowhere, ended};
 
 use crate::tables::turns::field_targets::FieldTargets;
@@ -73,6 +73,16 @@ impl Ended {
         ensures { result ≡ is_some (ended self) }
     {
         !matches!(self, Ended::Open)
+    }
+
+    /// The number of the record that ended it, if one did.
+    pub(crate) fn number(self) -> Option<usize>
+        ensures { result ≡ option_map (λ settled. settled.0) (ended self) }
+    {
+        match self {
+            Ended::Open => None,
+            Ended::Nowhere(number) | Ended::Reference(number, _) => Some(number as usize),
+        }
     }
 
     /// The reference to which it turned, if it did.

@@ -6,4 +6,4 @@ use Rattle.vat_rules.proofs.rules.of_caps.notes_views.Given as goal
 
 abbrev pub invariant-loop-reference : goal.invariant-loop-reference
 invariant-loop-reference l =
-    AllByRecursion (NotesView l.state l.event) l.noted ↔ AllByRecursion (NotesView l.state l.event) (drop l.reference-index l.noted)
+    AllByRecursion (NotesView l.edition l.state l.event) l.noted ↔ AllByRecursion (NotesView l.edition l.state l.event) (drop l.reference-index l.noted)

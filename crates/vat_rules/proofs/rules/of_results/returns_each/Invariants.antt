@@ -6,4 +6,4 @@ use Rattle.vat_rules.proofs.rules.of_results.returns_each.Given as goal
 
 abbrev pub invariant-loop-path : goal.invariant-loop-path
 invariant-loop-path l =
-    AllByRecursion (ReturnsField l.state l.event l.call) l.fields ↔ AllByRecursion (ReturnsField l.state l.event l.call) (drop l.path-index l.fields)
+    AllByRecursion (ReturnsField l.edition l.state l.event l.call) l.fields ↔ AllByRecursion (ReturnsField l.edition l.state l.event l.call) (drop l.path-index l.fields)

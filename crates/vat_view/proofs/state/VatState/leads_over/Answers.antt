@@ -19,7 +19,7 @@ returns c =
     goes_so c.self.inside.past.items c.args.self.now c.self.inside.tables.questions c.self.inside.tables.lives c.self.inside.tables.bound c.self.inside.tables.turns
     c.self.view_is c.self.invariant.0.0.tabled c.self.invariant.0.2 in
     subst (λ v. Decides c.leads_to.result (LeadsOver c.args.self.now v c.args.connection)) c.of.ensures
-    (one_known going c.args.self.now same (λ v. sought_by c.self.inside.tables.arrivals c.self.inside.tables.connections (Over c.args.connection) v)
+    (one_known going c.args.self.now same (λ v. sought_by c.self.inside.tables.turns (bound_at c.self.inside.tables.bound) c.self.inside.tables.arrivals c.self.inside.tables.connections (Over c.args.connection) v)
     (λ v. reached_over c.args.self.now v ≡ Some c.args.connection)
-    (over_decides c.self.inside.past.items c.args.self.now c.self.inside.tables.arrivals c.self.inside.tables.connections c.self.view_is c.self.invariant.2 c.self.invariant.0.3 c.args.connection)
+    (over_decides c.self.inside.past.items c.args.self.now c.self.inside.tables.arrivals c.self.inside.tables.connections c.self.inside.tables.turns (bound_at c.self.inside.tables.bound) c.self.view_is c.self.invariant.2 c.self.invariant.0.3 c.args.connection)
     (as_view c.of.result) c.leads_to.result c.leads_to.ensures)

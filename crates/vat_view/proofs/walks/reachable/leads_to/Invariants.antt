@@ -11,5 +11,5 @@ abbrev pub invariant-loop-made : goal.invariant-loop-made
 invariant-loop-made l = record {
   ahead : Reaches (turn_by l.turns (bound_at l.bound)) (as_view l.fn.from) (as_view l.far);
   here : after_turns (turn_by l.turns (bound_at l.bound)) l._made (Some (as_view l.fn.from)) ≡ Some (as_view l.view);
-  before : (m : ℕ) → m < l._made → (v : View) → after_turns (turn_by l.turns (bound_at l.bound)) m (Some (as_view l.fn.from)) ≡ Some v → IsTrue (sought_by l.arrivals l.connections l.sought v) → ⊥;
+  before : (m : ℕ) → m < l._made → (v : View) → after_turns (turn_by l.turns (bound_at l.bound)) m (Some (as_view l.fn.from)) ≡ Some v → IsTrue (sought_by l.turns (bound_at l.bound) l.arrivals l.connections l.sought v) → ⊥;
 }

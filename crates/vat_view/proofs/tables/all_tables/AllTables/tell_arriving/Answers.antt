@@ -1,5 +1,7 @@
-use Rattle.std.proofs.Common.{sym, ◌∙◌, ap, subst, ◌==◌, ◌∷◌, None, map, if◌then◌else◌}
-use Rattle.vat_view.specs.Glue.ArrivalTables.{hosted_in, brought_over, arrival_at, AreArrived}
+use Rattle.std.proofs.Common.{sym, ◌∙◌, ap, subst, ◌==◌, ◌∷◌, false, None, map, if◌then◌else◌}
+use Rattle.decoded_records.specs.Lives.{descriptors}
+use Rattle.vat_view.specs.Connections.{brings_back}
+use Rattle.vat_view.specs.Glue.ArrivalTables.{hosted_in, brought_over, arrival_at, back_at, AreArrived}
 use Rattle.vat_view.proofs.Binding.{any_err}
 use Rattle.vat_view.proofs.Importing.{arrivals_after, arrivals_forgotten}
 use Rattle.vat_view.proofs.Keeping.{one_more}
@@ -22,8 +24,7 @@ returns-clause-ok c = λ before whole sound.
       told.1,
       subst (λ a. AreArrived (c.args.event.now ∷ before) a) (sym c.tell_others.ensures.arrivals)
           (arrivals_after before c.args.event.now c.args.self.now.arrivals c.put.new.self c.args.number c.args.connection whole.3 c.requires
-          (λ n p. c.in_ok-put.ensures.ok n p
-          ∙ ap (λ ds. if c.args.number == n then brought_over c.args.connection (map hosted_in ds) p else arrival_at c.args.self.now.arrivals n p) c.descriptors.ensures) whole.2),
+          c.in_ok-put.ensures.imports c.in_ok-put.ensures.back whole.2),
       one_more before c.args.number c.args.event.now whole.3,
     )
 
@@ -33,7 +34,9 @@ returns-then-is_err-clause-err c = λ before whole sound.
       told.0,
       told.1,
       arrivals_forgotten before c.args.self.now.arrivals c.put.new.self c.forget.new.self c.args.number
-          (λ p. brought_over c.args.connection (map hosted_in c.descriptors.result.now) p) whole.3 c.in_ok-put.ensures.ok
-          (λ n p. c.forget.ensures n p ∙ ap (λ a. if c.args.number == n then None else arrival_at a n p) c.tell_others.ensures.arrivals) whole.2,
+          (λ p. brought_over c.args.connection (map hosted_in (descriptors c.args.event.now)) p) (λ path. brings_back path c.args.event.now) whole.3
+          c.in_ok-put.ensures.imports c.in_ok-put.ensures.back
+          (λ n p. c.forget.ensures.imports n p ∙ ap (λ a. if c.args.number == n then None else arrival_at a n p) c.tell_others.ensures.arrivals)
+          (λ n path. c.forget.ensures.back n path ∙ ap (λ a. if c.args.number == n then false else back_at a n path) c.tell_others.ensures.arrivals) whole.2,
       whole.3,
     )

@@ -4,10 +4,15 @@ use crate::answer_notes::case_of;
 use crate::found::{found, log_of, made};
 use crate::heard::Heard;
 use bytes::Bytes;
-use past_records::NoteText;
+use case_book::Case;
+use exception_reasons::record_reason;
+use past_records::{NoteText, message_at, put_reason};
 use record_notes::{OpenCase, events_of, open_object, put_good};
+use rpc_view::{Loopback, RpcMessage, ViewError};
 use serde_json::Value;
 use std::alloc::{AllocError, Global};
+use std::collections::BTreeSet;
+use vat_log::VatLog;
 
 /// What people are told beside an answer.
 #[derive(Drop)]
@@ -35,6 +40,110 @@ pub enum Form {
     Text,
     /// An object, in which all that is open stands, too.
     Json,
+}
+
+/// What a frame says, or why it isn't read; none where there is no frame.
+type Read = Option<Result<RpcMessage, ViewError>>;
+
+/// Whether a frame is an abort.
+fn is_abort(read: &Read) -> bool {
+    matches!(read, Some(Ok(RpcMessage::Abort)))
+}
+
+/// Whether a frame is a senderLoopback.
+fn asks_echo(read: &Read) -> bool {
+    match read {
+        Some(Ok(RpcMessage::Disembargo { loopback, .. })) => *loopback == Loopback::Sender,
+        _ => false,
+    }
+}
+
+/// The first record by which a log sent an abort, and its connection. Nothing is sent there behind it, so only the last frames of
+/// connections are read.
+fn abort_in(alloc: Global, log: &VatLog) -> Result<Option<(usize, u32)>, AllocError> {
+    let mut seen = BTreeSet::new(alloc);
+    let mut first = None;
+    for at in (0..log.len()).rev() {
+        if let Some((true, connection)) = passage_at(log, at) {
+            if seen.insert(connection)? && is_abort(&message_at(alloc, log, at)?) {
+                first = Some((at, connection));
+            }
+        }
+    }
+    Ok(first)
+}
+
+/// Whether the record of this number sends a frame or receives one, and on which connection.
+fn passage_at(log: &VatLog, at: usize) -> Option<(bool, u32)> {
+    log.get(at)?.body().passage()
+}
+
+/// Whether the reason of an abort is that a loopback is refused: C++ gives the test that failed, or names the message.
+fn refuses_loopback(alloc: Global, log: &VatLog, at: usize) -> Result<bool, AllocError> {
+    let Some(stored) = log.get(at) else {
+        return Ok(false);
+    };
+    let Some(reason) = record_reason(alloc, stored.body())? else {
+        return Ok(false);
+    };
+    let shown = format!(in alloc; "{reason}")?;
+    let shown = shown.as_str();
+    Ok(shown.contains("target->getBrand()") || shown.contains("Disembargo"))
+}
+
+/// The last record before this one that received a senderLoopback on a connection.
+fn loopback_before(
+    alloc: Global,
+    log: &VatLog,
+    end: usize,
+    connection: u32,
+) -> Result<Option<usize>, AllocError> {
+    for at in (0..end).rev() {
+        if passage_at(log, at) == Some((false, connection)) {
+            if let Some(
+                Ok(
+                    RpcMessage::Disembargo {
+                        loopback: Loopback::Sender,
+                        ..
+                    },
+                ),
+            ) = message_at(alloc, log, at)?
+            {
+                return Ok(Some(at));
+            }
+        }
+    }
+    Ok(None)
+}
+
+/// Appends the notes of the first abort that this log sent, if it sent one, and says whether it did. Where the abort refuses a
+/// loopback, the log is good, so the loopback's target led back to its sender: rule EMB asks that.
+fn put_abort(alloc: Global, text: &mut NoteText, log: &VatLog) -> bool {
+    let Some((at, connection)) = found(text, abort_in(alloc, log)) else {
+        return false;
+    };
+    let numbers = [u64::from(log.vat()), u64::from(connection), at as u64];
+    text.tell("note: vat # aborted connection # by record #", &numbers);
+    put_reason(alloc, text, log, at, ": ");
+    text.words("\n");
+    if made(text, refuses_loopback(alloc, log, at)) == Some(true) {
+        if let Some(asked) = found(text, loopback_before(alloc, log, at, connection)) {
+            text.tell(
+                "note: it refuses a loopback whose target led back to its sender, by the records before: its record # received that one\n",
+                &[asked as u64],
+            );
+        }
+    }
+    true
+}
+
+/// Appends the notes of the first vat of a case that aborted a connection, if one did.
+fn put_first_abort(alloc: Global, text: &mut NoteText, case: &Case) {
+    for log in case.logs() {
+        if put_abort(alloc, text, log) {
+            return;
+        }
+    }
 }
 
 /// Appends the notes of what is open at the end of a case whose report is yes, or of a log that is good; and gives it, where it is
@@ -75,6 +184,7 @@ fn put_kept(
     form: Form,
 ) -> Option<Value> {
     let case = found(text, case_of(alloc, files))?;
+    put_first_abort(alloc, text, &case);
     put_case(alloc, text, OpenCase::of_case(alloc, &case, files), form)
 }
 
@@ -88,6 +198,7 @@ pub(crate) fn put_yes(
 ) -> Option<Value> {
     match &heard.findings {
         Some(findings) => {
+            put_first_abort(alloc, text, findings.case());
             put_case(
                 alloc,
                 text,

@@ -177,19 +177,30 @@ ROWS = [
     ("EMB", BOOTED + [came(disembargo(0, 1, 4))], 4, ["no senderLoopback of this number waits for its echo"]),
     ("RECVREF", [sent(boot(0), 1), came(given(0, 0))], 1, ["capabilities in its table: 1, references noted: 0"]),
     ("CLOSED", [sent(abort()), sent(boot(0), 1)], 1, ["record 0 sent an abort there"]),
-    ("CLOSED", [came(abort()), sent(boot(0), 1)], 1, ["record 0 received an abort there"]),
-    ("CLOSED", [came(abort()), sent(abort())], 1, ["record 0 received an abort there", "it answers that abort: C++ does so, and a log of version 3 allows it"]),
-    ("CLOSED", [came(abort()), came(boot(0), 1), sent(canceled(0))], 2, ["record 0 received an abort there"]),
+    ("CLOSED", [came(abort()), sent(boot(0), 1)], 1, ["record 0 received an abort there", "in a log of version 3 an abort that was received forbids nothing"]),
+    ("CLOSED", [came(abort()), sent(abort())], 1, ["record 0 received an abort there", "in a log of version 3 an abort that was received forbids nothing"]),
+    ("CLOSED", [came(abort()), came(boot(0), 1), sent(canceled(0))], 2, ["record 0 received an abort there", "in a log of version 3 an abort that was received forbids nothing"]),
+]
+
+# The same of logs of version 3.
+LATER_ROWS = [
+    ("GOAL", HELD + [sent(boot(1), 2), came(given(1, 1), references=[2]), make(3, 1), sent(call(2, 1), 3)], 5, ["call 3 was made by record 4, through reference 1", "call 3 is meant for what record 1 brought as capability 0", "so it was expected to go to what record 1 brought as capability 0, or to what leads there", "its target stands for what record 3 brought as capability 0", "import 1 of connection 0 was introduced by record 3"]),
+    ("DESC", BOOTED + [host(2, 8), came(boot(1), 2), answer(2, (2, [])), sent(given(1, 0), references=[2])], 7, ["entry 0 of its table has reference 2 beside it", "reference 2 is object 8, bound by record 4", "object 8 and entry 0 of its table lead to nothing in common", "entry 0 of its table, senderHosted 0, stands for object 7", "export 0 of connection 0 was introduced by record 3"]),
+    ("RESULT", [host(1, 7), host(2, 8), came(boot(0), 1), answer(1, (1, [])), sent(given(0, 0), references=[2])], 4, ["record 3 tells the results of call 1", "result [] of call 1 is object 7, by record 3", "result [] of call 1 and entry 0 of its table lead to nothing in common", "entry 0 of its table, senderHosted 0, stands for object 8"]),
+    ("RESULT", [host(1, 7), vow(2), came(boot(0), 1), answer(1, (1, [])), sent(promised(0, 0), references=[2])], 4, ["record 3 tells the results of call 1", "result [] of call 1 is object 7, by record 3", "result [] of call 1 and entry 0 of its table lead to nothing in common", "entry 0 of its table, senderPromise 0, stands for the promise of reference 2"]),
+    ("EMB", HELD + [sent(disembargo(0, 0, 4))], 2, ["its target stands for what record 1 brought as capability 0", "calls come back over connection 0 only from what isn't reached over it, or came back over it"]),
+    ("CLOSED", [came(abort()), sent(abort()), sent(boot(0), 1)], 2, ["record 1 sent an abort there"]),
 ]
 
 
 def main():
     program = os.path.realpath(sys.argv[1])
+    rows = [(b"VATLOG02", row) for row in ROWS] + [(b"VATLOG03", row) for row in LATER_ROWS]
     differ = 0
     with tempfile.TemporaryDirectory() as room:
-        for number, (rule, records, at, notes) in enumerate(ROWS):
+        for number, (magic, (rule, records, at, notes)) in enumerate(rows):
             with open(os.path.join(room, "a.log"), "wb") as out:
-                out.write(b"VATLOG02" + struct.pack("<I", 5) + b"".join(records))
+                out.write(magic + struct.pack("<I", 5) + b"".join(records))
             ran = subprocess.run([program, "vat", "a.log"], cwd=room, capture_output=True, text=True)
             line = f"no vat 5 record {at} rule {rule}\n"
             wanted = [f"note: {note}" for note in notes]
@@ -198,7 +209,7 @@ def main():
             if ran.stdout != line or not named or said[2:] != wanted:
                 differ += 1
                 print(f"row {number}, {rule}: {ran.stdout!r}\n  came   {said}\n  wanted {wanted}")
-    print(f"{len(ROWS) - differ} rows as they must, {differ} differ")
+    print(f"{len(rows) - differ} rows as they must, {differ} differ")
     sys.exit(differ > 0)
 
 

@@ -36,14 +36,14 @@ pub fn rule_sentence(rule: Rule) -> &'static str
             "a call ends once, where it was delivered or is a received Bootstrap's, and no path of its results has two answers"
         }
         Rule::Desc => {
-            "each capability that is sent has one reference, which leads to what its entry stands for, a number in use is introduced again as it first was, and a Return with noFinishNeeded has no capabilities"
+            "each capability that is sent has one reference, which leads to what its entry stands for, or in a log of version 3 is one with it, a number in use is introduced again as it first was, and a Return with noFinishNeeded has no capabilities"
         }
         Rule::Count => "nothing gives back more of a number than is held",
         Rule::Result => {
-            "a Return has the results that are known of its call, each capability leading to what its entry stands for, or takes those of the call by which it was answered, in a log of version 3 its own too; results go elsewhere where that was asked, and canceled comes after a Finish"
+            "a Return has the results that are known of its call, each leading to what its entry stands for, or in a log of version 3 one with it, or takes those of the call by which it was answered, there its own too; results go elsewhere where that was asked, and canceled comes after a Finish"
         }
         Rule::Resolve => {
-            "a Resolve names a promise that had none, and when it is sent the promise has turned to what it says"
+            "a Resolve names a promise that had none, and when it is sent the promise has turned to what it says, or in a log of version 3 to what is one with it"
         }
         Rule::RecvRef => {
             "a received message has one new reference for each capability in its table, and none where it is a late Return"

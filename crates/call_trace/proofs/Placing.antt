@@ -6,12 +6,14 @@ use Rattle.std.specs.Option.{option_or}
 use Rattle.std.proofs.lemmas.Bool.{cases_Bool, eq-eqb, and_left, and_right, and_from, and_parts, or_left, or_right, false_from_ne_true, false≢true}
 use Rattle.decoded_records.specs.Past.{Past, Each, point, id, last_answer, last_where}
 use Rattle.decoded_records.specs.Bindings.{Refers}
-use Rattle.decoded_records.specs.Calls.{brings, takes, request_of, delivers, boots, has_passed, is_at_vat, is_served, is_settled, moves as log_moves}
+use Rattle.decoded_records.specs.Calls.{brings, takes, request_of, goal_of, delivers, boots, has_passed, is_at_vat, is_served, is_settled, moves as log_moves}
 use Rattle.decoded_records.specs.Views.{view_of_reference, view_of_target}
 use Rattle.decoded_records.specs.Questions.{is_late, call_of}
 use Rattle.decoded_records.specs.declared.request.Request.{Request as AskedOf}
+use Rattle.agree.proofs.Good.{all_sound}
+use Rattle.vat_view.specs.Walks.{here as stay}
 use Rattle.vat_rules.specs.Judged.{IsGood}
-use Rattle.vat_rules.specs.Ways.{LeadsTo}
+use Rattle.vat_rules.specs.Ways.{LeadsTo, AreOneThere}
 use Rattle.vat_rules.specs.declared.rule.Rule.TheVariants as rule
 use Rattle.rpc_view.specs.declared.message.Payload.{Payload}
 use Rattle.call_trace.specs.Types.{RpcMessage, Target, Results, Exception, Canceled, Elsewhere, TakeFrom, Bootstrap, Call, Return, Finish, Resolve, Release, Disembargo, Abort, DecodedRecord, Host, Vow, Fulfil, Break, Make, Field, Deliver, Answer, AnswerBy, Fault, Wire, View, Object, Name, Cap, Message, Step}
@@ -22,13 +24,16 @@ use Rattle.call_trace.specs.Placed.{AsksFor, IsThere}
 use Rattle.call_trace.specs.Within.{IsWithin}
 use Rattle.call_trace.proofs.AsSent.{read, heard, says_read, says_heard}
 use Rattle.call_trace.proofs.Naming.{mapped_is, then_is, call_keeps, cap_keeps}
-use Rattle.call_trace.proofs.Within.{heads, tails, each_earlier, all_leads}
+use Rattle.call_trace.proofs.Within.{heads, tails, each_earlier, ones_meet_there}
+use Rattle.call_trace.proofs.Using.{known_named, target_known}
+use Rattle.run_model.specs.Leads.{Meets}
 use Rattle.run_model.specs.Leads.{Leads as RunLeads}
 use Rattle.run_model.specs.Legal.{IsLegal, MayCome, begins_call, arrives}
 use Rattle.run_model.specs.Links.{IsLinked}
 use Rattle.run_model.specs.Places.{Asked, asked_by_parts, Move, brings_it, takes_it_away, leaves_it, move_of, asked_after, at_vat}
 use Rattle.run_model.specs.Steps.{is_same_call, call, vat_of}
 use Rattle.run_model.specs.Steps.{EachStep}
+use Rattle.run_model.proofs.Meeting.{meets_object}
 use Rattle.run_model.proofs.Once.{names_same, or_either}
 use Rattle.run_model.proofs.Places.{Place, idle, held, flying, place, this_call, at_no_vat}
 use Rattle.run_model.proofs.Spent.{spends, arrived_spent}
@@ -598,40 +603,36 @@ is_here v es steps before w good c h name named =
 
 -- ---- where a call goes
 
-module _ (v : ℕ) (es : Past) (steps before : List Step) (w : IsWithin v es steps before) where
-  -- one view leads to another, whose name is as it is here and later
-  name_leads : (names : View → Option Cap) → ((view : View) (c : Cap) → cap_named v es steps view ≡ Some c → names view ≡ Some c) → (from to : Option View) (x y : Cap) →
-      option_and_then (cap_named v es steps) from ≡ Some x → option_and_then names to ≡ Some y → LeadsTo es from to → RunLeads before x y
-  name_leads names keeps None to x y from_named to_named led = absurd led
-  name_leads names keeps (Some a) None x y from_named to_named led = absurd led
-  name_leads names keeps (Some a) (Some b) x y from_named to_named led =
-      let z = all_leads v es steps before w a b x led from_named in
-      subst (RunLeads before x) (one_answer z.0 y (names b) (keeps b z.0 z.1) to_named) z.2
+-- a view that leads to another is one with it
+led_one : (es : Past) (from to : Option View) → LeadsTo es from to → AreOneThere es from to
+led_one es None to led = absurd led
+led_one es (Some a) None led = absurd led
+led_one es (Some a) (Some b) led = (b, led, stay)
 
-  -- a call's goal leads in the run where it leads in the log
-  goal_leads : (names : View → Option Cap) → ((view : View) (c : Cap) → cap_named v es steps view ≡ Some c → names view ≡ Some c) →
-      (here : Asked) (o : Option AskedOf) (to : Option View) (y : Cap) →
-      IsSomeAnd o (AsksFor (cap_named v es steps) here) → option_and_then names to ≡ Some y → LeadsTo es (option_and_then (λ a. a.goal) o) to → RunLeads before here.goal y
-  goal_leads names keeps here None to y said to_named led = absurd said
-  goal_leads names keeps here (Some a) to y said to_named led = name_leads names keeps a.goal to here.goal y said.0 to_named led
+-- a call's goal is one in the run with what it is one with in the log
+goal_meets : (v : ℕ) (es : Past) (steps before : List Step) → IsWithin v es steps before → (here : Asked) (o : Option AskedOf) (to : Option View) (y : Cap) →
+    IsSomeAnd o (AsksFor (cap_named v es steps) here) → option_and_then (cap_named v es steps) to ≡ Some y → AreOneThere es (option_and_then (λ a. a.goal) o) to → Meets before here.goal y
+goal_meets v es steps before w here None to y said to_named one = absurd said
+goal_meets v es steps before w here (Some a) to y said to_named one = ones_meet_there v es steps before w a.goal to here.goal y said.0 to_named one
 
 pub delivery_may_come : (v : ℕ) (es : Past) (steps before : List Step) (c object : ℕ) (s : Step) → IsWithin v es steps before → Each IsGood es → IsGood es (Deliver c object) →
     Says v es steps (Deliver c object) s → MayCome before s
 delivery_may_come v es steps before c object s w goods good says =
     let name = mapped_is (λ name. step.Deliver v name object) (call_named v es steps c) s says in
     let t = is_there v es steps before w goods c (good rule.Here) in
-    let leads = goal_leads v es steps before w (cap_named v es steps) (λ view c h. h) t.here (request_of c es) (Some (Object object)) (cap.Object v object) t.asks refl (good rule.Goal) in
+    let one = led_one es (goal_of c es) (Some (Object object)) (good rule.Goal) in
+    let leads = meets_object before t.here.goal v object (goal_meets v es steps before w t.here (request_of c es) (Some (Object object)) (cap.Object v object) t.asks refl one) in
     subst (MayCome before) name.2
     (subst (λ n. IsSomeAnd (at_vat before n v) (λ asked. RunLeads before asked.goal (cap.Object v object))) (one_answer t.name name.0 (call_named v es steps c) t.named name.1)
     (subst (λ o. IsSomeAnd o (λ asked. RunLeads before asked.goal (cap.Object v object))) (sym t.there) leads))
 
 -- what GOAL says of a Call that is sent, where it asks for this
 abbrev GoesOn : Past → Option View → ℕ → ℕ → Option AskedOf → Type 0
-GoesOn es to interface method o = IsSomeAnd o (λ a. LeadsTo es a.goal to × (interface ≡ a.interface) × (method ≡ a.method))
+GoesOn es to interface method o = IsSomeAnd o (λ a. AreOneThere es a.goal to × (interface ≡ a.interface) × (method ≡ a.method))
 
 goes_by : (names : View → Option Cap) (es : Past) (here : Asked) (interface method : ℕ) (to : Option View) (o : Option AskedOf) → IsSomeAnd o (AsksFor names here) →
     GoesOn es to interface method o →
-    LeadsTo es (option_and_then (λ a. a.goal) o) to × (interface ≡ here.interface) × (method ≡ here.method)
+    AreOneThere es (option_and_then (λ a. a.goal) o) to × (interface ≡ here.interface) × (method ≡ here.method)
 goes_by names es here interface method to None said goal = absurd said
 goes_by names es here interface method to (Some a) said goal = (goal.0, goal.1 ∙ sym said.1, goal.2 ∙ sym said.2)
 
@@ -645,10 +646,10 @@ sent_call_may_come v es steps before k c rs q target interface method params you
     let is : step.Send v k (message.Call m.call m.to interface method m.caps) ≡ s = ap (λ m. step.Send v k m) (sym m.is) ∙ sent.2 in
     let t = is_there v es steps before w goods c (good rule.Here) in
     let goal = goes_by (cap_named v es steps) es t.here interface method (view_of_target es e) (request_of c es) t.asks (good rule.Goal) in
-    let keeps : (view : View) (x : Cap) → cap_named v es steps view ≡ Some x → names.cap view ≡ Some x =
-    λ view x h. cap_keeps v (e ∷ []) es (s ∷ []) steps refl (good rule.Ref, tt) view x h in
-    let leads = goal_leads v es steps before w names.cap keeps t.here (request_of c es) (view_of_target es e) m.to t.asks m.targeted goal.0 in
-    let P : Asked → Type 0 = λ asked. RunLeads before asked.goal m.to × (interface ≡ asked.interface) × (method ≡ asked.method) in
+    let known = target_known es k c rs q target interface method params yourself (all_sound (e ∷ es) (good, goods)) in
+    let targeted = known_named v es steps before w e s (good rule.Ref) (view_of_target es e) known m.to m.targeted in
+    let meets = goal_meets v es steps before w t.here (request_of c es) (view_of_target es e) m.to t.asks targeted goal.0 in
+    let P : Asked → Type 0 = λ asked. Meets before asked.goal m.to × (interface ≡ asked.interface) × (method ≡ asked.method) in
     subst (MayCome before) is
     (subst (λ n. IsSomeAnd (at_vat before n v) P) (one_answer t.name m.call (call_named v es steps c) t.named m.named)
-    (subst (λ o. IsSomeAnd o P) (sym t.there) (leads, goal.1, goal.2)))
+    (subst (λ o. IsSomeAnd o P) (sym t.there) (meets, goal.1, goal.2)))

@@ -1,5 +1,5 @@
--- A sent Return with results comes after its call was answered or passed back, and its results and what a Resolve says are led
--- on to in the run.
+-- A sent Return with results comes after its call was answered or passed back, and its results became in the run what it gives,
+-- as a promise became what its Resolve says.
 use Rattle.std.proofs.Common.{◌≡◌, ◌⊎◌, inl, inr, refl, sym, ◌∙◌, ap, ap₂, subst, ℕ, zero, suc, ◌==◌, List, [], ◌∷◌, ◌++◌, Bool, true, false, not, ◌&&◌, ◌||◌, Option, Some, None, if◌then◌else◌, option_and_then, option_map, slice_get, eqb-true}
 use Rattle.std.specs.Prelude.{map, IsSomeAnd, is_some}
 use Rattle.std.specs.List.{AllByRecursion, cons_option, list_any}
@@ -9,15 +9,17 @@ use Rattle.agree.proofs.Good.{all_sound}
 use Rattle.decoded_records.specs.Past.{Past, point, Each, id, is, last_answer, last_where}
 use Rattle.decoded_records.specs.Questions.{is_late, is_over, call_at, call_of, opening}
 use Rattle.decoded_records.specs.Lives.{descriptors}
-use Rattle.decoded_records.specs.Views.{view_of_reference, view_of_descriptor, descriptor_view}
+use Rattle.decoded_records.specs.Views.{view_of_number, view_of_reference, view_of_descriptor, descriptor_view}
 use Rattle.decoded_records.specs.Calls.{knows, has_passed, is_known, call_taken_from, answerer, answered_by}
 use Rattle.decoded_records.specs.Bindings.{Refers}
-use Rattle.vat_view.specs.Walks.{LeadsByTurns}
+use Rattle.vat_view.specs.Walks.{turned, onward}
+use Rattle.vat_view.specs.Walks.{here as stay}
 use Rattle.vat_rules.specs.Judged.{IsGood}
-use Rattle.vat_rules.specs.OfCaps.{is_cap_at}
+use Rattle.vat_rules.specs.OfCaps.{is_cap_at, is_own_number}
+use Rattle.vat_rules.specs.OfPromises.{ResolvesTo}
 use Rattle.vat_rules.specs.OfResults.{ReturnsField, ReturnsFields, ReturnsTaken}
 use Rattle.vat_rules.specs.Types.{Later}
-use Rattle.vat_rules.specs.Ways.{LeadsOnTo}
+use Rattle.vat_rules.specs.Ways.{LeadsOnTo, BecameThere, WentOn}
 use Rattle.vat_rules.specs.declared.rule.Rule.TheVariants as rule
 use Rattle.rpc_view.specs.declared.message.Payload.{Payload}
 use Rattle.call_trace.specs.Types.{Descriptor, NoCap, Outcome, Results, Exception, Canceled, Elsewhere, TakeFrom, Resolution, RpcMessage, Return, Resolve, DecodedRecord, Answer, AnswerBy, Wire, View, FieldOf, Name, Cap, Message, Step}
@@ -31,10 +33,10 @@ use Rattle.call_trace.proofs.AsSent.{read, heard, says_read, says_heard, taken_h
 use Rattle.call_trace.proofs.Naming.{then_is, mapped_is, call_keeps, cap_step}
 use Rattle.call_trace.proofs.Carried.{paired_at, each_after}
 use Rattle.call_trace.proofs.Tells.{read_return, return_said, call_is, in_time}
-use Rattle.call_trace.proofs.Within.{StandsIn, stands_in, each_earlier, by_turns_lead}
-use Rattle.call_trace.proofs.Using.{number_known, known_had}
+use Rattle.call_trace.proofs.Within.{StandsIn, stands_in, each_earlier, became_there}
+use Rattle.call_trace.proofs.Using.{number_known, described_known, known_named}
 use Rattle.call_trace.proofs.Sayable.{cap_at_is, unresolved_lives}
-use Rattle.run_model.specs.Legal.{is_present, answers_call, hands, sends_on, passes_back, is_passed_back, LeadsOn, IsLegal, MayCome, MaySend}
+use Rattle.run_model.specs.Legal.{is_present, answers_call, hands, sends_on, passes_back, is_passed_back, Became, IsLegal, MayCome, MaySend}
 use Rattle.run_model.specs.Links.{IsLinked}
 use Rattle.run_model.specs.Steps.{is_same_call, vat_of}
 use Rattle.run_model.specs.Steps.{EachStep}
@@ -289,7 +291,7 @@ answered_on v es steps before w call by name other answered named by_named =
     subst (λ name. IsHandedOn before es by name other) same
     (subst (λ other. IsHandedOn before es by told.0 other) same_by (told_on before es t.0 t.1 t.2 by told.0 told.1 pair.step w.legal w.linked at t.3 told.4))
 
--- ---- what stands at a place of a record's caps is led to where the log says so
+-- ---- what stands at a place of a record's caps is what a view became, where the log says so
 
 together_back : {A : Type 0} (f : A → Option Cap) (xs : List A) (i : ℕ) (cs : List Cap) (c : Cap) → all_there (map f xs) ≡ Some cs → slice_get cs i ≡ Some c → (x : A) × (slice_get xs i ≡ Some x) × (f x ≡ Some c)
 together_back f [] i cs c h there = let none : [] ≡ cs = some_same h in absurd (none_some (ap (λ l. slice_get l i) none ∙ there))
@@ -318,28 +320,49 @@ cap_there : (names : Naming) (es : Past) (e : DecodedRecord) (place : ℕ) (cs :
 cap_there names es e place cs c all there is =
     let d = together_back (descriptor_named names es e) (descriptors e) place cs c all there in cap_described names es e place c d.0 d.1 d.2 is
 
-module _ (v : ℕ) (es : Past) (steps before : List Step) (w : IsWithin v es steps before) (e : DecodedRecord) (s : Step) (refers : Refers es e) where
-  -- where a view leads to that of a descriptor, its name leads to the cap at that place
-  described_leads : (a : View) (x : Cap) (place : ℕ) (c : Cap) → cap_named v es steps a ≡ Some x → Describes (naming v (e ∷ es) (s ∷ steps)) es e place c →
-      (is_cap_at (slice_get (descriptors e) place) ≡ true → LeadsOnTo es (Some a) (view_of_descriptor es e place)) → LeadsOn before x c
-  described_leads a x place c named d keeps =
-      let leads : LeadsByTurns es a d.0 = subst (λ o. IsSomeAnd o (λ b. LeadsByTurns es a b)) d.1 (keeps d.3) in
-      let y = by_turns_lead v es steps before w a d.0 x leads named in
-      let same : y.0 ≡ c = some_same (sym (cap_step v es e steps s d.0 y.0 refers y.1) ∙ d.2) in
-      subst (λ y. LeadsOn before x y) same y.2
+-- a view became what it leads to by 1 or more turns
+led_on : (es : Past) (from to : Option View) → LeadsOnTo es from to → BecameThere es from to
+led_on es None to led = absurd led
+led_on es (Some a) None led = absurd led
+led_on es (Some a) (Some b) (turned {b = first} h rest) = (first, h, (b, onward h rest, stay))
 
-  results_lead : (call : ℕ) (name : Name) (cs : List Cap) (fields : List (List ℕ × ℕ)) → call_named v es steps call ≡ Some name → caps_named (naming v (e ∷ es) (s ∷ steps)) es e ≡ Some cs →
-      AllByRecursion (ReturnsField es e call) fields → AllByRecursion (λ result. LeadsOn before (cap.Field name result.0) result.1) (caps_at_paths cs fields)
-  results_lead call name cs [] named all rules = tt
-  results_lead call name cs (field ∷ fields) named all rules = at (cap_at field.1 cs) refl (results_lead call name cs fields named all rules.1)
+went_on : (own : Bool) (es : Past) (from to : Option View) → WentOn Later own es from to → BecameThere es from to
+went_on true es from to went = went
+went_on false es from to went = led_on es from to went
+
+resolved_to : (own : Bool) (es : Past) (from to : Option View) → ResolvesTo Later own es from to → BecameThere es from to
+resolved_to own es from to (inl led) = led_on es from to led
+resolved_to own es from to (inr became) = became.1
+
+module _ (v : ℕ) (es : Past) (steps before : List Step) (w : IsWithin v es steps before) (good : Each IsGood es) (k c : ℕ) (rs : List ℕ) (m : RpcMessage) (s : Step) (g : IsGood es (Wire true k c rs m)) (late : is_late es (Wire true k c rs m) ≡ false) where
+  abbrev telling : DecodedRecord
+  telling = Wire true k c rs m
+
+  -- where a view became that of a descriptor, its name became the cap at that place
+  described_became : (from : Option View) (x : Cap) (place : ℕ) (y : Cap) → option_and_then (cap_named v es steps) from ≡ Some x → Describes (naming v (telling ∷ es) (s ∷ steps)) es telling place y →
+      (is_cap_at (slice_get (descriptors telling) place) ≡ true → BecameThere es from (view_of_descriptor es telling place)) → Became before x y
+  described_became from x place y named d keeps =
+      let known = described_known es k c rs m (all_sound (telling ∷ es) (g, good)) late place d.0 d.1 in
+      let there = known_named v es steps before w telling s (g rule.Ref) (Some d.0) known y d.2 in
+      became_there v es steps before w from (Some d.0) x y named there (subst (BecameThere es from) d.1 (keeps d.3))
+
+  results_became : (call : ℕ) (name : Name) (cs : List Cap) (fields : List (List ℕ × ℕ)) → call_named v es steps call ≡ Some name → caps_named (naming v (telling ∷ es) (s ∷ steps)) es telling ≡ Some cs →
+      AllByRecursion (ReturnsField Later es telling call) fields → AllByRecursion (λ result. Became before (cap.Field name result.0) result.1) (caps_at_paths cs fields)
+  results_became call name cs [] named all rules = tt
+  results_became call name cs (field ∷ fields) named all rules = at (cap_at field.1 cs) refl (results_became call name cs fields named all rules.1)
     where
-      at : (o : Option Cap) → cap_at field.1 cs ≡ o → AllByRecursion (λ result. LeadsOn before (cap.Field name result.0) result.1) (caps_at_paths cs fields) →
-          AllByRecursion (λ (result : List ℕ × Cap). LeadsOn before (cap.Field name result.0) result.1) (cons_option (option_map (λ c. (field.0, c)) o) (caps_at_paths cs fields))
+      at : (o : Option Cap) → cap_at field.1 cs ≡ o → AllByRecursion (λ result. Became before (cap.Field name result.0) result.1) (caps_at_paths cs fields) →
+          AllByRecursion (λ (result : List ℕ × Cap). Became before (cap.Field name result.0) result.1) (cons_option (option_map (λ c. (field.0, c)) o) (caps_at_paths cs fields))
       at None h rest = rest
-      at (Some c) h rest =
-          let there = cap_at_is field.1 cs c h in
-          let d = cap_there (naming v (e ∷ es) (s ∷ steps)) es e field.1 cs c all there.0 there.1 in
-          (described_leads (FieldOf call field.0) (cap.Field name field.0) field.1 c (ap (λ o. option_map (λ n. cap.Field n field.0) o) named) d rules.0, rest)
+      at (Some y) h rest =
+          let there = cap_at_is field.1 cs y h in
+          let d = cap_there (naming v (telling ∷ es) (s ∷ steps)) es telling field.1 cs y all there.0 there.1 in
+          let from = Some (FieldOf call field.0) in
+          let own = is_own_number (slice_get (descriptors telling) field.1) in (
+            described_became from (cap.Field name field.0) field.1 y (ap (λ o. option_map (λ n. cap.Field n field.0) o) named) d
+            (λ caps. went_on own es from (view_of_descriptor es telling field.1) (rules.0 caps)),
+            rest,
+          )
 
 -- ---- together
 
@@ -368,9 +391,9 @@ module _ (v : ℕ) (es : Past) (steps before : List Step) (w : IsWithin v es ste
         let same : message.Late name ≡ M = some_same (sym (ap (λ b. say_return b payload.fields name (caps_named names es giving)) late) ∙ h) in subst (MaySend before v) same tt
     results_sent false late M name call asked named h =
         let told = return_said (is_late es giving) payload.fields name (caps_named names es giving) M late h in
-        let known : ReturnsFields es giving payload.fields call = subst (λ o. IsSomeAnd o (ReturnsFields es giving payload.fields)) asked (g rule.Result late).1 in
-        subst (MaySend before v) (sym told.2)
-        (known_returned v es steps before w call name known.0 named, results_lead v es steps before w giving s (g rule.Ref) call name told.0 payload.fields named told.1 known.1)
+        let known : ReturnsFields Later es giving payload.fields call = subst (λ o. IsSomeAnd o (ReturnsFields Later es giving payload.fields)) asked (g rule.Result late).1 in
+        let became = results_became v es steps before w good k c rs (Return q release (Results payload) light) s g late call name told.0 payload.fields named told.1 known.1 in
+        subst (MaySend before v) (sym told.2) (known_returned v es steps before w call name known.0 named, became)
 
     results_come : Says v es steps giving s → MayCome before s
     results_come says =
@@ -442,23 +465,22 @@ module _ (v : ℕ) (es : Past) (steps before : List Step) (w : IsWithin v es ste
   return_comes q release Elsewhere light s g says = free_comes (Return q release Elsewhere light) s message.Elsewhere (λ name. tt) q (λ names. refl) says
   return_comes q release (TakeFrom n) light s g says = taken_comes q release n light s g says
 
-  promise_leads : (n : ℕ) (resolution : Resolution) (s : Step) (promise : Cap) (cs : List Cap) → IsGood es (Wire true k c rs (Resolve n resolution)) →
+  promise_became : (n : ℕ) (resolution : Resolution) (s : Step) (promise : Cap) (cs : List Cap) → IsGood es (Wire true k c rs (Resolve n resolution)) →
       promise_named (naming v (Wire true k c rs (Resolve n resolution) ∷ es) (s ∷ steps)) es k true n ≡ Some promise → caps_named (naming v (Wire true k c rs (Resolve n resolution) ∷ es) (s ∷ steps)) es (Wire true k c rs (Resolve n resolution)) ≡ Some cs →
-      (x : Cap) → slice_get cs 0 ≡ Some x → is_present x ≡ true → LeadsOn before promise x
-  promise_leads n resolution s promise cs g named all x there is =
+      (x : Cap) → slice_get cs 0 ≡ Some x → is_present x ≡ true → Became before promise x
+  promise_became n resolution s promise cs g named all x there is =
       let e = Wire true k c rs (Resolve n resolution) in
-      let refers = g rule.Ref in
       let resolves = g rule.Resolve in
+      let from = view_of_number (id k true n) es in
       let known = number_known es k true n (all_sound es good) (unresolved_lives (id k true n) es resolves.0) in
-      let had = known_had v es steps before w known.0 known.2 in
-      let same : had.0 ≡ promise = some_same (sym (ap (λ o. option_and_then (cap_named v (e ∷ es) (s ∷ steps)) o) known.1 ∙ cap_step v es e steps s known.0 had.0 refers had.1) ∙ named) in
-      described_leads v es steps before w e s refers known.0 promise 0 x (had.1 ∙ ap (λ y. Some y) same) (cap_there (naming v (e ∷ es) (s ∷ steps)) es e 0 cs x all there is)
-      (λ caps. subst (λ o. LeadsOnTo es o (view_of_descriptor es e 0)) known.1 (resolves.1 caps))
+      let own = is_own_number (slice_get (descriptors e) 0) in
+      described_became v es steps before w good k c rs (Resolve n resolution) s g refl from promise 0 x (known_named v es steps before w e s (g rule.Ref) from known promise named)
+      (cap_there (naming v (e ∷ es) (s ∷ steps)) es e 0 cs x all there is) (λ caps. resolved_to own es from (view_of_descriptor es e 0) (resolves.1 caps))
 
-  resolve_sent : (promise : Cap) (cs : List Cap) → ((x : Cap) → slice_get cs 0 ≡ Some x → is_present x ≡ true → LeadsOn before promise x) → MaySend before v (say_resolve promise cs)
-  resolve_sent promise [] leads = tt
-  resolve_sent promise (cap.Nothing ∷ cs) leads = tt
-  resolve_sent promise (x ∷ cs) leads = leads x refl refl
+  resolve_sent : (promise : Cap) (cs : List Cap) → ((x : Cap) → slice_get cs 0 ≡ Some x → is_present x ≡ true → Became before promise x) → MaySend before v (say_resolve promise cs)
+  resolve_sent promise [] became = tt
+  resolve_sent promise (cap.Nothing ∷ cs) became = tt
+  resolve_sent promise (x ∷ cs) became = became x refl refl
 
   pub resolve_comes : (n : ℕ) (resolution : Resolution) (s : Step) → IsGood es (Wire true k c rs (Resolve n resolution)) → Says v es steps (Wire true k c rs (Resolve n resolution)) s → MayCome before s
   resolve_comes n resolution s g says =
@@ -467,4 +489,4 @@ module _ (v : ℕ) (es : Past) (steps before : List Step) (w : IsWithin v es ste
       let M = sent_is (Resolve n resolution) s says in
       let promise = then_is (λ promise. option_map (say_resolve promise) (caps_named names es e)) (promise_named names es k true n) M.0 M.1 in
       let cs = mapped_is (say_resolve promise.0) (caps_named names es e) M.0 promise.2 in
-      subst (MayCome before) M.2 (subst (MaySend before v) cs.2 (resolve_sent promise.0 cs.0 (promise_leads n resolution s promise.0 cs.0 g promise.1 cs.1)))
+      subst (MayCome before) M.2 (subst (MaySend before v) cs.2 (resolve_sent promise.0 cs.0 (promise_became n resolution s promise.0 cs.0 g promise.1 cs.1)))

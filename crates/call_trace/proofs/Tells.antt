@@ -1,4 +1,4 @@
--- Where a record turns a view to another, its step turns the one's name to the other's, or tells that it leads there.
+-- Where a record turns a view to another, its step turns the one's name to the other's, or tells that it became that.
 use Rattle.std.proofs.Common.{◌≡◌, refl, sym, ◌∙◌, ap, ap₂, subst, ℕ, ◌==◌, List, [], ◌∷◌, Bool, true, false, ◌&&◌, Option, Some, None, if◌then◌else◌, option_and_then, option_map, slice_get, eqb-true, ◌⊎◌, inl, inr}
 use Rattle.std.specs.Prelude.{map, find, unwrap_or}
 use Rattle.std.specs.List.{cons_option, filter_map}

@@ -25,7 +25,7 @@ use Rattle.vat_view.proofs.Viewed.{all_viewed, begins_parts, begins_some, export
 use Rattle.call_trace.specs.Types.{Descriptor, NoCap, SenderHosted, SenderPromise, ReceiverHosted, ReceiverAnswer, Target, Imported, Promised, TakeFrom, RpcMessage, Bootstrap, Call, Return, DecodedRecord, Wire, View, FieldOf, Import, Cap, Step}
 use Rattle.call_trace.specs.Naming.{cap_named}
 use Rattle.call_trace.specs.Within.{IsWithin}
-use Rattle.call_trace.proofs.Naming.{then_is, calls_named}
+use Rattle.call_trace.proofs.Naming.{then_is, calls_named, cap_step}
 use Rattle.call_trace.proofs.Having.{reference_had, call_had}
 use Rattle.run_model.specs.Has.{Has}
 use Rattle.run_model.specs.declared.cap.Cap.TheVariants as cap
@@ -259,6 +259,16 @@ module _ (es : Past) (k c : ℕ) (rs : List ℕ) (m : RpcMessage) (sound : Each 
       let kept = all_split test (option_to_list (question_targeted e)) (filter_map (question_described e) (descriptors e)) parts.0 in
       inr (field_known es refers_all (id k true q) path (kept_at (question_described e) test (descriptors e) j (ReceiverAnswer q path) (id k true q) kept.1 at refl))
 
+  -- what the descriptor at a place stands for
+  pub described_known : is_late es (Wire true k c rs m) ≡ false → (place : ℕ) (b : View) → view_of_descriptor es (Wire true k c rs m) place ≡ Some b → StandsKnown es (Some b)
+  described_known late place b was =
+      let e = Wire true k c rs m in
+      let d = then_is (descriptor_view (view_of_reference es) es e) (slice_get (descriptors e) place) b was in
+      elim (descriptor_known late place d.0 d.1) [
+        | inl none ↦ absurd (none_some (sym (ap (descriptor_view (view_of_reference es) es e) none) ∙ d.2))
+        | inr known ↦ subst (StandsKnown es) d.2 known
+      ]
+
 -- what the target of a Call that is sent stands for
 pub target_known : (es : Past) (k c : ℕ) (rs : List ℕ) (q : ℕ) (target : Target) (interface method : ℕ) (params : Payload) (yourself : Bool) → Each IsSound (Wire true k c rs (Call q target interface method params yourself) ∷ es) →
     StandsKnown es (view_of_target es (Wire true k c rs (Call q target interface method params yourself)))
@@ -274,3 +284,10 @@ module _ (v : ℕ) (es : Past) (steps before : List Step) (w : IsWithin v es ste
   known_had a (inr t) =
       let name = calls_named v es steps w.paired t.0 t.2 in
       (cap.Field name.0 t.1, ap (cap_named v es steps) t.3 ∙ ap (λ o. option_map (λ n. cap.Field n t.1) o) name.1, call_had v es steps before w t.0 name.0 name.1 t.1)
+
+  -- it has there the name that it has with one record more
+  pub known_named : (e : DecodedRecord) (s : Step) → Refers es e → (o : Option View) → StandsKnown es o → (c : Cap) → option_and_then (cap_named v (e ∷ es) (s ∷ steps)) o ≡ Some c → option_and_then (cap_named v es steps) o ≡ Some c
+  known_named e s refers o known c named =
+      let t = known_had known.0 known.2 in
+      let now = ap (λ o. option_and_then (cap_named v (e ∷ es) (s ∷ steps)) o) known.1 ∙ cap_step v es e steps s known.0 t.0 refers t.1 in
+      ap (λ o. option_and_then (cap_named v es steps) o) known.1 ∙ t.1 ∙ sym now ∙ named

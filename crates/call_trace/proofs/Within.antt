@@ -1,4 +1,4 @@
--- Where one view leads to another in a log, its name leads on to the other's in the run.
+-- Where two views are one in a log, their names are one in the run; where one became the other, so did its name.
 use Rattle.std.proofs.Common.{◌≡◌, refl, sym, ◌∙◌, ap, ap₂, subst, ℕ, suc, ◌<◌, ◌==◌, List, [], ◌∷◌, ◌++◌, length, Bool, true, false, ◌&&◌, ◌||◌, Option, Some, None, if◌then◌else◌, option_and_then, arith, eqb-true, length-append, ◌⊎◌, inl, inr}
 use Rattle.std.specs.Prelude.{filter, unwrap_or}
 use Rattle.std.specs.List.{AllByRecursion, list_any}
@@ -7,7 +7,7 @@ use Rattle.std.proofs.lemmas.Bool.{and_parts, cases_Bool}
 use Rattle.decoded_records.specs.Past.{Past, Each, id, last_answer}
 use Rattle.decoded_records.specs.Bindings.{Refers}
 use Rattle.decoded_records.specs.Lives.{Birth, birth, begins, is_in_life}
-use Rattle.vat_view.specs.Walks.{Next, turns, stays, next, turn, resolves, began_at, Leads, here, onward, LeadsByTurns, turned}
+use Rattle.vat_view.specs.Walks.{Next, turns, stays, next, turn, resolves, began_at, Leads, here, onward, AreOne, Became}
 use Rattle.vat_view.proofs.Viewed.{begins_parts}
 use Rattle.decoded_records.specs.declared.table_key.TableKey.{TableKey}
 use Rattle.call_trace.specs.Types.{Resolve, DecodedRecord, Wire, View, Object, Promise, FieldOf, Import, Name, Cap, Step}
@@ -18,16 +18,17 @@ use Rattle.call_trace.specs.Within.{IsWithin, HasNameAfter}
 use Rattle.call_trace.proofs.Naming.{cap_keeps}
 use Rattle.call_trace.proofs.Carried.{paired_at, pairs_as_long, each_after}
 use Rattle.call_trace.proofs.Tells.{own_promise, of_call, of_import}
-use Rattle.run_model.specs.Legal.{IsLegal, LeadsOn, caps_brought, hands, is_passed_back}
+use Rattle.vat_rules.specs.Ways.{AreOneThere, BecameThere}
+use Rattle.run_model.specs.Legal.{IsLegal, caps_brought, hands, is_passed_back}
+use Rattle.run_model.specs.Legal.{Became as RunBecame}
 use Rattle.run_model.specs.Links.{IsLinked}
-use Rattle.run_model.specs.Leads.{MakesTurn}
-use Rattle.run_model.specs.Leads.{Leads as RunLeads}
+use Rattle.run_model.specs.Leads.{MakesTurn, Meets}
 use Rattle.run_model.specs.Leads.{here as stay}
 use Rattle.run_model.specs.Steps.{OneOf, is_same_call, vat_of}
 use Rattle.run_model.specs.Steps.{EachStep}
-use Rattle.run_model.proofs.Growing.{leads_through}
+use Rattle.run_model.proofs.Meeting.{meets_itself, meets_back, meets_through, became_meets, became_later, leads_on_became}
 use Rattle.run_model.proofs.Once.{names_same, or_either}
-use Rattle.run_model.proofs.Sending.{leads_on_grow, on_leads, on_then_leads, received_leads, received_taken, resolved_leads, fields_turn}
+use Rattle.run_model.proofs.Sending.{received_leads, received_taken, resolved_leads, fields_turn}
 use Rattle.run_model.specs.declared.cap.Cap.TheVariants as cap
 use Rattle.run_model.specs.declared.message.Message.TheVariants as message
 use Rattle.run_model.specs.declared.step.Step.TheVariants as step
@@ -129,35 +130,37 @@ pub each_earlier : (P : List Step → Step → Type 0) (later rest : List Step) 
 each_earlier P [] rest h = h
 each_earlier P (s ∷ later) rest h = each_earlier P later rest h.1
 
-one_led : (before : List Step) (c : Name) (x y : Cap) (results : List (List ℕ × Cap)) → OneOf (λ result. (x ≡ cap.Field c result.0) × (y ≡ result.1)) results →
-    AllByRecursion (λ result. LeadsOn before (cap.Field c result.0) result.1) results → LeadsOn before x y
-one_led before c x y (r ∷ rs) (inl h) all = subst (λ x. LeadsOn before x y) (sym h.0) (subst (λ y. LeadsOn before (cap.Field c r.0) y) (sym h.1) all.0)
-one_led before c x y (r ∷ rs) (inr h) all = one_led before c x y rs h all.1
-one_led before c x y [] h all = absurd h
+one_became : (before : List Step) (c : Name) (x y : Cap) (results : List (List ℕ × Cap)) → OneOf (λ result. (x ≡ cap.Field c result.0) × (y ≡ result.1)) results →
+    AllByRecursion (λ result. RunBecame before (cap.Field c result.0) result.1) results → RunBecame before x y
+one_became before c x y (r ∷ rs) (inl h) all = subst (λ x. RunBecame before x y) (sym h.0) (subst (λ y. RunBecame before (cap.Field c r.0) y) (sym h.1) all.0)
+one_became before c x y (r ∷ rs) (inr h) all = one_became before c x y rs h all.1
+one_became before c x y [] h all = absurd h
 
 -- a field of a call whose results are taken: of another's, or of its own, which was passed back
-taken_leads : (before : List Step) (c by : Name) (path : List ℕ) → (list_any (hands c by) before || (is_same_call c by && is_passed_back c before)) ≡ true → LeadsOn before (cap.Field c path) (cap.Field by path)
-taken_leads before c by path h = elim (or_either (list_any (hands c by) before) (is_same_call c by && is_passed_back c before) h) [
-  | inl handed ↦ inl (cap.Field by path, fields_turn before c by path handed, stay)
-  | inr back ↦ let parts = and_parts (is_same_call c by) (is_passed_back c before) back in inr (ap (λ d. cap.Field d path) (names_same c by parts.0), parts.1)
+taken_became : (before : List Step) (c by : Name) (path : List ℕ) → (list_any (hands c by) before || (is_same_call c by && is_passed_back c before)) ≡ true → RunBecame before (cap.Field c path) (cap.Field by path)
+taken_became before c by path h = elim (or_either (list_any (hands c by) before) (is_same_call c by && is_passed_back c before) h) [
+  | inl handed ↦ leads_on_became before (cap.Field c path) (cap.Field by path) (cap.Field by path, fields_turn before c by path handed, stay)
+  | inr back ↦
+      let parts = and_parts (is_same_call c by) (is_passed_back c before) back in
+      (subst (Meets before (cap.Field c path)) (ap (λ d. cap.Field d path) (names_same c by parts.0)) (meets_itself before (cap.Field c path)), inr parts.1)
 ]
 
-told_leads : (earlier : List Step) (x y : Cap) (s : Step) → EachStep IsLegal earlier → IsLinked earlier s → Tells x y s → LeadsOn earlier x y
-told_leads earlier x y (step.Receive v k (message.Return c results caps) bound) legal linked tells = one_led earlier c x y results tells (received_leads earlier legal v k c results caps bound linked)
-told_leads earlier x y (step.Receive v k (message.Taken c by) bound) legal linked tells =
-    subst (λ x. LeadsOn earlier x y) (sym tells.1)
-    (subst (λ y. LeadsOn earlier (cap.Field c tells.0) y) (sym tells.2) (taken_leads earlier c by tells.0 (received_taken earlier legal v k c by bound linked)))
-told_leads earlier x y (step.Receive v k (message.Resolve promise to) bound) legal linked tells =
-    subst (λ x. LeadsOn earlier x y) (sym tells.0) (subst (λ y. LeadsOn earlier promise y) (sym tells.1) (resolved_leads earlier legal v k promise to bound linked))
-told_leads earlier x y s legal linked tells = absurd tells
+told_became : (earlier : List Step) (x y : Cap) (s : Step) → EachStep IsLegal earlier → IsLinked earlier s → Tells x y s → RunBecame earlier x y
+told_became earlier x y (step.Receive v k (message.Return c results caps) bound) legal linked tells = one_became earlier c x y results tells (received_leads earlier legal v k c results caps bound linked)
+told_became earlier x y (step.Receive v k (message.Taken c by) bound) legal linked tells =
+    subst (λ x. RunBecame earlier x y) (sym tells.1)
+    (subst (λ y. RunBecame earlier (cap.Field c tells.0) y) (sym tells.2) (taken_became earlier c by tells.0 (received_taken earlier legal v k c by bound linked)))
+told_became earlier x y (step.Receive v k (message.Resolve promise to) bound) legal linked tells =
+    subst (λ x. RunBecame earlier x y) (sym tells.0) (subst (λ y. RunBecame earlier promise y) (sym tells.1) (resolved_leads earlier legal v k promise to bound linked))
+told_became earlier x y s legal linked tells = absurd tells
 
-step_leads : (before : List Step) (x y : Cap) (s : Step) → EachStep IsLegal before → EachStep IsLinked before → StandsIn before s → MakesTurn x y s ⊎ Tells x y s → LeadsOn before x y
-step_leads before x y s legal linked at says =
+step_became : (before : List Step) (x y : Cap) (s : Step) → EachStep IsLegal before → EachStep IsLinked before → StandsIn before s → MakesTurn x y s ⊎ Tells x y s → RunBecame before x y
+step_became before x y s legal linked at says =
     let legal_then = each_earlier IsLegal at.0 (s ∷ at.1) (subst (EachStep IsLegal) at.2 legal) in
     let linked_then = each_earlier IsLinked at.0 (s ∷ at.1) (subst (EachStep IsLinked) at.2 linked) in
-    subst (λ l. LeadsOn l x y) (sym at.2) (leads_on_grow at.0 (s ∷ at.1) x y (elim says [
-      | inl made ↦ inl (y, inl made, stay)
-      | inr tells ↦ leads_on_grow (s ∷ []) at.1 x y (told_leads at.1 x y s legal_then.1 linked_then.0 tells)
+    subst (λ l. RunBecame l x y) (sym at.2) (became_later at.0 (s ∷ at.1) x y (elim says [
+      | inl made ↦ leads_on_became (s ∷ at.1) x y (y, inl made, stay)
+      | inr tells ↦ became_later (s ∷ []) at.1 x y (told_became at.1 x y s legal_then.1 linked_then.0 tells)
     ]))
 
 -- ---- together
@@ -180,33 +183,52 @@ module _ (v : ℕ) (later past : Past) (e : DecodedRecord) (added earlier : List
   name_grows view c h = cap_keeps v later (e ∷ past) added (s ∷ earlier) as_long (each_after later (e ∷ past) refers) view c h
 
   turned_then : (before : List Step) (a b : View) (x : Cap) → EachStep IsLegal before → EachStep IsLinked before → StandsIn before s → turn a past e ≡ Some (turns b) →
-      cap_named v (later ++ e ∷ past) (added ++ s ∷ earlier) a ≡ Some x → HasNameAfter (naming v (later ++ e ∷ past) (added ++ s ∷ earlier)) (LeadsOn before) x b
+      cap_named v (later ++ e ∷ past) (added ++ s ∷ earlier) a ≡ Some x → HasNameAfter (naming v (later ++ e ∷ past) (added ++ s ∷ earlier)) (RunBecame before) x b
   turned_then before a b x legal linked at h named =
       let t = told_at v (later ++ e ∷ past) past e added earlier s a b x paired.0 (pairs_as_long v past earlier paired.1) h named in
       let same = same_cap (cap_named v (later ++ e ∷ past) (added ++ s ∷ earlier) a) t.from x (name_grows a t.from t.from_named) named in
-      (t.to, name_grows b t.to t.to_named, subst (λ x. LeadsOn before x t.to) same (step_leads before t.from t.to s legal linked at t.turned))
+      (t.to, name_grows b t.to t.to_named, subst (λ x. RunBecame before x t.to) same (step_became before t.from t.to s legal linked at t.turned))
 
-pub turned_leads : (v : ℕ) (es : Past) (steps before : List Step) → IsWithin v es steps before → (a b : View) (x : Cap) → next es a ≡ turns b → cap_named v es steps a ≡ Some x →
-    HasNameAfter (naming v es steps) (LeadsOn before) x b
-turned_leads v es steps before w a b x h named =
+pub turned_became : (v : ℕ) (es : Past) (steps before : List Step) → IsWithin v es steps before → (a b : View) (x : Cap) → next es a ≡ turns b → cap_named v es steps a ≡ Some x →
+    HasNameAfter (naming v es steps) (RunBecame before) x b
+turned_became v es steps before w a b x h named =
     let t = next_is a b es h in
     let pair = paired_at v t.0 t.1 t.2 steps (subst (λ es. PairsOff v es steps) t.3 w.paired) in
     let at = stands_in (λ s. vat_of s == v) before pair.added pair.earlier pair.step (w.own ∙ pair.whole) in
-    subst (λ es. HasNameAfter (naming v es steps) (LeadsOn before) x b) (sym t.3)
-    (subst (λ steps. HasNameAfter (naming v (t.0 ++ t.1 ∷ t.2) steps) (LeadsOn before) x b) (sym pair.whole)
+    subst (λ es. HasNameAfter (naming v es steps) (RunBecame before) x b) (sym t.3)
+    (subst (λ steps. HasNameAfter (naming v (t.0 ++ t.1 ∷ t.2) steps) (RunBecame before) x b) (sym pair.whole)
     (turned_then v t.0 t.2 t.1 pair.added pair.earlier pair.step pair.as_long pair.paired (subst (Each Refers) t.3 w.refers) before a b x w.legal w.linked at t.4
     (sym (ap₂ (λ es steps. cap_named v es steps a) t.3 pair.whole) ∙ named)))
 
-pub all_leads : (v : ℕ) (es : Past) (steps before : List Step) → IsWithin v es steps before → (a b : View) (x : Cap) → Leads es a b → cap_named v es steps a ≡ Some x → HasNameAfter (naming v es steps) (RunLeads before) x b
-all_leads v es steps before w a b x here named = (x, named, stay)
-all_leads v es steps before w a c x (onward {b = b} h rest) named =
-    let one = turned_leads v es steps before w a b x h named in
-    let more = all_leads v es steps before w b c one.0 rest one.1 in
-    (more.0, more.1, leads_through before x one.0 more.0 (on_leads before x one.0 one.2) more.2)
+-- the names of views that lead to each other are one
+pub all_meet : (v : ℕ) (es : Past) (steps before : List Step) → IsWithin v es steps before → (a b : View) (x : Cap) → Leads es a b → cap_named v es steps a ≡ Some x → HasNameAfter (naming v es steps) (Meets before) x b
+all_meet v es steps before w a b x here named = (x, named, meets_itself before x)
+all_meet v es steps before w a c x (onward {b = b} h rest) named =
+    let one = turned_became v es steps before w a b x h named in
+    let more = all_meet v es steps before w b c one.0 rest one.1 in
+    (more.0, more.1, meets_through before w.legal x one.0 more.0 (became_meets before x one.0 one.2) more.2)
 
-pub by_turns_lead : (v : ℕ) (es : Past) (steps before : List Step) → IsWithin v es steps before → (a b : View) (x : Cap) → LeadsByTurns es a b → cap_named v es steps a ≡ Some x →
-    HasNameAfter (naming v es steps) (LeadsOn before) x b
-by_turns_lead v es steps before w a c x (turned {b = b} h rest) named =
-    let one = turned_leads v es steps before w a b x h named in
-    let more = all_leads v es steps before w b c one.0 rest one.1 in
-    (more.0, more.1, on_then_leads before x one.0 more.0 one.2 more.2)
+-- so are those of views that are one
+pub ones_meet : (v : ℕ) (es : Past) (steps before : List Step) → IsWithin v es steps before → (a b : View) (x y : Cap) → AreOne es a b → cap_named v es steps a ≡ Some x → cap_named v es steps b ≡ Some y → Meets before x y
+ones_meet v es steps before w a b x y one named other =
+    let p = all_meet v es steps before w a one.0 x one.1 named in
+    let q = all_meet v es steps before w b one.0 y one.2 other in
+    let same = same_cap (cap_named v es steps one.0) q.0 p.0 q.1 p.1 in
+    meets_through before w.legal x p.0 y p.2 (meets_back before y p.0 (subst (Meets before y) same q.2))
+
+-- a view that became another: its name became the other's
+pub names_became : (v : ℕ) (es : Past) (steps before : List Step) → IsWithin v es steps before → (a b : View) (x y : Cap) → Became es a b → cap_named v es steps a ≡ Some x → cap_named v es steps b ≡ Some y → RunBecame before x y
+names_became v es steps before w a b x y became named other =
+    (ones_meet v es steps before w a b x y became.2 named other, (turned_became v es steps before w a became.0 x became.1 named).2.1)
+
+-- the same of views that may be missing
+module _ (v : ℕ) (es : Past) (steps before : List Step) (w : IsWithin v es steps before) where
+  pub ones_meet_there : (from to : Option View) (x y : Cap) → option_and_then (cap_named v es steps) from ≡ Some x → option_and_then (cap_named v es steps) to ≡ Some y → AreOneThere es from to → Meets before x y
+  ones_meet_there None to x y named other one = absurd one
+  ones_meet_there (Some a) None x y named other one = absurd one
+  ones_meet_there (Some a) (Some b) x y named other one = ones_meet v es steps before w a b x y one named other
+
+  pub became_there : (from to : Option View) (x y : Cap) → option_and_then (cap_named v es steps) from ≡ Some x → option_and_then (cap_named v es steps) to ≡ Some y → BecameThere es from to → RunBecame before x y
+  became_there None to x y named other became = absurd became
+  became_there (Some a) None x y named other became = absurd became
+  became_there (Some a) (Some b) x y named other became = names_became v es steps before w a b x y became named other

@@ -11,18 +11,19 @@ ghost use Rattle.decoded_records.specs.Calls.{is_at_vat};
 ghost use Rattle.vat_view.specs.Laws.{EachAfter};
 ghost use Rattle.decoded_records.specs.Lives.{is_in_life};
 ghost use Rattle.decoded_records.specs.Questions.{is_unfinished, is_unreturned, call_of};
-ghost use Rattle.vat_view.specs.Walks.{turns, turn, Leads, LeadsByTurns};
+ghost use Rattle.vat_view.specs.Walks.{turns, turn, Leads, AreOne, Became};
 ghost use Rattle.agree.specs.Rows.{log_of_vat, IsShared};
 ghost use Rattle.agree.specs.Agreeing.{AreLinked};
 ghost use Rattle.agree.specs.Streams.{IsCut, IsPassed};
 ghost use Rattle.agree.specs.Standing.{AgreeOneWay, Agree};
-ghost use Rattle.run_model.specs.Legal.{is_present, LeadsOn, MayCome, HasUsed, MayBind};
+ghost use Rattle.run_model.specs.Legal.{is_present, MayCome, HasUsed, MayBind};
+ghost use Rattle.run_model.specs.Legal.{Became as RunBecame};
 ghost use Rattle.run_model.specs.Early.{IsOrderFault};
 ghost use Rattle.run_model.specs.Edges.{Edge, AreEdges};
 ghost use Rattle.run_model.specs.Has.{Has};
 ghost use Rattle.run_model.specs.Reordered.{HaveSameSteps, KeepsReferences};
 ghost use Rattle.run_model.specs.declared.cap.Cap.TheVariants.{Field as FieldCap};
-ghost use Rattle.run_model.specs.Leads.{Leads as RunLeads};
+ghost use Rattle.run_model.specs.Leads.{Meets};
 ghost use Rattle.call_trace.specs.Types.{Outcome, Return, Resolution, Resolve, DecodedRecord, Wire, View, Name, Cap, Step, Target, Call, Deliver, Answer, AnswerBy, Fault, RpcMessage, Message};
 ghost use Rattle.call_trace.specs.Naming.{call_named, cap_named, naming, message_at};
 ghost use Rattle.call_trace.specs.Part.{reference_named, ReadsAsSent, Says, PairsOff};
@@ -107,7 +108,7 @@ pub fn numbers_have_one_name()
 {}
 
 /// Where a record turns a view that has a name to another view, its step turns the one's name to the other's, or receives a
-/// message that says that it leads there.
+/// message that says that it became that.
 pub fn turns_are_told()
     ensures { (v : ℕ) (es : Past) (steps : List Step) (e : DecodedRecord) (s : Step) (a b : View)
         (x : Cap) → Says v es steps e s → turn a es e ≡ Some (turns b)
@@ -116,15 +117,19 @@ pub fn turns_are_told()
 {}
 
 /// Where a log is paired with its vat's steps of a run so far, and each step of the run is legal and keeps to its link, a
-/// view that has a name leads to views that have names, and in the run its name leads to theirs (`leads`), and leads on to
-/// them where the view leads there by 1 or more turns (`by_turns`).
-pub fn views_lead_in_the_run()
+/// view that has a name leads to views that have names, and in the run its name is one with theirs (`leads`). So the names of
+/// two views that are one are one in the run (`ones`), and where a view became another, its name became the other's
+/// (`became`).
+pub fn views_meet_in_the_run()
     ensures leads { (v : ℕ) (es : Past) (steps before : List Step) → IsWithin v es steps before
         → (a b : View) (x : Cap) → Leads es a b → cap_named v es steps a ≡ Some x
-        → HasNameAfter (naming v es steps) (RunLeads before) x b }
-    ensures by_turns { (v : ℕ) (es : Past) (steps before : List Step) → IsWithin v es steps before
-        → (a b : View) (x : Cap) → LeadsByTurns es a b → cap_named v es steps a ≡ Some x
-        → HasNameAfter (naming v es steps) (LeadsOn before) x b }
+        → HasNameAfter (naming v es steps) (Meets before) x b }
+    ensures ones { (v : ℕ) (es : Past) (steps before : List Step) → IsWithin v es steps before
+        → (a b : View) (x y : Cap) → AreOne es a b → cap_named v es steps a ≡ Some x
+        → cap_named v es steps b ≡ Some y → Meets before x y }
+    ensures became { (v : ℕ) (es : Past) (steps before : List Step) → IsWithin v es steps before
+        → (a b : View) (x y : Cap) → Became es a b → cap_named v es steps a ≡ Some x
+        → cap_named v es steps b ≡ Some y → RunBecame before x y }
 {}
 
 /// In the run a vat has what its log binds: the cap of each reference (`references`), and each field of each call that has a
@@ -164,8 +169,8 @@ pub fn what_is_used_is_had()
 
 /// Where a log is paired with its vat's steps of a run so far, and its records are good, the step of a further good record
 /// that sends a Return (`returned`) or a Resolve (`resolved`) may come. So a call was answered or passed back before its
-/// results are sent, and they lead on to what is given, as a promise does to what it is resolved to; and the call whose results
-/// a Return takes is the one by which the call that it returns was answered, or is that call, and this vat sent it on.
+/// results are sent, and they became what is given, as a promise became what it is resolved to; and the call whose results a
+/// Return takes is the one by which the call that it returns was answered, or is that call, and this vat sent it on.
 pub fn returns_follow_answers()
     ensures returned { (v : ℕ) (es : Past) (steps before : List Step) → IsWithin v es steps before
         → Each IsGood es → (k c : ℕ) (references : List ℕ) (q : ℕ) (release : Bool)

@@ -30,7 +30,7 @@ pub use laws::{
     messages_are_read_as_sent, names_only_grow, no_findings_have_the_empty_run,
     numbers_have_one_name, orders_give_one_fault, orders_give_the_same_steps, orders_take_the_logs,
     own_steps_may_come, questions_have_one_call, receipts_bind_what_is_brought,
-    returns_follow_answers, turns_are_told, views_lead_in_the_run, what_is_bound_has_a_name,
+    returns_follow_answers, turns_are_told, views_meet_in_the_run, what_is_bound_has_a_name,
     what_is_bound_is_had, what_is_named_has_a_name, what_is_used_is_had,
 };
 pub use steps::run_naming::name_run;

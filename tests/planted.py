@@ -712,6 +712,34 @@ def echo_dropped():
     ], []
 
 
+def aborted(reason):
+    """An Abort whose Exception has a reason of these bytes."""
+    size = len(reason) + 1
+    words = reason + bytes(8 - len(reason) % 8)
+    return frame(1, inner(b"", lambda at: (struct.pack("<II", at << 2 | 1, size << 3 | 2), words)))
+
+
+def loopback_refused():
+    """Vat 2 aborts in the place of the echo, for which vat 1 waits with its later call."""
+    talk = turned_back(True)
+    talk.change("echo sent", frame=aborted(b"expected target->getBrand() == this"))
+    talk.leave_out("echo received", "late delivered")
+    said = 'by record {}: "expected target->getBrand() == this"\n'.format(talk.at("echo sent")[1])
+    return talk, talk.yes(), [
+        "note: vat 2 aborted connection 0 " + said
+        + f"note: it refuses a loopback whose target led back to its sender, by the records before: its record {talk.at('embargo received')[1]} received that one\n",
+    ], []
+
+
+def aborted_otherwise():
+    """The same for another reason, of which nothing more is told."""
+    talk = turned_back(True)
+    talk.change("echo sent", frame=aborted(b"no key"))
+    talk.leave_out("echo received", "late delivered")
+    said = 'by record {}: "no key"\n'.format(talk.at("echo sent")[1])
+    return talk, talk.yes(), ["note: vat 2 aborted connection 0 " + said], ["refuses"]
+
+
 def resolve_dropped():
     """The Resolve never comes to vat 1."""
     talk = turned_back(False)
@@ -797,6 +825,8 @@ PLANTED = [
     ("called another export", another_export),
     ("an embargo not asked for", embargo_not_asked_for),
     ("an embargo not waited for", embargo_not_waited_for),
+    ("a loopback refused", loopback_refused),
+    ("an abort for another reason", aborted_otherwise),
     ("a Release counted up", counted_up),
     ("a received call lost", received_and_lost),
     ("a HOST forgotten", host_forgotten),

@@ -1,15 +1,18 @@
 //! The notes beside an answer that is good.
 
 use crate::answer_notes::case_of;
-use crate::heard::{Heard, HeardAnswer};
-use crate::inputs::unread::SearchingSource;
-use crate::row_limit::put_limit;
+use crate::found::{found, log_of, made};
+use crate::heard::Heard;
 use bytes::Bytes;
-use past_records::NoteText;
+use case_book::Case;
+use exception_reasons::record_reason;
+use past_records::{NoteText, message_at, put_reason};
 use record_notes::{OpenCase, events_of, open_object, put_good};
+use rpc_view::{Loopback, RpcMessage, ViewError};
 use serde_json::Value;
 use std::alloc::{AllocError, Global};
-use vat_log::{LogError, VatLog, parse_log};
+use std::collections::BTreeSet;
+use vat_log::VatLog;
 
 /// What people are told beside an answer.
 #[derive(Drop)]
@@ -28,17 +31,6 @@ impl Notes {
             left_open: None,
         }
     }
-
-    /// These notes, and what is open, where it is asked for.
-    pub(crate) fn of(
-        text: NoteText,
-        left_open: Result<Option<Value>, AllocError>,
-    ) -> Result<Notes, AllocError> {
-        match (text.finish(), left_open) {
-            (Ok(text), Ok(left_open)) => Ok(Notes { text, left_open }),
-            _ => Err(AllocError),
-        }
-    }
 }
 
 /// What notes are made for.
@@ -50,75 +42,138 @@ pub enum Form {
     Json,
 }
 
-/// The log that was read last, where it is kept.
-fn last_log(alloc: Global, files: &[(String, Bytes)]) -> Result<Option<VatLog>, AllocError> {
-    let Some((_, bytes)) = files.last() else {
-        return Ok(None);
+/// What a frame says, or why it isn't read; none where there is no frame.
+type Read = Option<Result<RpcMessage, ViewError>>;
+
+/// Whether a frame is an abort.
+fn is_abort(read: &Read) -> bool {
+    matches!(read, Some(Ok(RpcMessage::Abort)))
+}
+
+/// Whether a frame is a senderLoopback.
+fn asks_echo(read: &Read) -> bool {
+    match read {
+        Some(Ok(RpcMessage::Disembargo { loopback, .. })) => *loopback == Loopback::Sender,
+        _ => false,
+    }
+}
+
+/// The first record by which a log sent an abort, and its connection. Nothing is sent there behind it, so only the last frames of
+/// connections are read.
+fn abort_in(alloc: Global, log: &VatLog) -> Result<Option<(usize, u32)>, AllocError> {
+    let mut seen = BTreeSet::new(alloc);
+    let mut first = None;
+    for at in (0..log.len()).rev() {
+        if let Some((true, connection)) = passage_at(log, at) {
+            if seen.insert(connection)? && is_abort(&message_at(alloc, log, at)?) {
+                first = Some((at, connection));
+            }
+        }
+    }
+    Ok(first)
+}
+
+/// Whether the record of this number sends a frame or receives one, and on which connection.
+fn passage_at(log: &VatLog, at: usize) -> Option<(bool, u32)> {
+    log.get(at)?.body().passage()
+}
+
+/// Whether the reason of an abort is that a loopback is refused: C++ gives the test that failed, or names the message.
+fn refuses_loopback(alloc: Global, log: &VatLog, at: usize) -> Result<bool, AllocError> {
+    let Some(stored) = log.get(at) else {
+        return Ok(false);
     };
-    match parse_log(alloc, bytes.clone()?) {
-        Ok(log) => Ok(Some(log)),
-        Err(LogError::OutOfMemory) => Err(AllocError),
-        Err(_) => Ok(None),
+    let Some(reason) = record_reason(alloc, stored.body())? else {
+        return Ok(false);
+    };
+    let shown = format!(in alloc; "{reason}")?;
+    let shown = shown.as_str();
+    Ok(shown.contains("target->getBrand()") || shown.contains("Disembargo"))
+}
+
+/// The last record before this one that received a senderLoopback on a connection.
+fn loopback_before(
+    alloc: Global,
+    log: &VatLog,
+    end: usize,
+    connection: u32,
+) -> Result<Option<usize>, AllocError> {
+    for at in (0..end).rev() {
+        if passage_at(log, at) == Some((false, connection)) {
+            if let Some(
+                Ok(
+                    RpcMessage::Disembargo {
+                        loopback: Loopback::Sender,
+                        ..
+                    },
+                ),
+            ) = message_at(alloc, log, at)?
+            {
+                return Ok(Some(at));
+            }
+        }
+    }
+    Ok(None)
+}
+
+/// Appends the notes of the first abort that this log sent, if it sent one, and says whether it did. Where the abort refuses a
+/// loopback, the log is good, so the loopback's target led back to its sender: rule EMB asks that.
+fn put_abort(alloc: Global, text: &mut NoteText, log: &VatLog) -> bool {
+    let Some((at, connection)) = found(text, abort_in(alloc, log)) else {
+        return false;
+    };
+    let numbers = [u64::from(log.vat()), u64::from(connection), at as u64];
+    text.tell("note: vat # aborted connection # by record #", &numbers);
+    put_reason(alloc, text, log, at, ": ");
+    text.words("\n");
+    if made(text, refuses_loopback(alloc, log, at)) == Some(true) {
+        if let Some(asked) = found(text, loopback_before(alloc, log, at, connection)) {
+            text.tell(
+                "note: it refuses a loopback whose target led back to its sender, by the records before: its record # received that one\n",
+                &[asked as u64],
+            );
+        }
+    }
+    true
+}
+
+/// Appends the notes of the first vat of a case that aborted a connection, if one did.
+fn put_first_abort(alloc: Global, text: &mut NoteText, case: &Case) {
+    for log in case.logs() {
+        if put_abort(alloc, text, log) {
+            return;
+        }
     }
 }
 
 /// Appends the notes of what is open at the end of a case whose report is yes, or of a log that is good; and gives it, where it is
-/// asked for.
+/// asked for. Nothing is told of a case that can't be put together any more.
 fn put_case(
     alloc: Global,
     text: &mut NoteText,
-    case: &OpenCase<'_>,
+    sought: Result<Option<OpenCase<'_>>, AllocError>,
     form: Form,
-) -> Result<Option<Value>, AllocError> {
-    put_good(alloc, text, case);
+) -> Option<Value> {
+    let case = found(text, sought)?;
+    put_good(alloc, text, &case);
     match form {
-        Form::Text => Ok(None),
-        Form::Json => Ok(Some(open_object(alloc, case)?)),
+        Form::Text => None,
+        Form::Json => made(text, open_object(alloc, &case)),
     }
 }
 
-/// The same of a case that may not be put together any more: then nothing is told.
-fn put_found(
-    alloc: Global,
-    text: &mut NoteText,
-    found: Result<Option<OpenCase<'_>>, AllocError>,
-    form: Form,
-) -> Result<Option<Value>, AllocError> {
-    match found {
-        Ok(Some(case)) => put_case(alloc, text, &case, form),
-        Ok(None) => Ok(None),
-        Err(AllocError) => Err(AllocError),
-    }
-}
-
-/// The same of a log that is good. It is read once more: its audit kept no record.
-fn put_log(
-    alloc: Global,
-    text: &mut NoteText,
-    log: &VatLog,
-    files: &[(String, Bytes)],
-    form: Form,
-) -> Result<Option<Value>, AllocError> {
-    match events_of(alloc, log)? {
-        Some(events) => {
-            let found = OpenCase::of_log(alloc, log, events.as_slice(), files);
-            put_found(alloc, text, found, form)
-        }
-        None => Ok(None),
-    }
-}
-
-/// The same of the log that was read last.
-fn put_last_log(
+/// The same of the log that was read last and is good. It is read once more: its audit kept no record.
+pub(crate) fn put_last_log(
     alloc: Global,
     text: &mut NoteText,
     files: &[(String, Bytes)],
     form: Form,
-) -> Result<Option<Value>, AllocError> {
-    match last_log(alloc, files)? {
-        Some(log) => put_log(alloc, text, &log, files, form),
-        None => Ok(None),
-    }
+) -> Option<Value> {
+    let (_, bytes) = files.last()?;
+    let log = found(text, log_of(alloc, bytes))?;
+    let events = found(text, events_of(alloc, &log))?;
+    let case = OpenCase::of_log(alloc, &log, events.as_slice(), files);
+    put_case(alloc, text, case, form)
 }
 
 /// The same of a case whose report is yes and of which nothing is kept but its files.
@@ -127,39 +182,31 @@ fn put_kept(
     text: &mut NoteText,
     files: &[(String, Bytes)],
     form: Form,
-) -> Result<Option<Value>, AllocError> {
-    match case_of(alloc, files)? {
-        Some(case) => put_found(alloc, text, OpenCase::of_case(alloc, &case, files), form),
-        None => Ok(None),
-    }
+) -> Option<Value> {
+    let case = found(text, case_of(alloc, files))?;
+    put_first_abort(alloc, text, &case);
+    put_case(alloc, text, OpenCase::of_case(alloc, &case, files), form)
 }
 
-/// Appends the notes beside an answer that is good, and gives what is open, where it is asked for.
-pub(crate) fn put_yes<S: SearchingSource>(
+/// The same of the case whose report was heard, if one was.
+pub(crate) fn put_yes(
     alloc: Global,
     text: &mut NoteText,
     heard: &Heard,
-    source: &S,
+    files: &[(String, Bytes)],
     form: Form,
-) -> Result<Option<Value>, AllocError> {
-    put_limit(text, heard.limit);
-    if let HeardAnswer::GoodLog = heard.told {
-        return put_last_log(alloc, text, source.kept(), form);
-    }
+) -> Option<Value> {
     match &heard.findings {
         Some(findings) => {
-            let found = OpenCase::of_findings(alloc, findings, source.kept());
-            put_found(alloc, text, found, form)
+            put_first_abort(alloc, text, findings.case());
+            put_case(
+                alloc,
+                text,
+                OpenCase::of_findings(alloc, findings, files),
+                form,
+            )
         }
-        None => put_kept(alloc, text, source.kept(), form),
-    }
-}
-
-/// Whether an answer is good, and what is open is told beside it.
-pub(crate) fn is_good(heard: &Heard) -> bool {
-    match heard.told {
-        HeardAnswer::GoodLog => true,
-        HeardAnswer::Yes => heard.findings.is_some() || heard.is_of_case,
-        _ => false,
+        None if heard.is_of_case => put_kept(alloc, text, files, form),
+        None => None,
     }
 }

@@ -1,51 +1,39 @@
 //! What is heard of an answer, for what people are told beside it. No answer depends on it.
 
+use crate::cases::link_notes::Arrival;
 use crate::joins::JoinNote;
 use crate::row_limit::RowLimit;
-use crate::wires::wire_found::WireFound;
 use case_book::Findings;
-use case_report::{Breach, Report, WireAnswer};
-use report_lines::{Answer, Fault, report_sentence, why_sentence};
+use case_report::{Breach, Report, WireAnswer, WireLogs};
+use report_lines::{Answer, Fault, report_sentence};
 use std::mem;
+use std::sync::Arc;
 use vat_log::{LogError, Salvaged};
-use vat_rules::{Outcome, SlimFinding, SlimOutcome, VatFinding};
+use vat_rules::{SlimFinding, SlimOutcome};
 
-/// What was heard of the answer that was said last.
+/// What was heard of the answer that was said last. Records are counted from 0.
 #[derive(Clone, Copy)]
 pub(crate) enum HeardAnswer {
     /// Nothing that people are told more of.
     Nothing,
     /// A fault of the input.
     Fault(Fault),
-    /// A record breaks a rule.
+    /// A record breaks a rule; what that asks, as a sentence.
     Broken {
-        /// The vat.
         vat: u32,
-        /// The record's number, counted from 0.
         at: u64,
-        /// What it breaks.
         breach: Breach,
-        /// What that asks, as a sentence.
         rule: &'static str,
     },
-    /// A record isn't judged.
+    /// A record isn't judged; why, as a sentence.
     Outside {
-        /// The vat.
         vat: u32,
-        /// The record's number, counted from 0.
         at: u64,
-        /// Why, as a sentence.
         why: &'static str,
     },
-    /// A frame was received that wasn't sent so.
+    /// A frame was received that wasn't sent so; what a link asks, as a sentence.
     Link {
-        /// The connection.
-        connection: u32,
-        /// The vat that received it.
-        end: u32,
-        /// Which of the frames that it received there, counted from 0.
-        message: u64,
-        /// What a link asks, as a sentence.
+        arrival: Arrival,
         rule: &'static str,
     },
     /// No order fits, or the one that is given doesn't; what that asks, as a sentence.
@@ -54,11 +42,10 @@ pub(crate) enum HeardAnswer {
     Wire,
     /// What was found of logs whose connections are joined.
     Join,
-    /// A log was salvaged, and a part of it is left out.
+    /// A log was salvaged, and a part of it is left out: the fault of its bytes, and how many its whole records have, with the
+    /// header.
     Cut {
-        /// The fault of its bytes.
         fault: LogError,
-        /// How many bytes its whole records have, with the header.
         end: usize,
     },
     /// The log of a vat is good.
@@ -67,15 +54,29 @@ pub(crate) enum HeardAnswer {
     Yes,
 }
 
+impl HeardAnswer {
+    /// Whether what was found of logs and links is told beside it.
+    pub(crate) fn is_of_finding(self) -> bool {
+        matches!(
+            self,
+            HeardAnswer::Broken { .. } | HeardAnswer::Outside { .. } | HeardAnswer::Link { .. }
+        )
+    }
+}
+
 /// What was heard of the answer that was said last, and what was found of the case that it judges, or of the connection.
 #[derive(Drop)]
 pub struct Heard {
     pub(crate) told: HeardAnswer,
-    pub(crate) findings: Option<Findings>,
-    pub(crate) is_of_case: bool,
-    pub(crate) wire: Option<WireFound>,
-    pub(crate) join: Option<JoinNote>,
-    pub(crate) limit: Option<RowLimit>,
+    pub(crate) wire: Option<WireAnswer>,
+    /// What was found of a case beside its report.
+    pub findings: Option<Findings>,
+    /// The answer is the line of a case, of which nothing is kept.
+    pub is_of_case: bool,
+    /// What people are told of logs whose connections are joined.
+    pub join: Option<JoinNote>,
+    /// Fewer rows are drawn than were asked for.
+    pub limit: Option<RowLimit>,
 }
 
 /// What is heard of the report of a case.
@@ -83,32 +84,30 @@ fn of_report(report: &Report) -> HeardAnswer {
     let Some(rule) = report_sentence(report) else {
         return HeardAnswer::Yes;
     };
-    match report {
+    match *report {
         Report::Vat {
             vat,
             at,
             rule: breach,
         } => HeardAnswer::Broken {
-            vat: *vat,
-            at: *at,
-            breach: *breach,
+            vat,
+            at,
+            breach,
             rule,
         },
-        Report::OutsideVat { vat, at, why } => HeardAnswer::Outside {
-            vat: *vat,
-            at: *at,
-            why: why_sentence(*why),
-        },
+        Report::OutsideVat { vat, at, .. } => HeardAnswer::Outside { vat, at, why: rule },
         Report::Link {
             connection,
             end,
             message,
-        } => HeardAnswer::Link {
-            connection: *connection,
-            end: *end,
-            message: *message,
-            rule,
-        },
+        } => {
+            let arrival = Arrival {
+                connection,
+                end,
+                message,
+            };
+            HeardAnswer::Link { arrival, rule }
+        }
         Report::OrderStep(_) | Report::NoOrder => HeardAnswer::NoOrder(rule),
         Report::Yes { .. } => HeardAnswer::Yes,
     }
@@ -117,18 +116,13 @@ fn of_report(report: &Report) -> HeardAnswer {
 /// What is heard of the finding of a log.
 fn of_finding(finding: &SlimFinding) -> HeardAnswer {
     let vat = finding.vat();
-    match finding.outcome() {
+    match *finding.outcome() {
         SlimOutcome::Good(_) => HeardAnswer::GoodLog,
-        SlimOutcome::Broken { at, rule } => of_report(&Report::Vat {
-            vat,
-            at: *at,
-            rule: Breach::Rule(*rule),
-        }),
-        SlimOutcome::Outside { at, why } => of_report(&Report::OutsideVat {
-            vat,
-            at: *at,
-            why: *why,
-        }),
+        SlimOutcome::Broken { at, rule } => {
+            let rule = Breach::Rule(rule);
+            of_report(&Report::Vat { vat, at, rule })
+        }
+        SlimOutcome::Outside { at, why } => of_report(&Report::OutsideVat { vat, at, why }),
     }
 }
 
@@ -141,6 +135,14 @@ fn of_salvaged(found: &Salvaged) -> HeardAnswer {
         },
         None => HeardAnswer::Nothing,
     }
+}
+
+/// Both logs once more. None where one has too many owners to count.
+fn shared(logs: &WireLogs) -> Option<WireLogs> {
+    Some(WireLogs {
+        log_of_a: Arc::try_clone(&logs.log_of_a).ok()?,
+        log_of_b: Arc::try_clone(&logs.log_of_b).ok()?,
+    })
 }
 
 impl Heard {
@@ -170,29 +172,15 @@ impl Heard {
         };
     }
 
-    /// Keeps what was found of a connection, with its logs where all is explained.
+    /// Keeps what was found of a connection, with its logs.
     pub fn keep_wire(&mut self, answer: &WireAnswer) {
-        self.wire = Some(WireFound::of(answer));
-    }
-
-    /// Keeps that fewer rows are drawn than were asked for.
-    pub fn keep_limit(&mut self, limit: RowLimit) {
-        self.limit = Some(limit);
-    }
-
-    /// Keeps what people are told of logs whose connections are joined.
-    pub fn keep_join(&mut self, note: JoinNote) {
-        self.join = Some(note);
-    }
-
-    /// Keeps what was found of a case beside its report.
-    pub fn keep(&mut self, findings: Findings) {
-        self.findings = Some(findings);
-    }
-
-    /// Hears that the answer is the line of a case, of which nothing is kept.
-    pub fn hear_case(&mut self) {
-        self.is_of_case = true;
+        self.wire = Some(WireAnswer {
+            line: answer.line,
+            logs: answer.logs.as_ref().and_then(shared),
+            frames: answer.frames,
+            left: answer.left,
+            waiting: answer.waiting,
+        });
     }
 
     /// Leaves what was heard to the system, which takes all memory at once where the program ends: to give it back here, record

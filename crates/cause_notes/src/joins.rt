@@ -1,30 +1,22 @@
 //! The notes beside what is answered of logs whose connections are joined.
 
 use bytes::Bytes;
+use log_ends::LogEnd;
 use past_records::NoteText;
-
-/// A connection of a log, by its number there and the log's place among the files that were read.
-#[derive(Clone, Copy)]
-pub struct NotedEnd {
-    /// The log's place.
-    pub log: usize,
-    /// The connection.
-    pub connection: u32,
-}
 
 /// What people are told beside what is answered of logs whose connections are joined.
 #[derive(Clone, Copy)]
 pub enum JoinNote {
     /// These two were alike, and each was paired by its place.
-    Alike(NotedEnd, NotedEnd),
+    Alike(LogEnd, LogEnd),
     /// No end is left for this one.
-    Unmatched(NotedEnd),
+    Unmatched(LogEnd),
     /// Several ends fit this one.
-    Ambiguous(NotedEnd),
+    Ambiguous(LogEnd),
 }
 
 /// Appends a connection and the name of the file that has its log.
-fn put_end(text: &mut NoteText, files: &[(String, Bytes)], end: NotedEnd) {
+fn put_end(text: &mut NoteText, files: &[(String, Bytes)], end: LogEnd) {
     text.tell("connection #", &[u64::from(end.connection)]);
     if let Some((name, _)) = files.get(end.log) {
         text.words(" of ");

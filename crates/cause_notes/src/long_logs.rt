@@ -1,42 +1,27 @@
 //! Notes of a record of a log that is longer than notes look back over. The log is gone through again, and none of its records is
 //! kept but that one: so they tell what the tables know.
 
+use crate::found::{found, made};
 use crate::heard::HeardAnswer;
 use crate::inputs::unread::SearchingSource;
 use byte_pieces::Pieces;
-use bytes::Bytes;
 use case_report::Breach;
 use past_records::{NoteText, Replay, decoded_as};
 use record_notes::{put_past_cause, put_stored, vat_of};
 use rpc_view::Edition;
 use std::alloc::{AllocError, Global};
 use vat_log::{LogStream, ReadFault, Record, VatLog, write_log};
-use vat_rules::{Rule, edition_of_header};
+use vat_rules::edition_of_header;
 use vat_view::DecodedRecord;
 
-/// A record of a log that isn't kept.
+/// A record of a log that isn't kept: the name of its file, its vat, the edition by which the log is judged, and its number.
 #[derive(Drop)]
 pub(crate) struct FarRecord<'a> {
-    /// The name of its file.
     name: &'a str,
-    /// The vat.
     vat: u32,
-    /// The edition by which the log is judged.
     edition: Edition,
-    /// The record's number.
     at: usize,
-    /// The record.
     stored: Record,
-}
-
-/// The vat and the number of the record of which this tells, where it tells of one.
-fn place_of(told: HeardAnswer) -> Option<(u32, usize)> {
-    match told {
-        HeardAnswer::Broken { vat, at, .. } | HeardAnswer::Outside { vat, at, .. } => {
-            Some((vat, at as usize))
-        }
-        _ => None,
-    }
 }
 
 /// The next record of a log; none at its end, or where no more can be read.
@@ -61,19 +46,11 @@ fn log_again<S: SearchingSource>(
     let Some(reader) = source.open_again(name) else {
         return Ok(None);
     };
-    let stream = match LogStream::begin(alloc, reader) {
-        Ok(stream) => stream,
-        Err((fault, _reader)) => {
-            return match fault {
-                ReadFault::OutOfMemory => Err(AllocError),
-                _ => Ok(None),
-            };
-        }
-    };
-    if stream.vat() != vat {
-        return Ok(None);
+    match LogStream::begin(alloc, reader) {
+        Ok(stream) if stream.vat() == vat => Ok(Some(stream)),
+        Err((ReadFault::OutOfMemory, _reader)) => Err(AllocError),
+        _ => Ok(None),
     }
-    Ok(Some(stream))
 }
 
 /// The record of this number in a file that has the log of this vat.
@@ -93,21 +70,13 @@ fn record_in<'a, S: SearchingSource>(
         }
     }
     let edition = edition_of_header(stream.header());
-    match next_of(alloc, &mut stream)? {
-        Some(stored) => Ok(Some(FarRecord {
-            name,
-            vat,
-            edition,
-            at,
-            stored,
-        })),
-        None => Ok(None),
-    }
-}
-
-/// Whether the log of this vat is one of these files.
-fn is_kept(files: &[(String, Bytes)], vat: u32) -> bool {
-    files.iter().any(|(_, bytes)| vat_of(bytes) == Some(vat))
+    Ok(next_of(alloc, &mut stream)?.map(|stored| FarRecord {
+        name,
+        vat,
+        edition,
+        at,
+        stored,
+    }))
 }
 
 /// The record of which this tells, where its log isn't kept and can be read once more.
@@ -120,37 +89,26 @@ pub(crate) fn far_record<S: SearchingSource>(
     source: &S,
     told: HeardAnswer,
 ) -> Result<Option<FarRecord<'_>>, AllocError> {
-    let Some((vat, at)) = place_of(told) else {
-        return Ok(None);
+    let (vat, at) = match told {
+        HeardAnswer::Broken { vat, at, .. } | HeardAnswer::Outside { vat, at, .. } => (vat, at),
+        _ => return Ok(None),
     };
-    if is_kept(source.kept(), vat) {
+    if source
+        .kept()
+        .iter()
+        .any(|(_, bytes)| vat_of(bytes) == Some(vat))
+    {
         return Ok(None);
     }
     for name in source.left_out() {
-        if let Some(found) = record_in(alloc, source, name.as_str(), vat, at)? {
+        if let Some(found) = record_in(alloc, source, name.as_str(), vat, at as usize)? {
             return Ok(Some(found));
         }
     }
     Ok(None)
 }
 
-/// Takes the next record of a log, and says whether it can be read and applied.
-fn take_next<P: Pieces>(
-    alloc: Global,
-    stream: &mut LogStream<P>,
-    edition: Edition,
-    replay: &mut Replay,
-) -> Result<bool, AllocError> {
-    let Some(stored) = next_of(alloc, stream)? else {
-        return Ok(false);
-    };
-    match decoded_as(alloc, &stored, edition)? {
-        Some(earlier) => replay.take(&earlier),
-        None => Ok(false),
-    }
-}
-
-/// Takes so many records of a log, and says whether each of them can be read and applied.
+/// Takes the records of a log before this one, and says whether each of them can be read and applied.
 fn take_all<P: Pieces>(
     alloc: Global,
     stream: &mut LogStream<P>,
@@ -158,8 +116,12 @@ fn take_all<P: Pieces>(
     replay: &mut Replay,
 ) -> Result<bool, AllocError> {
     for _ in 0..far.at {
-        if !take_next(alloc, stream, far.edition, replay)? {
+        let Some(stored) = next_of(alloc, stream)? else {
             return Ok(false);
+        };
+        match decoded_as(alloc, &stored, far.edition)? {
+            Some(earlier) if replay.take(&earlier)? => {}
+            _ => return Ok(false),
         }
     }
     Ok(true)
@@ -185,69 +147,7 @@ fn replayed<S: SearchingSource>(
 
 /// A log of this vat that has no record.
 fn no_records(alloc: Global, vat: u32) -> Result<VatLog, AllocError> {
-    match write_log(alloc, vat, &[]) {
-        Ok(log) => Ok(log),
-        Err(_) => Err(AllocError),
-    }
-}
-
-/// A record as it is judged, what those before it came to, and a log of its vat that has none of them.
-#[derive(Drop)]
-struct Found {
-    event: DecodedRecord,
-    replay: Replay,
-    log: VatLog,
-}
-
-/// What is found of a record that isn't kept, and of those before it.
-fn found_of<S: SearchingSource>(
-    alloc: Global,
-    source: &S,
-    far: &FarRecord<'_>,
-    event: DecodedRecord,
-) -> Result<Option<Found>, AllocError> {
-    match replayed(alloc, source, far, &event)? {
-        Some(replay) => {
-            let log = no_records(alloc, far.vat)?;
-            Ok(Some(Found { event, replay, log }))
-        }
-        None => Ok(None),
-    }
-}
-
-/// The same, where its frame is read.
-fn found_again<S: SearchingSource>(
-    alloc: Global,
-    source: &S,
-    far: &FarRecord<'_>,
-) -> Result<Option<Found>, AllocError> {
-    match decoded_as(alloc, &far.stored, far.edition)? {
-        Some(event) => found_of(alloc, source, far, event),
-        None => Ok(None),
-    }
-}
-
-impl Found {
-    /// Appends the notes of what led to it.
-    fn put(self, alloc: Global, text: &mut NoteText, rule: Rule) {
-        let Found { event, replay, log } = self;
-        put_past_cause(&replay.before(alloc, &log, event), text, rule);
-    }
-}
-
-/// Appends the notes of what led to a record that breaks a rule, as far as the tables know it.
-fn put_rule<S: SearchingSource>(
-    alloc: Global,
-    text: &mut NoteText,
-    source: &S,
-    far: &FarRecord<'_>,
-    rule: Rule,
-) {
-    match found_again(alloc, source, far) {
-        Ok(Some(found)) => found.put(alloc, text, rule),
-        Ok(None) => {}
-        Err(AllocError) => text.refuse(),
-    }
+    write_log(alloc, vat, &[]).map_err(|_| AllocError)
 }
 
 impl FarRecord<'_> {
@@ -256,7 +156,7 @@ impl FarRecord<'_> {
         put_stored(alloc, text, self.name, self.at, &self.stored, self.edition);
     }
 
-    /// Appends the notes of what led to it, where it breaks a rule of its log.
+    /// Appends the notes of what led to it, where it breaks a rule of its log, as far as the tables know it.
     pub(crate) fn put_cause<S: SearchingSource>(
         &self,
         alloc: Global,
@@ -264,12 +164,21 @@ impl FarRecord<'_> {
         source: &S,
         told: HeardAnswer,
     ) {
-        match told {
-            HeardAnswer::Broken {
-                breach: Breach::Rule(rule),
-                ..
-            } => put_rule(alloc, text, source, self, rule),
-            _ => {}
+        let HeardAnswer::Broken {
+            breach: Breach::Rule(rule),
+            ..
+        } = told
+        else {
+            return;
+        };
+        let Some(event) = found(text, decoded_as(alloc, &self.stored, self.edition)) else {
+            return;
+        };
+        let Some(replay) = found(text, replayed(alloc, source, self, &event)) else {
+            return;
+        };
+        if let Some(log) = made(text, no_records(alloc, self.vat)) {
+            put_past_cause(&replay.before(alloc, &log, event), text, rule);
         }
     }
 }

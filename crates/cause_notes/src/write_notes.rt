@@ -19,19 +19,14 @@ pub fn write_note(
 ) -> Result<String, AllocError> {
     let mut text = NoteText::new(alloc);
     if error.kind() != ErrorKind::BrokenPipe {
-        put_write(&mut text, name, error);
+        text.words("note: cannot write ");
+        match name {
+            Some(name) => text.name(name),
+            None => text.words("to standard output"),
+        }
+        text.words(": ");
+        text.shown(error);
+        text.words("\n");
     }
     text.finish()
-}
-
-/// Appends that a write to a file failed, or else to standard output.
-fn put_write(text: &mut NoteText, name: Option<&str>, error: &io::Error) {
-    text.words("note: cannot write ");
-    match name {
-        Some(name) => text.name(name),
-        None => text.words("to standard output"),
-    }
-    text.words(": ");
-    text.shown(error);
-    text.words("\n");
 }

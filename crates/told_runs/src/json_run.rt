@@ -59,19 +59,8 @@ fn notes_beside<S: SearchingSource>(
     told: &LinesTold,
 ) -> Result<Notes, AllocError> {
     match told {
-        Err(Failed::File(error)) => {
-            let text = write_note(alloc, command.out(), error)?;
-            Ok(Notes::of_text(text))
-        }
+        Err(Failed::File(error)) => { Ok(Notes::of_text(write_note(alloc, command.out(), error)?)) }
         _ => hearing.notes(alloc, command, source, Form::Json),
-    }
-}
-
-/// Those notes, or none where memory is refused for them.
-fn notes_or_none(alloc: Global, notes: Result<Notes, AllocError>) -> Notes {
-    match notes {
-        Ok(notes) => notes,
-        Err(AllocError) => Notes::of_text(String::new(alloc)),
     }
 }
 
@@ -117,5 +106,6 @@ pub fn run_as_json_with_notes<R: Threads + Wait + Sync, S: SearchingSource, W: W
     let _ = source.look_back();
     let notes = notes_beside(alloc, command, &hearing, source, &told);
     hearing.leave();
-    end_lines(told, out, notes_or_none(alloc, notes))
+    let none = Notes::of_text(String::new(alloc));
+    end_lines(told, out, notes.unwrap_or(none))
 }

@@ -16,4 +16,4 @@ mod told_lines;
 pub use json_output::JsonOutput;
 pub use json_run::{run_as_json, run_as_json_with_notes};
 pub use noted_run::{NotedSource, run_with_notes};
-pub use told_lines::{LineFault, Telling, ToldLines, run_telling};
+pub use told_lines::{Telling, ToldLines, run_telling};

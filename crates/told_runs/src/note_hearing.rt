@@ -2,7 +2,7 @@
 
 use case_book::Findings;
 use case_report::WireAnswer;
-use cause_notes::{Form, Heard, JoinNote, NotedEnd, Notes, RowLimit, SearchingSource, notes_of};
+use cause_notes::{Form, Heard, JoinNote, Notes, RowLimit, SearchingSource, notes_of};
 use command_line::Command;
 use command_run::Hears;
 use log_ends::LogEnd;
@@ -15,14 +15,6 @@ pub(crate) struct NoteHearing {
     heard: Heard,
 }
 
-/// An end, as people are told of it.
-fn noted(end: LogEnd) -> NotedEnd {
-    NotedEnd {
-        log: end.log,
-        connection: end.connection,
-    }
-}
-
 impl NoteHearing {
     /// Before any answer.
     pub(crate) fn new() -> NoteHearing {
@@ -32,10 +24,6 @@ impl NoteHearing {
     }
 
     /// The notes beside what was heard of a source, in a form.
-    ///
-    /// # Errors
-    ///
-    /// Out of memory.
     pub(crate) fn notes<S: SearchingSource>(
         &self,
         alloc: Global,
@@ -50,6 +38,16 @@ impl NoteHearing {
         notes_of(alloc, &self.heard, source, hex, form)
     }
 
+    /// The same as lines of text.
+    pub(crate) fn lines<S: SearchingSource>(
+        &self,
+        alloc: Global,
+        command: &Command<'_>,
+        source: &S,
+    ) -> Result<String, AllocError> {
+        Ok(self.notes(alloc, command, source, Form::Text)?.text)
+    }
+
     /// Leaves what was heard to the system, which takes all memory at once where the program ends.
     pub(crate) fn leave(self) {
         self.heard.leave();
@@ -62,11 +60,11 @@ impl Hears for NoteHearing {
     }
 
     fn hear_case(&mut self) {
-        self.heard.hear_case();
+        self.heard.is_of_case = true;
     }
 
     fn keep_findings(&mut self, findings: Findings) {
-        self.heard.keep(findings);
+        self.heard.findings = Some(findings);
     }
 
     fn hear_wire(&mut self, found: &WireAnswer) {
@@ -74,19 +72,18 @@ impl Hears for NoteHearing {
     }
 
     fn hear_alike(&mut self, first: LogEnd, second: LogEnd) {
-        let note = JoinNote::Alike(noted(first), noted(second));
-        self.heard.keep_join(note);
+        self.heard.join = Some(JoinNote::Alike(first, second));
     }
 
     fn hear_unmatched(&mut self, end: LogEnd) {
-        self.heard.keep_join(JoinNote::Unmatched(noted(end)));
+        self.heard.join = Some(JoinNote::Unmatched(end));
     }
 
     fn hear_ambiguous(&mut self, end: LogEnd) {
-        self.heard.keep_join(JoinNote::Ambiguous(noted(end)));
+        self.heard.join = Some(JoinNote::Ambiguous(end));
     }
 
     fn hear_limit(&mut self, asked: u64, most: u64) {
-        self.heard.keep_limit(RowLimit { asked, most });
+        self.heard.limit = Some(RowLimit { asked, most });
     }
 }

@@ -4,10 +4,10 @@ ghost use Rattle.command_line.specs.Spelled.{HasWorkers};
 ghost use Rattle.command_run.specs.Runs.{Adds, CarriesOut, WritesOrFails};
 
 use crate::note_hearing::NoteHearing;
-use cause_notes::{Form, SearchingSource, write_note};
+use cause_notes::{SearchingSource, write_note};
 use command_line::Command;
 use command_run::{FAILED, Failed, Host, Watch, answer_heard};
-use std::alloc::Global;
+use std::alloc::{AllocError, Global};
 use std::io;
 use std::io::Write;
 use std::sync::Wait;
@@ -24,33 +24,24 @@ pub struct NotedSource<'a, S, N, G> {
     pub watch: &'a G,
 }
 
-/// Writes the notes beside what was heard of a source. Where a write fails, or memory is refused for them, they are left out.
-fn write_notes<S: SearchingSource, N: Write>(
-    alloc: Global,
-    command: &Command<'_>,
-    hearing: &NoteHearing,
-    source: &S,
-    notes: &mut N,
-) {
-    if let Ok(told) = hearing.notes(alloc, command, source, Form::Text) {
-        let _ = notes.write_all(told.text.as_bytes());
+/// Writes notes. Where a write fails, or memory is refused for them, they are left out.
+pub(crate) fn put_notes<N: Write>(notes: Result<String, AllocError>, out: &mut N) {
+    if let Ok(text) = notes {
+        let _ = out.write_all(text.as_bytes());
     }
 }
 
 /// Writes the note of a write that failed, if one did.
-fn write_failure<N: Write>(
+fn put_failure<N: Write>(
     alloc: Global,
     command: &Command<'_>,
     answered: &Result<u8, Failed<io::Error, io::Error>>,
-    notes: &mut N,
+    out: &mut N,
 ) {
-    let noted = match answered {
-        Ok(_) => return,
-        Err(Failed::Out(error)) => write_note(alloc, None, error),
-        Err(Failed::File(error)) => write_note(alloc, command.out(), error),
-    };
-    if let Ok(text) = noted {
-        let _ = notes.write_all(text.as_bytes());
+    match answered {
+        Ok(_) => {}
+        Err(Failed::Out(error)) => put_notes(write_note(alloc, None, error), out),
+        Err(Failed::File(error)) => put_notes(write_note(alloc, command.out(), error), out),
     }
 }
 
@@ -86,8 +77,9 @@ pub fn run_with_notes<
     };
     let answered = answer_heard(&host, command, &mut noted.source, &mut hearing, out, file);
     let _ = noted.source.look_back();
-    write_notes(alloc, command, &hearing, &noted.source, &mut noted.notes);
+    let told = hearing.lines(alloc, command, &noted.source);
+    put_notes(told, &mut noted.notes);
     hearing.leave();
-    write_failure(alloc, command, &answered, &mut noted.notes);
+    put_failure(alloc, command, &answered, &mut noted.notes);
     answered.unwrap_or(FAILED)
 }

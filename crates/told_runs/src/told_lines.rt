@@ -7,11 +7,12 @@ ghost use Rattle.command_run.specs.Runs.{Adds, CarriesOut, Tells};
 ghost use Rattle.report_lines.specs.Faults.{fault_status};
 
 use crate::note_hearing::NoteHearing;
-use crate::noted_run::NotedSource;
-use cause_notes::{Form, SearchingSource, write_note};
+use crate::noted_run::{NotedSource, put_notes};
+use cause_notes::{SearchingSource, write_note};
 use command_line::Command;
 use command_run::{FAILED, Failed, Host, Output, Watch, answer_heard};
 use exception_reasons::{Reason, record_reason};
+use json_lines::JsonFault;
 use named_text::NamedText;
 use report_lines::{Fault, ShownLine};
 use schema_names::SchemaNames;
@@ -32,29 +33,8 @@ pub struct Telling<'a> {
     pub is_quiet: bool,
 }
 
-/// Why a line isn't written.
-#[derive(Drop)]
-pub enum LineFault {
-    /// Memory was refused for its text.
-    OutOfMemory,
-    /// A write failed.
-    Write(io::Error),
-}
-
-impl From<AllocError> for LineFault {
-    fn from(_e: AllocError) -> LineFault {
-        LineFault::OutOfMemory
-    }
-}
-
-impl From<io::Error> for LineFault {
-    fn from(error: io::Error) -> LineFault {
-        LineFault::Write(error)
-    }
-}
-
 /// An output that writes lines with names, and behind each record's the reason of its exception: ` reason "TEXT"`. What is
-/// written isn't known as text.
+/// written isn't known as text. A line fails as an object does.
 #[derive(Drop)]
 pub struct ToldLines<'a, W: Write> {
     alloc: Global,
@@ -121,24 +101,24 @@ impl<'a, W: Write> ToldLines<'a, W> {
 }
 
 impl<W: Write> Output for ToldLines<'_, W> {
-    type Error = LineFault;
+    type Error = JsonFault;
 
-    fn write_line(&mut self, shown: ShownLine<'_>) -> Result<(), LineFault> {
+    fn write_line(&mut self, shown: ShownLine<'_>) -> Result<(), JsonFault> {
         let text = self.text_of(shown)?;
         Ok(self.out.writeln(text.as_str())?)
     }
 
-    fn write_bytes(&mut self, bytes: &[u8]) -> Result<(), LineFault> {
+    fn write_bytes(&mut self, bytes: &[u8]) -> Result<(), JsonFault> {
         Ok(self.out.write_all(bytes)?)
     }
 
-    fn finish(&mut self) -> Result<(), LineFault> {
+    fn finish(&mut self) -> Result<(), JsonFault> {
         Ok(self.out.flush()?)
     }
 }
 
 /// What came of telling lines.
-type LinesTold = Result<u8, Failed<LineFault, io::Error>>;
+type LinesTold = Result<u8, Failed<JsonFault, io::Error>>;
 
 /// The notes beside what was told of a source: that of a write that failed, or those of what was heard, with names; none
 /// where none are wanted.
@@ -155,18 +135,8 @@ fn notes_beside<S: SearchingSource>(
     }
     match told {
         Err(Failed::File(error)) => write_note(alloc, command.out(), error),
-        Err(Failed::Out(LineFault::Write(error))) => write_note(alloc, None, error),
-        _ => {
-            let notes = hearing.notes(alloc, command, source, Form::Text)?;
-            with_names(alloc, telling.names, notes.text)
-        }
-    }
-}
-
-/// Writes those notes. Where a write fails, or memory is refused for them, they are left out.
-fn put_notes<N: Write>(notes: Result<String, AllocError>, out: &mut N) {
-    if let Ok(text) = notes {
-        let _ = out.write_all(text.as_bytes());
+        Err(Failed::Out(JsonFault::Write(error))) => write_note(alloc, None, error),
+        _ => with_names(alloc, telling.names, hearing.lines(alloc, command, source)?),
     }
 }
 
@@ -176,7 +146,7 @@ fn end_lines<W: Write>(told: LinesTold, out: &mut ToldLines<'_, W>) -> u8
 {
     match told {
         Ok(status) => status,
-        Err(Failed::Out(LineFault::OutOfMemory)) => out.end_without_memory(),
+        Err(Failed::Out(JsonFault::OutOfMemory)) => out.end_without_memory(),
         Err(_) => FAILED,
     }
 }

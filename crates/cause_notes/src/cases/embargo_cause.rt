@@ -1,6 +1,7 @@
 //! Calls that overtake others where an embargo wasn't asked for, or wasn't waited for.
 
 use crate::cases::order_cause::Placed;
+use crate::found::{found, made};
 use past_records::{NoteText, decoded};
 use record_notes::Logs;
 use rpc_view::{Loopback, RpcMessage};
@@ -35,40 +36,32 @@ fn sends(step: &Step, sought: Name) -> Option<u32> {
 fn leaves(step: &Step, sought: Name, connection: u32) -> bool {
     match step {
         Step::Deliver { call, .. } => *call == sought,
-        _ => match sends(step, sought) {
-            Some(other) => other != connection,
-            None => false,
-        },
+        _ => sends(step, sought).is_some_and(|other| other != connection),
     }
 }
 
-/// The first record of a vat by which this call goes another way than over this connection.
-fn left_at(steps: &[Placed<'_>], call: Name, vat: u32, connection: u32) -> Option<usize> {
-    for placed in steps {
-        if placed.vat == vat && leaves(placed.step, call, connection) {
-            return Some(placed.at);
-        }
+/// Where the call that overtakes parts from the one that is overtaken, if this step sends that one.
+fn parting_at(
+    steps: &[Placed<'_>],
+    placed: &Placed<'_>,
+    overtaken: Name,
+    early: Name,
+) -> Option<Parting> {
+    let vat = placed.vat;
+    let connection = sends(placed.step, overtaken)?;
+    let left = steps
+        .iter()
+        .find(|other| other.vat == vat && leaves(other.step, early, connection))?
+        .at;
+    if left <= placed.at {
+        return None;
     }
-    None
-}
-
-/// Where the call that overtakes parts from the one that is overtaken.
-fn parting_of(steps: &[Placed<'_>], overtaken: Name, early: Name) -> Option<Parting> {
-    for placed in steps {
-        if let Some(connection) = sends(placed.step, overtaken) {
-            if let Some(left) = left_at(steps, early, placed.vat, connection) {
-                if left > placed.at {
-                    return Some(Parting {
-                        vat: placed.vat,
-                        connection,
-                        sent: placed.at,
-                        left,
-                    });
-                }
-            }
-        }
-    }
-    None
+    Some(Parting {
+        vat,
+        connection,
+        sent: placed.at,
+        left,
+    })
 }
 
 /// What a record says of embargoes on this connection: a senderLoopback that is sent, or an echo that is received.
@@ -86,66 +79,38 @@ fn loopback_in(event: &DecodedRecord, sought: u32) -> Option<Loopback> {
     }
 }
 
-/// What the record of this number says of embargoes on a connection.
-fn loopback_at(
-    alloc: Global,
-    log: &VatLog,
-    at: usize,
-    connection: u32,
-) -> Result<Option<Loopback>, AllocError> {
-    match decoded(alloc, log, at)? {
-        Some(event) => Ok(loopback_in(&event, connection)),
-        None => Ok(None),
-    }
-}
-
 /// Whether an embargo was asked for between both records, and the senderLoopback that still waits for its echo then.
 fn asked_between(
     alloc: Global,
     log: &VatLog,
     parting: Parting,
 ) -> Result<(bool, Option<usize>), AllocError> {
-    let mut asked = false;
-    let mut waiting = None;
+    let mut asked = (false, None);
     for at in parting.sent..parting.left {
-        match loopback_at(alloc, log, at, parting.connection)? {
-            Some(Loopback::Sender) => {
-                asked = true;
-                waiting = Some(at);
-            }
-            Some(Loopback::Receiver) => waiting = None,
+        let event = decoded(alloc, log, at)?;
+        match event.and_then(|event| loopback_in(&event, parting.connection)) {
+            Some(Loopback::Sender) => asked = (true, Some(at)),
+            Some(Loopback::Receiver) => asked.1 = None,
             None => {}
         }
     }
-    Ok((asked, waiting))
+    Ok(asked)
 }
 
 /// Appends the note of the embargo that wasn't asked for, or wasn't waited for.
 fn put_embargo(text: &mut NoteText, parting: Parting, asked: (bool, Option<usize>)) {
-    let vat = u64::from(parting.vat);
+    let (vat, connection) = (u64::from(parting.vat), u64::from(parting.connection));
+    let (sent, left) = (parting.sent as u64, parting.left as u64);
     match asked {
         (false, _) => text.tell(
             "note: vat # sent no senderLoopback on connection # between its records # and #: the embargo wasn't asked for\n",
-            &[
-                vat,
-                u64::from(parting.connection),
-                parting.sent as u64,
-                parting.left as u64,
-            ],
+            &[vat, connection, sent, left],
         ),
         (true, Some(at)) => text.tell(
             "note: record # of vat # didn't wait for the echo of the senderLoopback that its record # sent\n",
-            &[parting.left as u64, vat, at as u64],
+            &[left, vat, at as u64],
         ),
         (true, None) => {}
-    }
-}
-
-/// The same, where the log of the vat is this.
-fn put_parting(alloc: Global, text: &mut NoteText, log: &VatLog, parting: Parting) {
-    match asked_between(alloc, log, parting) {
-        Ok(asked) => put_embargo(text, parting, asked),
-        Err(AllocError) => text.refuse(),
     }
 }
 
@@ -155,15 +120,18 @@ pub(crate) fn put_embargo_cause(
     text: &mut NoteText,
     logs: &Logs<'_>,
     steps: &[Placed<'_>],
-    calls: (Name, Name),
+    overtaken: Name,
+    early: Name,
 ) {
-    let (overtaken, early) = calls;
-    let Some(parting) = parting_of(steps, overtaken, early) else {
+    let mut partings = steps.iter();
+    let Some(parting) = partings.find_map(|placed| parting_at(steps, placed, overtaken, early))
+    else {
         return;
     };
-    match logs.of_vat(alloc, parting.vat) {
-        Ok(Some(log)) => put_parting(alloc, text, &log, parting),
-        Ok(None) => {}
-        Err(AllocError) => text.refuse(),
+    let Some(log) = found(text, logs.of_vat(alloc, parting.vat)) else {
+        return;
+    };
+    if let Some(asked) = made(text, asked_between(alloc, &log, parting)) {
+        put_embargo(text, parting, asked);
     }
 }

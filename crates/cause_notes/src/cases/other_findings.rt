@@ -1,6 +1,6 @@
 //! What was found of the other logs and of the links of a case.
 
-use crate::cases::link_notes::{put_counterpart, put_received};
+use crate::cases::link_notes::{Arrival, put_counterpart, put_received};
 use case_book::Findings;
 use case_report::{Breach, Report};
 use link_check::LinkOutcome;
@@ -21,14 +21,12 @@ fn put_report(text: &mut NoteText, words: &str, report: Report) {
 }
 
 /// Appends the notes of a link on which a message was received that wasn't sent so.
-fn put_link(
-    alloc: Global,
-    text: &mut NoteText,
-    logs: &Logs<'_>,
-    connection: u32,
-    end: u32,
-    message: u64,
-) {
+fn put_link(alloc: Global, text: &mut NoteText, logs: &Logs<'_>, arrival: Arrival) {
+    let Arrival {
+        connection,
+        end,
+        message,
+    } = arrival;
     put_report(
         text,
         "note: a message was received that wasn't sent so, and what follows may come of that: ",
@@ -38,8 +36,8 @@ fn put_link(
             message,
         },
     );
-    put_received(alloc, text, logs, connection, end, message);
-    put_counterpart(alloc, text, logs, connection, end, message);
+    put_received(alloc, text, logs, arrival);
+    put_counterpart(alloc, text, logs, arrival);
 }
 
 /// Appends the notes of each link on which a message was received that wasn't sent so, but for the one that is told of already.
@@ -49,50 +47,40 @@ pub(crate) fn put_links(alloc: Global, text: &mut NoteText, logs: &Logs<'_>, tol
     };
     let mut left = MOST;
     for link in findings.links() {
+        let connection = link.connection();
         if let LinkOutcome::Broken { end, message } = link.outcome() {
-            if left > 0 && told != Some(link.connection()) {
-                put_link(alloc, text, logs, link.connection(), end, message);
+            if left > 0 && told != Some(connection) {
+                let arrival = Arrival {
+                    connection,
+                    end,
+                    message,
+                };
+                put_link(alloc, text, logs, arrival);
                 left -= 1;
             }
         }
     }
 }
 
-/// The record that a finding tells of.
-fn place_of(finding: &VatFinding) -> Option<usize> {
-    match finding.outcome() {
-        Outcome::Good(_) => None,
-        Outcome::Broken { at, .. } | Outcome::Outside { at, .. } => Some(*at as usize),
-    }
-}
-
-/// What is said of the finding of a log, as a report says it. None where it is good.
-fn report_of(finding: &VatFinding) -> Option<Report> {
-    let vat = finding.log().vat();
-    match finding.outcome() {
-        Outcome::Good(_) => None,
-        Outcome::Broken { at, rule } => Some(Report::Vat {
-            vat,
-            at: *at,
-            rule: Breach::Rule(*rule),
-        }),
-        Outcome::Outside { at, why } => Some(Report::OutsideVat {
-            vat,
-            at: *at,
-            why: *why,
-        }),
-    }
+/// Whether a log is good by itself.
+fn is_good(finding: &VatFinding) -> bool {
+    matches!(finding.outcome(), Outcome::Good(_))
 }
 
 /// Appends the notes of a log that isn't good, or is outside.
 fn put_vat(alloc: Global, text: &mut NoteText, logs: &Logs<'_>, finding: &VatFinding) {
-    let Some(report) = report_of(finding) else {
-        return;
+    let vat = finding.log().vat();
+    let (at, report) = match *finding.outcome() {
+        Outcome::Good(_) => return,
+        Outcome::Broken { at, rule } => {
+            let rule = Breach::Rule(rule);
+            (at, Report::Vat { vat, at, rule })
+        }
+        Outcome::Outside { at, why } => (at, Report::OutsideVat { vat, at, why }),
     };
     put_report(text, "note: in another log: ", report);
-    match (place_of(finding), logs.name_of(finding.log().vat())) {
-        (Some(at), Some(name)) => put_record(alloc, text, name, finding.log(), at),
-        _ => {}
+    if let Some(name) = logs.name_of(vat) {
+        put_record(alloc, text, name, finding.log(), at as usize);
     }
 }
 
@@ -106,7 +94,7 @@ fn put_bad_vats(
 ) {
     let mut left = MOST;
     for finding in findings.vats() {
-        if left > 0 && finding.log().vat() != told && place_of(finding).is_some() {
+        if left > 0 && finding.log().vat() != told && !is_good(finding) {
             put_vat(alloc, text, logs, finding);
             left -= 1;
         }
@@ -115,34 +103,27 @@ fn put_bad_vats(
 
 /// Appends the note of the logs that are good by themselves.
 fn put_good_vats(text: &mut NoteText, findings: &Findings) {
-    let mut between = "note: good by themselves: vat ";
-    let mut left = MOST;
-    for finding in findings.vats() {
-        if left > 0 && place_of(finding).is_none() {
-            text.words(between);
-            text.tell("#", &[u64::from(finding.log().vat())]);
-            between = ", vat ";
-            left -= 1;
-        }
+    let mut between = "note: good by themselves: vat #";
+    let good = findings.vats().iter().filter(|finding| is_good(finding));
+    for finding in good.take(MOST) {
+        text.tell(between, &[u64::from(finding.log().vat())]);
+        between = ", vat #";
     }
-    if left < MOST {
+    if between == ", vat #" {
         text.words("\n");
     }
 }
 
 /// Appends the note of the connections on which all that was received was sent so.
 fn put_good_links(text: &mut NoteText, findings: &Findings) {
-    let mut between = "note: received as sent: connection ";
-    let mut left = MOST;
-    for link in findings.links() {
-        if left > 0 && matches!(link.outcome(), LinkOutcome::Good { .. }) {
-            text.words(between);
-            text.tell("#", &[u64::from(link.connection())]);
-            between = ", connection ";
-            left -= 1;
-        }
+    let mut between = "note: received as sent: connection #";
+    let links = findings.links().iter();
+    let good = links.filter(|link| matches!(link.outcome(), LinkOutcome::Good { .. }));
+    for link in good.take(MOST) {
+        text.tell(between, &[u64::from(link.connection())]);
+        between = ", connection #";
     }
-    if left < MOST {
+    if between == ", connection #" {
         text.words("\n");
     }
 }

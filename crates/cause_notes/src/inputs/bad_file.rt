@@ -1,10 +1,11 @@
 //! Files that are no logs or orders.
 
+use crate::found::{made, put_line};
 use crate::inputs::file_kind::{FileKind, kind_of};
 use bytes::Bytes;
 use merge_order::OrderError;
 use past_records::NoteText;
-use std::alloc::{AllocError, Global};
+use std::alloc::Global;
 use vat_log::LogError;
 
 /// Appends the note of why bytes aren't a log.
@@ -40,24 +41,6 @@ pub(crate) fn put_order_fault(text: &mut NoteText, fault: OrderError, bytes: usi
     }
 }
 
-/// Appends the note of what a file is that was to be of another kind; and says whether there is such a note.
-fn put_other_kind(text: &mut NoteText, name: &str, kind: FileKind, wanted: FileKind) -> bool {
-    match kind.sentence() {
-        Some(sentence) if kind != wanted => {
-            put_sentence(text, name, sentence);
-            true
-        }
-        _ => false,
-    }
-}
-
-/// Appends the note of a sentence whose subject is a file.
-pub(crate) fn put_sentence(text: &mut NoteText, name: &str, sentence: &str) {
-    text.file("note: ", name, " ");
-    text.words(sentence);
-    text.words("\n");
-}
-
 /// Appends the note of what a file is that was to be of another kind; and says whether there is such a note, or memory was
 /// refused.
 pub(crate) fn put_kind(
@@ -66,12 +49,15 @@ pub(crate) fn put_kind(
     file: &(String, Bytes),
     wanted: FileKind,
 ) -> bool {
-    let (name, bytes) = file;
-    match kind_of(alloc, bytes.as_slice()) {
-        Ok(kind) => put_other_kind(text, name.as_str(), kind, wanted),
-        Err(AllocError) => {
-            text.refuse();
+    let Some(kind) = made(text, kind_of(alloc, file.1.as_slice())) else {
+        return true;
+    };
+    match kind.sentence() {
+        Some(sentence) if kind != wanted => {
+            text.file("note: ", file.0.as_str(), " ");
+            put_line(text, sentence, "");
             true
         }
+        _ => false,
     }
 }

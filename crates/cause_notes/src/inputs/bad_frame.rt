@@ -1,5 +1,6 @@
 //! Frames that aren't read, or aren't judged, and words that spell none.
 
+use crate::found::put_line;
 use crate::inputs::bad_file::put_kind;
 use crate::inputs::file_kind::FileKind;
 use bytes::Bytes;
@@ -38,12 +39,19 @@ fn frame_sentence(fault: FrameError) -> &'static str {
 }
 
 /// Why a frame isn't read as a message. None where it is outside of what is judged.
-pub(crate) fn message_sentence(fault: Fault) -> Option<&'static str> {
+fn message_sentence(fault: Fault) -> Option<&'static str> {
     match fault {
         Fault::Frame(fault) => Some(frame_sentence(fault)),
         Fault::Read(fault) => read_sentence(fault),
         Fault::BadTag => Some("a union's tag is a number that isn't listed"),
         _ => None,
+    }
+}
+
+/// Appends the note of why a frame isn't read, where it isn't outside of what is judged.
+pub(crate) fn put_unread_frame(text: &mut NoteText, fault: Fault) {
+    if let Some(sentence) = message_sentence(fault) {
+        put_line(text, "note: the frame isn't read: ", sentence);
     }
 }
 
@@ -54,12 +62,12 @@ pub(crate) fn put_hex(alloc: Global, text: &mut NoteText, hex: Option<&str>) {
     };
     match hex::decode(alloc, hex) {
         Err(hex::FromHexError::InvalidHexCharacter { c, index }) => {
-            let c = c.escape_debug();
             text.words("note: '");
-            text.shown(&c);
+            text.shown(&c.escape_debug());
+            let place = [index as u64];
             text.tell(
                 "' at place #, counted from 0, is no hexadecimal digit\n",
-                &[index as u64],
+                &place,
             );
         }
         Err(hex::FromHexError::OddLength) => {
@@ -70,7 +78,7 @@ pub(crate) fn put_hex(alloc: Global, text: &mut NoteText, hex: Option<&str>) {
 }
 
 /// Why a message isn't judged.
-pub(crate) fn outside_sentence(why: Outside) -> &'static str {
+fn outside_sentence(why: Outside) -> &'static str {
     match why {
         Outside::Level => why_sentence(Why::Level),
         Outside::Unimplemented => why_sentence(Why::Unimplemented),
@@ -78,16 +86,15 @@ pub(crate) fn outside_sentence(why: Outside) -> &'static str {
     }
 }
 
-/// Appends the note of why the last frame of a file isn't read, or isn't judged.
-fn put_last(text: &mut NoteText, name: &str, words: &str, sentence: &str) {
-    text.words("note: the last frame of ");
-    text.name(name);
-    text.words(words);
-    text.words(sentence);
-    text.words("\n");
+/// Appends the note of why a frame of the command line isn't judged, or isn't read.
+pub(crate) fn put_frame(text: &mut NoteText, fault: Fault) {
+    match fault {
+        Fault::Outside(why) => put_line(text, "note: not judged: ", outside_sentence(why)),
+        _ => put_unread_frame(text, fault),
+    }
 }
 
-/// Appends the note of what a file is that was to hold frames; else why the last of them isn't read.
+/// Appends the note of what a file is that was to hold frames; else why the last of them isn't judged, or isn't read.
 pub(crate) fn put_last_frame(
     alloc: Global,
     text: &mut NoteText,
@@ -97,11 +104,12 @@ pub(crate) fn put_last_frame(
     if put_kind(alloc, text, file, FileKind::Other) {
         return;
     }
-    let name = file.0.as_str();
-    if let Fault::Outside(why) = fault {
-        return put_last(text, name, " isn't judged: ", outside_sentence(why));
-    }
-    if let Some(sentence) = message_sentence(fault) {
-        put_last(text, name, " isn't read: ", sentence);
+    let (words, sentence) = match fault {
+        Fault::Outside(why) => (" isn't judged: ", Some(outside_sentence(why))),
+        _ => (" isn't read: ", message_sentence(fault)),
+    };
+    if let Some(sentence) = sentence {
+        text.file("note: the last frame of ", file.0.as_str(), words);
+        put_line(text, sentence, "");
     }
 }

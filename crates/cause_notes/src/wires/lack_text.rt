@@ -1,84 +1,79 @@
 //! What a message lacks, in words.
 
-use std::fmt;
-use std::fmt::{Display, Formatter};
+use past_records::NoteText;
 use wire_cut::Lack;
 
-/// What a message lacks, to be shown.
-#[derive(Clone, Copy)]
-pub(super) struct ShownLack(pub(super) Lack);
-
-/// What it lacks of questions.
-fn put_question<W: fmt::Write>(f: &mut Formatter<W>, lack: Lack) -> fmt::Result {
+/// What a message lacks of questions, as a sentence about one of this number.
+fn question_sentence(lack: Lack) -> (&'static str, u32) {
     match lack {
-        Lack::QuestionFree(question) => write!(
-            f,
-            "the Return and the Finish of question {question}, or its Return with noFinishNeeded"
+        Lack::QuestionFree(question) => (
+            "the Return and the Finish of question #, or its Return with noFinishNeeded",
+            question,
         ),
-        Lack::OwnQuestion(question) => write!(f, "an own question {question} without a Finish"),
-        Lack::QuestionReceived(question) => {
-            write!(f, "a received question {question} without a Return")
-        }
-        Lack::CallAnswered(question) => write!(
-            f,
-            "the results of question {question}: its call reaches an object, or what it was passed on to returns"
+        Lack::OwnQuestion(question) => ("an own question # without a Finish", question),
+        Lack::QuestionReceived(question) => ("a received question # without a Return", question),
+        Lack::CallAnswered(question) => (
+            "the results of question #: its call reaches an object, or what it was passed on to returns",
+            question,
         ),
-        Lack::ResultsAgree(question) => write!(
-            f,
-            "results of question {question} that agree with what was told of them"
+        Lack::ResultsAgree(question) => (
+            "results of question # that agree with what was told of them",
+            question,
         ),
-        Lack::AskedForResults(question) => write!(
-            f,
-            "a question {question} whose results are to come back: it has sendResultsTo yourself"
+        Lack::AskedForResults(question) => (
+            "a question # whose results are to come back: it has sendResultsTo yourself",
+            question,
         ),
-        Lack::AskedYourself(question) => {
-            write!(f, "a question {question} with sendResultsTo yourself")
-        }
-        Lack::FinishReceived(question) => write!(f, "the Finish of question {question}"),
-        Lack::QuestionTakeable(question) => write!(
-            f,
-            "an own question {question} with sendResultsTo yourself, without a Finish, whose results no Return took"
+        Lack::AskedYourself(question) => ("a question # with sendResultsTo yourself", question),
+        Lack::FinishReceived(question) => ("the Finish of question #", question),
+        Lack::QuestionTakeable(question) => (
+            "an own question # with sendResultsTo yourself, without a Finish, whose results no Return took",
+            question,
         ),
-        _ => f.write_str("something else"),
+        _ => ("something else", 0),
     }
 }
 
-/// What it lacks of imports and exports.
-fn put_number<W: fmt::Write>(f: &mut Formatter<W>, lack: Lack) -> fmt::Result {
+/// What a message lacks, as a sentence about what has this number.
+fn lack_sentence(lack: Lack) -> (&'static str, u32) {
     match lack {
-        Lack::ImportHeld(id) => write!(f, "import {id} in life"),
-        Lack::ImportHeldOften(id, count) => write!(f, "import {id}, held {count} times"),
-        Lack::ExportFree(id) => write!(
-            f,
-            "export {id} released, or in life as it was before and without a Resolve"
+        Lack::ImportHeld(id) => ("import # in life", id),
+        Lack::ImportHeldOften(id, _) => ("import #, held # times", id),
+        Lack::ExportFree(id) => (
+            "export # released, or in life as it was before and without a Resolve",
+            id,
         ),
-        Lack::PromiseOpen(id) => write!(f, "export {id}, a promise in life without a Resolve"),
-        lack => put_question(f, lack),
+        Lack::PromiseOpen(id) => ("export #, a promise in life without a Resolve", id),
+        Lack::LoopbackFree(id) => ("the echo of loopback #", id),
+        Lack::LeadsElsewhere(id) => (
+            "a target of loopback # that leads to what isn't reached over this connection",
+            id,
+        ),
+        Lack::LoopbackPending(id) => ("a received loopback # without an echo", id),
+        Lack::LoopbackLeads(id) => ("a target of loopback # that led to where the echo goes", id),
+        Lack::CallsGone(id) => (
+            "the end of the calls that came before loopback # for its target",
+            id,
+        ),
+        Lack::HandedOnCall(id) => ("the call that it hands on", id),
+        lack => question_sentence(lack),
     }
 }
 
-impl Display for ShownLack {
-    fn fmt<W: fmt::Write>(&self, f: &mut Formatter<W>) -> fmt::Result {
-        match self.0 {
-            Lack::LoopbackFree(id) => write!(f, "the echo of loopback {id}"),
-            Lack::LeadsElsewhere(id) => write!(
-                f,
-                "a target of loopback {id} that leads to what isn't reached over this connection"
-            ),
-            Lack::LoopbackPending(id) => write!(f, "a received loopback {id} without an echo"),
-            Lack::LoopbackLeads(id) => write!(
-                f,
-                "a target of loopback {id} that led to where the echo goes"
-            ),
-            Lack::CallsGone(id) => write!(
-                f,
-                "the end of the calls that came before loopback {id} for its target"
-            ),
-            Lack::HandedOnCall(_) => f.write_str("the call that it hands on"),
-            Lack::NotAborted => f.write_str("a connection without an abort"),
-            lack => put_number(f, lack),
-        }
+/// Appends the end of the note of a message: what it lacks.
+pub(super) fn put_lacking(text: &mut NoteText, message: u64, lack: Lack) {
+    if lack == Lack::NotAborted {
+        let words = "# comes behind an abort, which is the last message\n";
+        return text.tell(words, &[message]);
     }
+    let (sentence, number) = lack_sentence(lack);
+    let count = match lack {
+        Lack::ImportHeldOften(_, count) => count,
+        _ => 0,
+    };
+    text.tell("# lacks ", &[message]);
+    text.tell(sentence, &[u64::from(number), count]);
+    text.words("\n");
 }
 
 /// Whether more from the other end could bring what a message lacks.

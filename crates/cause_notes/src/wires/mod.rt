@@ -2,6 +2,5 @@
 
 mod byte_kind;
 mod lack_text;
-pub(crate) mod wire_found;
 mod wire_messages;
 pub(crate) mod wire_notes;

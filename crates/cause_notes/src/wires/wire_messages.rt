@@ -1,5 +1,6 @@
 //! The messages of a file of frames.
 
+use crate::found::found;
 use bytes::Bytes;
 use cap_frame::Frame;
 use past_records::NoteText;
@@ -39,14 +40,6 @@ fn answer_of(alloc: Global, bytes: &Bytes, number: u64) -> Result<Option<Answer>
     }
 }
 
-/// Appends the note of a message: the name of its file, its number, and the message as `frame --later` prints it.
-fn put_answer(text: &mut NoteText, name: &str, number: u64, answer: &Answer) {
-    text.file("note: ", name, ": message ");
-    text.tell("# ", &[number]);
-    text.shown(answer);
-    text.words("\n");
-}
-
 /// Appends the note of a message: the name of its file, its number, and the message as `frame --later` prints it. Gives why it
 /// isn't read, where that is so.
 pub(super) fn put_message(
@@ -55,19 +48,13 @@ pub(super) fn put_message(
     file: &(String, Bytes),
     number: u64,
 ) -> Option<Fault> {
-    let (name, bytes) = file;
-    match answer_of(alloc, bytes, number) {
-        Ok(Some(answer)) => {
-            put_answer(text, name.as_str(), number, &answer);
-            match answer {
-                Answer::Fault(fault) => Some(fault),
-                _ => None,
-            }
-        }
-        Ok(None) => None,
-        Err(AllocError) => {
-            text.refuse();
-            None
-        }
+    let answer = found(text, answer_of(alloc, &file.1, number))?;
+    text.file("note: ", file.0.as_str(), ": message ");
+    text.tell("# ", &[number]);
+    text.shown(&answer);
+    text.words("\n");
+    match answer {
+        Answer::Fault(fault) => Some(fault),
+        _ => None,
     }
 }

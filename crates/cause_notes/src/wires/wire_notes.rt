@@ -1,39 +1,24 @@
 //! The notes beside what is answered of the bytes of a connection.
 
-use crate::inputs::bad_file::put_sentence;
-use crate::inputs::bad_frame::message_sentence;
-use crate::inputs::bad_input::put_unjudged;
-use crate::inputs::file_kind::kind_of;
+use crate::found::{found, made, put_line};
+use crate::inputs::bad_file::put_kind;
+use crate::inputs::bad_frame::put_unread_frame;
+use crate::inputs::file_kind::FileKind;
 use crate::wires::byte_kind::{is_encrypted, is_packed};
-use crate::wires::lack_text::{ShownLack, may_come};
-use crate::wires::wire_found::WireFound;
+use crate::wires::lack_text::{may_come, put_lacking};
 use crate::wires::wire_messages::{place_of, put_message};
 use bytes::Bytes;
-use case_report::{Breach, Report, WireLine};
+use case_report::{Breach, Report, WireAnswer, WireLine};
 use past_records::NoteText;
 use record_notes::{OpenCounts, open_in};
 use report_lines::{report_sentence, why_sentence};
-use std::alloc::{AllocError, Global};
+use std::alloc::Global;
 use vat_log::VatLog;
 use vat_rules::Why;
-use wire_cut::{End, Lack, Waiting};
+use wire_cut::End;
 
 /// The two files, that of the first end before that of the second.
-#[derive(Clone, Copy)]
-struct WireFiles<'a> {
-    of_a: &'a (String, Bytes),
-    of_b: &'a (String, Bytes),
-}
-
-impl<'a> WireFiles<'a> {
-    /// The file with what an end sent.
-    fn of(&self, end: End) -> &'a (String, Bytes) {
-        match end {
-            End::A => self.of_a,
-            End::B => self.of_b,
-        }
-    }
-}
+type WireFiles<'a> = [&'a (String, Bytes); 2];
 
 /// Of two things, that of an end.
 fn at_end<T: Copy>(both: [T; 2], end: End) -> T {
@@ -46,48 +31,28 @@ fn at_end<T: Copy>(both: [T; 2], end: End) -> T {
 
 /// Appends the note of what a rule asks.
 fn put_rule(text: &mut NoteText, rule: Breach) {
-    let report = Report::Vat {
-        vat: 0,
-        at: 0,
-        rule,
-    };
-    if let Some(sentence) = report_sentence(&report) {
-        put_unjudged(text, "note: rule: ", sentence);
+    let (vat, at) = (0, 0);
+    if let Some(sentence) = report_sentence(&Report::Vat { vat, at, rule }) {
+        put_line(text, "note: rule: ", sentence);
     }
-}
-
-/// Appends the note of what the message of an end lacks, where it waits.
-fn put_lack(text: &mut NoteText, files: &WireFiles<'_>, waiting: Option<Waiting>) {
-    let Some(Waiting { end, message, lack }) = waiting else {
-        return;
-    };
-    text.file("note: ", files.of(end).0.as_str(), ": message ");
-    if lack == Lack::NotAborted {
-        return text.tell(
-            "# comes behind an abort, which is the last message\n",
-            &[message],
-        );
-    }
-    text.tell("# lacks ", &[message]);
-    text.shown(&ShownLack(lack));
-    text.words("\n");
 }
 
 /// Appends the notes of what the messages lack at which the explanation stops, that of this end before that of the other.
-fn put_lacks(text: &mut NoteText, files: &WireFiles<'_>, found: &WireFound, end: End) {
-    put_lack(text, files, at_end(found.waiting, end));
-    put_lack(text, files, at_end(found.waiting, end.other()))
-}
-
-/// Appends the note of where one file should be cut, behind how many of its bytes.
-fn put_cut_at(text: &mut NoteText, name: &str, other: &str, message: u64, byte: usize) {
-    text.file("note: ", other, " may end too early: cut ");
-    text.file("", name, " before message ");
-    text.tell("#, behind its first # bytes\n", &[message, byte as u64]);
+fn put_lacks(text: &mut NoteText, files: WireFiles<'_>, found: &WireAnswer, end: End) {
+    for end in [end, end.other()] {
+        if let Some(waiting) = at_end(found.waiting, end) {
+            text.file(
+                "note: ",
+                at_end(files, waiting.end).0.as_str(),
+                ": message ",
+            );
+            put_lacking(text, waiting.message, waiting.lack);
+        }
+    }
 }
 
 /// Whether the other file may end before what a message of this end lacks, as all of it was received.
-fn may_be_cut(found: &WireFound, end: End, message: u64) -> bool {
+fn may_be_cut(found: &WireAnswer, end: End, message: u64) -> bool {
     match (
         at_end(found.waiting, end.other()),
         at_end(found.waiting, end),
@@ -97,19 +62,14 @@ fn may_be_cut(found: &WireFound, end: End, message: u64) -> bool {
     }
 }
 
-/// Appends the note of where one file should be cut: the other one may end before what a message lacks, as all of it was
-/// received.
-fn put_cut(text: &mut NoteText, files: &WireFiles<'_>, found: &WireFound, end: End, message: u64) {
-    if !may_be_cut(found, end, message) {
-        return;
-    }
-    let (name, bytes) = files.of(end);
-    match place_of(bytes, message) {
-        Ok(byte) => {
-            let other = files.of(end.other()).0.as_str();
-            put_cut_at(text, name.as_str(), other, message, byte);
-        }
-        Err(AllocError) => text.refuse(),
+/// Appends the note of where one file should be cut, behind how many of its bytes: the other one may end too early.
+fn put_cut(text: &mut NoteText, files: WireFiles<'_>, end: End, message: u64) {
+    let (name, bytes) = at_end(files, end);
+    if let Some(byte) = made(text, place_of(bytes, message)) {
+        let other = at_end(files, end.other()).0.as_str();
+        text.file("note: ", other, " may end too early: cut ");
+        text.file("", name.as_str(), " before message ");
+        text.tell("#, behind its first # bytes\n", &[message, byte as u64]);
     }
 }
 
@@ -118,143 +78,74 @@ fn put_cut(text: &mut NoteText, files: &WireFiles<'_>, found: &WireFound, end: E
 fn put_no(
     alloc: Global,
     text: &mut NoteText,
-    files: &WireFiles<'_>,
-    found: &WireFound,
+    files: WireFiles<'_>,
+    found: &WireAnswer,
     place: (End, u64),
     rule: Option<Breach>,
 ) {
     let (end, message) = place;
-    let _ = put_message(alloc, text, files.of(end), message);
+    let _ = put_message(alloc, text, at_end(files, end), message);
     if let Some(rule) = rule {
         put_rule(text, rule);
     }
     put_lacks(text, files, found, end);
     if message == 0 {
-        return text.words(
+        text.words(
             "note: the capture may begin in the middle: a connection is judged from its first message on\n",
         );
+    } else if may_be_cut(found, end, message) {
+        put_cut(text, files, end, message);
     }
-    put_cut(text, files, found, end, message)
 }
 
 /// Appends the notes of a message that isn't judged: it, and why.
-fn put_outside(
-    alloc: Global,
-    text: &mut NoteText,
-    files: &WireFiles<'_>,
-    place: (End, u64),
-    why: Why,
-) {
-    let (end, message) = place;
-    let fault = put_message(alloc, text, files.of(end), message);
-    put_unjudged(text, "note: not judged: ", why_sentence(why));
-    if let Some(sentence) = fault.and_then(message_sentence) {
-        put_unjudged(text, "note: the frame isn't read: ", sentence);
-    }
-}
-
-/// Appends the note of how much is open at the end of a file, if anything is.
-fn put_counts(text: &mut NoteText, name: &str, counts: OpenCounts) {
-    if counts.is_any() {
-        text.file("note: open at the end of ", name, ": ");
-        text.shown(&counts);
-        text.words("\n");
+fn put_outside(alloc: Global, text: &mut NoteText, file: &(String, Bytes), message: u64, why: Why) {
+    let fault = put_message(alloc, text, file, message);
+    put_line(text, "note: not judged: ", why_sentence(why));
+    if let Some(fault) = fault {
+        put_unread_frame(text, fault);
     }
 }
 
 /// Appends the notes of what is open at an end, if anything is.
 fn put_open(alloc: Global, text: &mut NoteText, file: &(String, Bytes), log: &VatLog) {
-    match open_in(alloc, log) {
-        Ok(Some(list)) => {
-            let counts = OpenCounts::of(list.as_slice()).without_exports();
-            put_counts(text, file.0.as_str(), counts);
-        }
-        Ok(None) => {}
-        Err(AllocError) => text.refuse(),
-    }
-}
-
-/// Appends the notes of what is open at both ends, where all is explained.
-fn put_opens(alloc: Global, text: &mut NoteText, files: &WireFiles<'_>, found: &WireFound) {
-    let Some((log_of_a, log_of_b)) = &found.logs else {
+    let Some(list) = found(text, open_in(alloc, log)) else {
         return;
     };
-    put_open(alloc, text, files.of_a, log_of_a);
-    put_open(alloc, text, files.of_b, log_of_b)
-}
-
-/// What the bytes of a file that doesn't begin with a frame are.
-#[derive(Clone, Copy)]
-enum Bytewise {
-    /// A file of which this is told.
-    File(&'static str),
-    /// Encrypted.
-    Encrypted,
-    /// Packed.
-    Packed,
-    /// None of these.
-    Other,
-}
-
-/// What the bytes of a file that doesn't begin with a frame are.
-fn look_of(alloc: Global, bytes: &Bytes) -> Result<Bytewise, AllocError> {
-    if let Some(sentence) = kind_of(alloc, bytes.as_slice())?.sentence() {
-        return Ok(Bytewise::File(sentence));
+    let counts = OpenCounts::of(list.as_slice()).without_exports();
+    if counts.is_any() {
+        text.file("note: open at the end of ", file.0.as_str(), ": ");
+        text.shown(&counts);
+        text.words("\n");
     }
-    if is_encrypted(bytes) {
-        return Ok(Bytewise::Encrypted);
-    }
-    if is_packed(alloc, bytes)? {
-        return Ok(Bytewise::Packed);
-    }
-    Ok(Bytewise::Other)
 }
 
 /// Appends the note of what a file is that doesn't begin with a frame, where that is found.
-fn put_bytewise(text: &mut NoteText, name: &str, kind: Bytewise) {
-    match kind {
-        Bytewise::File(sentence) => put_sentence(text, name, sentence),
-        Bytewise::Encrypted => text.file(
-            "note: the bytes of ",
-            name,
-            " look like TLS: they have to be captured before they are encrypted\n",
-        ),
-        Bytewise::Packed => text.file(
-            "note: the bytes of ",
-            name,
-            " look packed: recorders/unpack makes frames of them (docs/WIRE.md)\n",
-        ),
-        Bytewise::Other => {}
-    }
-}
-
-/// The same of a file with its name.
-fn put_kind(alloc: Global, text: &mut NoteText, file: &(String, Bytes)) {
+fn put_bytewise(alloc: Global, text: &mut NoteText, file: &(String, Bytes)) {
     let (name, bytes) = file;
-    match look_of(alloc, bytes) {
-        Ok(kind) => put_bytewise(text, name.as_str(), kind),
-        Err(AllocError) => text.refuse(),
+    if put_kind(alloc, text, file, FileKind::Other) {
+        return;
     }
-}
-
-/// Appends the note of a byte of a file at which no frame begins where one should.
-fn put_no_frame(text: &mut NoteText, name: &str, byte: usize) {
-    text.file("note: ", name, ": no frame begins at byte ");
-    text.tell(
-        "#: its first number says more than 512 segments\n",
-        &[byte as u64],
-    );
+    let looks = if is_encrypted(bytes) {
+        " look like TLS: they have to be captured before they are encrypted\n"
+    } else if made(text, is_packed(alloc, bytes)) == Some(true) {
+        " look packed: recorders/unpack makes frames of them (docs/WIRE.md)\n"
+    } else {
+        return;
+    };
+    text.file("note: the bytes of ", name.as_str(), looks);
 }
 
 /// Appends the notes of a file in which no frame begins where one should.
 fn put_bad_frame(alloc: Global, text: &mut NoteText, file: &(String, Bytes), message: u64) {
     let (name, bytes) = file;
-    match place_of(bytes, message) {
-        Ok(byte) => put_no_frame(text, name.as_str(), byte),
-        Err(AllocError) => text.refuse(),
+    if let Some(byte) = made(text, place_of(bytes, message)) {
+        text.file("note: ", name.as_str(), ": no frame begins at byte ");
+        let words = "#: its first number says more than 512 segments\n";
+        text.tell(words, &[byte as u64]);
     }
     if message == 0 {
-        return put_kind(alloc, text, file);
+        return put_bytewise(alloc, text, file);
     }
     text.words(
         "note: bytes may be missing before: a capture that drops packets can't be judged behind the first one dropped\n",
@@ -276,21 +167,19 @@ fn put_left(alloc: Global, text: &mut NoteText, file: &(String, Bytes), frames: 
         &[left],
     );
     if frames == 0 {
-        put_kind(alloc, text, file);
+        put_bytewise(alloc, text, file);
     }
 }
 
-/// Appends the notes of both files' bytes that are no frames.
-fn put_lefts(alloc: Global, text: &mut NoteText, files: &WireFiles<'_>, found: &WireFound) {
-    let ([of_a, of_b], [left_a, left_b]) = (found.frames, found.left);
-    put_left(alloc, text, files.of_a, of_a, left_a);
-    put_left(alloc, text, files.of_b, of_b, left_b)
-}
-
 /// Appends the notes of what the line says.
-fn put_line(alloc: Global, text: &mut NoteText, files: &WireFiles<'_>, found: &WireFound) {
+fn put_of_line(alloc: Global, text: &mut NoteText, files: WireFiles<'_>, found: &WireAnswer) {
     match found.line {
-        WireLine::Yes { .. } => put_opens(alloc, text, files, found),
+        WireLine::Yes { .. } => {
+            if let Some(logs) = &found.logs {
+                put_open(alloc, text, at_end(files, End::A), &logs.log_of_a);
+                put_open(alloc, text, at_end(files, End::B), &logs.log_of_b);
+            }
+        }
         WireLine::No { end, message, rule } => {
             put_no(alloc, text, files, found, (end, message), Some(rule))
         }
@@ -298,18 +187,18 @@ fn put_line(alloc: Global, text: &mut NoteText, files: &WireFiles<'_>, found: &W
             put_no(alloc, text, files, found, (end, message), None)
         }
         WireLine::NoOrder { of_a, of_b } => {
-            let _ = put_message(alloc, text, files.of_a, of_a);
-            let _ = put_message(alloc, text, files.of_b, of_b);
+            let _ = put_message(alloc, text, at_end(files, End::A), of_a);
+            let _ = put_message(alloc, text, at_end(files, End::B), of_b);
             put_lacks(text, files, found, End::A)
         }
         WireLine::Outside { end, message, why } => {
-            put_outside(alloc, text, files, (end, message), why)
+            put_outside(alloc, text, at_end(files, end), message, why)
         }
         WireLine::TooLong { .. } => text.words(
             "note: a log has at most 4294967295 records, and a frame in it at most 67108864 bytes\n",
         ),
         WireLine::BadFrame { end, message } => {
-            put_bad_frame(alloc, text, files.of(end), message)
+            put_bad_frame(alloc, text, at_end(files, end), message)
         }
     }
 }
@@ -319,15 +208,14 @@ pub(crate) fn put_wire(
     alloc: Global,
     text: &mut NoteText,
     kept: &[(String, Bytes)],
-    found: &WireFound,
+    found: &WireAnswer,
 ) {
     let [of_a, of_b] = kept else {
         return;
     };
-    let files = WireFiles { of_a, of_b };
-    put_line(alloc, text, &files, found);
-    match found.line {
-        WireLine::BadFrame { .. } => {}
-        _ => put_lefts(alloc, text, &files, found),
+    put_of_line(alloc, text, [of_a, of_b], found);
+    if !matches!(found.line, WireLine::BadFrame { .. }) {
+        put_left(alloc, text, of_a, found.frames[0], found.left[0]);
+        put_left(alloc, text, of_b, found.frames[1], found.left[1]);
     }
 }

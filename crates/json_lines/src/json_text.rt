@@ -111,13 +111,9 @@ impl<'a> JsonText<'a> {
     /// Remembers which members of the outermost object have to stand behind the notes, and which behind what is open, at the
     /// first one of them.
     fn note_place(&mut self, name: &str) {
-        let here = Some(self.text.len());
-        if self.notes_at.is_none() && name > NOTES {
-            self.notes_at = here;
-        }
-        if self.open_at.is_none() && name > OPEN {
-            self.open_at = here;
-        }
+        let here = self.text.len();
+        self.notes_at = self.notes_at.or((name > NOTES).then_some(here));
+        self.open_at = self.open_at.or((name > OPEN).then_some(here));
     }
 
     /// Writes the name of a member, whose value comes next. Nothing in a name needs an escape.

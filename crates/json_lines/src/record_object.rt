@@ -62,10 +62,8 @@ fn put_reason(json: &mut JsonText<'_>, body: &Body) {
     }
 }
 
-/// Writes the members of a record. It has a message where it has a frame: the object of what is answered to that.
-pub(crate) fn put_record(json: &mut JsonText<'_>, shown: &NumberedRecord<'_>) {
-    let body = shown.body;
-    let (kind, call, reference) = named_by(body);
+/// Writes what stands in front of a record's kind.
+fn put_before_kind(json: &mut JsonText<'_>, body: &Body, call: u64) {
     if let Body::AnswerBy { by, .. } = body {
         json.member("by", *by);
     }
@@ -81,6 +79,13 @@ pub(crate) fn put_record(json: &mut JsonText<'_>, shown: &NumberedRecord<'_>) {
         } => json.interface_members(*interface, *method),
         _ => {}
     }
+}
+
+/// Writes the members of a record. It has a message where it has a frame: the object of what is answered to that.
+pub(crate) fn put_record(json: &mut JsonText<'_>, shown: &NumberedRecord<'_>) {
+    let body = shown.body;
+    let (kind, call, reference) = named_by(body);
+    put_before_kind(json, body, call);
     json.text_member("kind", kind);
     if let Some(message) = &shown.message {
         json.begin_member("message", "{");

@@ -13,7 +13,7 @@ fn put_call(json: &mut JsonText<'_>, name: Name) {
     json.end("}");
 }
 
-/// Writes a vat's own object or promise, by its number there.
+/// Writes the kind of what a vat has, its number there under this name, and the vat.
 fn put_own(json: &mut JsonText<'_>, kind: &str, name: &str, number: u64, vat: u32) {
     json.text_member("kind", kind);
     json.member(name, number);

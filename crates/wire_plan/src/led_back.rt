@@ -19,18 +19,20 @@ impl Passing {
         }
     }
 
-    /// The Call at this place, behind those before it, leads to this target.
+    /// The Call at this place, behind those before it, leads to these targets.
     pub(crate) fn lead(
         &mut self,
         alloc: Global,
         digest: u64,
-        target: Aim,
+        targets: &[Aim],
         place: usize,
     ) -> Result<(), AllocError> {
-        self.places
-            .entry((digest, target))?
-            .or_insert(Vec::new(alloc))
-            .push(place)?;
+        for target in targets {
+            self.places
+                .entry((digest, *target))?
+                .or_insert(Vec::new(alloc))
+                .push(place)?;
+        }
         Ok(())
     }
 

@@ -65,11 +65,6 @@ impl Drop for WirePlan {
 }
 
 impl FilePlan {
-    /// What an entry of a table becomes of the other end's, by the Resolves.
-    fn lead_of(&self, entry: Entry) -> Option<Aim> {
-        lead_of(&self.messages, &self.groups, entry)
-    }
-
     /// What stands at a path of the results that the Return at this place says, of the other end's.
     fn result_lead(&self, place: usize, path: u32) -> Option<Aim> {
         let answer = self.messages.get(place)?;
@@ -78,7 +73,7 @@ impl FilePlan {
                 results: ReturnKind::TakenFrom(question),
                 ..
             } => Some(Aim::Answer(question, path)),
-            _ => self.lead_of(answer.entry_at(path)?),
+            _ => lead_of(&self.messages, &self.groups, answer.entry_at(path)?),
         }
     }
 }
@@ -145,13 +140,6 @@ impl FileLook {
         Ok(())
     }
 
-    /// The Return at this place takes the results of an own question.
-    fn take(&mut self, place: usize, question: u32) {
-        if let Some(call) = self.current.get(u64::from(question)) {
-            self.ties.take(place, *call);
-        }
-    }
-
     /// Looks at one message.
     fn look(&mut self, place: usize, message: &Planned) -> Result<(), AllocError> {
         if let Some(Aim::Answer(question, path)) = message.aim() {
@@ -169,7 +157,9 @@ impl FileLook {
             ..
         } = message.kind
         {
-            self.take(place, question);
+            if let Some(call) = self.current.get(u64::from(question)) {
+                self.ties.take(place, *call);
+            }
         }
         Ok(())
     }
@@ -185,12 +175,7 @@ fn look_through(alloc: Global, messages: &[Planned]) -> Result<(Ties, NamedPaths
     for (place, message) in messages.iter().enumerate() {
         looking.look(place, message)?;
     }
-    let FileLook {
-        current: _,
-        ties,
-        named,
-    } = looking;
-    Ok((ties, named))
+    Ok((looking.ties, looking.named))
 }
 
 /// The plan of one file, without what its frames have to do with the other one's.
@@ -234,36 +219,12 @@ fn pair(alloc: Global, asker: &mut FilePlan, answerer: &mut FilePlan) -> Result<
 
 /// Where one end's file leads a result of the other end's question: what stands at a path of the Return that answers the
 /// question for which the other end's message at this place is meant.
-fn lead_of_aimed(own: &FilePlan, peer: &FilePlan, place: usize, path: u32) -> Option<Aim> {
+fn lead_of_aimed(own: &FilePlan, peer: &FilePlan, place: usize, aim: Aim) -> Option<Aim> {
+    let Aim::Answer(_, path) = aim else {
+        return None;
+    };
     let opening = peer.ties.aimed_of(place)?;
     own.result_lead(peer.ties.pair_of(opening)?, path)
-}
-
-/// Takes in the other end's Call at this place, if the own file leads it back.
-fn pass_one(
-    alloc: Global,
-    own: &FilePlan,
-    peer: &FilePlan,
-    place: usize,
-    kind: Kind,
-    passing: &mut Passing,
-) -> Result<(), AllocError> {
-    let Kind::Call { aim, digest, .. } = kind else {
-        return Ok(());
-    };
-    match aim {
-        Aim::Import(number) => {
-            for target in own.leading.aims(number) {
-                passing.lead(alloc, digest, *target, place)?;
-            }
-        }
-        Aim::Answer(_, path) => {
-            if let Some(target) = lead_of_aimed(own, peer, place, path) {
-                passing.lead(alloc, digest, target, place)?;
-            }
-        }
-    }
-    Ok(())
 }
 
 /// Takes in the other end's Calls that the own file leads back.
@@ -274,7 +235,15 @@ fn lead_back(
     passing: &mut Passing,
 ) -> Result<(), AllocError> {
     for (place, message) in peer.messages.iter().enumerate() {
-        pass_one(alloc, own, peer, place, message.kind, passing)?;
+        let Kind::Call { aim, digest, .. } = message.kind else {
+            continue;
+        };
+        let target = lead_of_aimed(own, peer, place, aim);
+        let targets = match aim {
+            Aim::Import(number) => own.leading.aims(number),
+            Aim::Answer(..) => target.as_slice(),
+        };
+        passing.lead(alloc, digest, targets, place)?;
     }
     Ok(())
 }

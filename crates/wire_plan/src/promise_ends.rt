@@ -31,13 +31,6 @@ pub struct Leading {
 }
 
 impl Leading {
-    /// Of no promises.
-    fn new(alloc: Global) -> Leading {
-        Leading {
-            leads: RisingTable::new(alloc),
-        }
-    }
-
     /// A promise of this number becomes this of the other end's.
     fn lead(&mut self, alloc: Global, number: u32, aim: Aim) -> Result<(), AllocError> {
         let key = u64::from(number);
@@ -58,7 +51,9 @@ impl Leading {
         messages: &[Planned],
         groups: &Groups,
     ) -> Result<Leading, AllocError> {
-        let mut leading = Leading::new(alloc);
+        let mut leading = Leading {
+            leads: RisingTable::new(alloc),
+        };
         for message in messages {
             if let (Kind::Resolve(number, _), Some(entry)) = (message.kind, message.entry(0)) {
                 if let Some(aim) = lead_of(messages, groups, entry) {
@@ -71,9 +66,8 @@ impl Leading {
 
     /// What the promises of this number become.
     pub fn aims(&self, number: u32) -> &[Aim] {
-        match self.leads.get(u64::from(number)) {
-            Some(aims) => aims.as_slice(),
-            None => &[],
-        }
+        self.leads
+            .get(u64::from(number))
+            .map_or(&[], |aims| aims.as_slice())
     }
 }

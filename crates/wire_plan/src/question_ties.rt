@@ -1,5 +1,6 @@
 //! Questions by their openings: the k-th Return for a number answers its k-th opening.
 
+use crate::frame_ties::Places;
 use rising_table::RisingTable;
 use std::alloc::{AllocError, Global};
 
@@ -11,7 +12,7 @@ pub(crate) struct Openings {
     /// The last opening of each number.
     last: RisingTable<usize>,
     /// The opening of the same number behind each frame that opens one.
-    following: Vec<Option<usize>>,
+    following: Places,
 }
 
 impl Openings {
@@ -20,7 +21,7 @@ impl Openings {
         Ok(Openings {
             first: RisingTable::new(alloc),
             last: RisingTable::new(alloc),
-            following: vec![in alloc; None; frames]?,
+            following: Places::new(alloc, frames)?,
         })
     }
 
@@ -28,11 +29,7 @@ impl Openings {
     pub(crate) fn opened(&mut self, number: u32, frame: usize) -> Result<(), AllocError> {
         let key = u64::from(number);
         match self.last.replace(key, frame) {
-            Some(last) => {
-                if let Some(following) = self.following.get_mut(last) {
-                    *following = Some(frame);
-                }
-            }
+            Some(last) => self.following.put(last, frame),
             None => {
                 self.last.put(key, frame)?;
                 self.first.put(key, Some(frame))?;
@@ -45,8 +42,7 @@ impl Openings {
     pub(crate) fn take(&mut self, number: u32) -> Option<usize> {
         let key = u64::from(number);
         let first = (*self.first.get(key)?)?;
-        let following = self.following.get(first).copied().unwrap_or(None);
-        let _ = self.first.replace(key, following);
+        let _ = self.first.replace(key, self.following.get(first));
         Some(first)
     }
 }

@@ -8,6 +8,7 @@ use crate::both_ends::{Stuck, run_both};
 use crate::vat::Vat;
 use bytes::Bytes;
 use std::alloc::{AllocError, Global};
+use std::mem;
 use std::sync::Arc;
 use vat_log::VatLog;
 use wire_cut::{End, Lack, Waiting};
@@ -131,20 +132,36 @@ fn made_up(a: &mut Vat<'_>, b: &mut Vat<'_>, blamed: Option<Blame>) -> Result<Ma
     })
 }
 
-/// Makes up both ends, where this message is to blame.
-fn make_up(alloc: Global, plan: &WirePlan, blamed: Option<Blame>) -> Result<MadeUp, AllocError> {
-    let mut a = Vat::new(alloc, End::A, plan);
-    let mut b = Vat::new(alloc, End::B, plan);
+/// Makes up both ends, patient or not, where this message is to blame.
+fn make_up(
+    alloc: Global,
+    plan: &WirePlan,
+    is_patient: bool,
+    blamed: Option<Blame>,
+) -> Result<MadeUp, AllocError> {
+    let mut a = Vat::new(alloc, End::A, plan, is_patient);
+    let mut b = Vat::new(alloc, End::B, plan, is_patient);
     made_up(&mut a, &mut b, blamed)
 }
 
-/// Makes up both ends by a plan, and once more where a message is to blame.
-fn make_up_all(alloc: Global, plan: &WirePlan) -> Result<MadeUp, AllocError> {
-    let made = make_up(alloc, plan, None)?;
-    match made.stop.blame {
-        None => Ok(made),
-        blamed => make_up(alloc, plan, blamed),
+/// Makes up both ends where this message is to blame as long as neither is patient.
+fn make_up_again(alloc: Global, plan: &WirePlan, blamed: Blame) -> Result<MadeUp, AllocError> {
+    let made = make_up(alloc, plan, true, None)?;
+    if made.stop.blame.is_none() {
+        return Ok(made);
     }
+    mem::drop(made);
+    make_up(alloc, plan, false, Some(blamed))
+}
+
+/// Makes up both ends by a plan; and again where a message is to blame.
+fn make_up_all(alloc: Global, plan: &WirePlan) -> Result<MadeUp, AllocError> {
+    let made = make_up(alloc, plan, false, None)?;
+    let Some(blamed) = made.stop.blame else {
+        return Ok(made);
+    };
+    mem::drop(made);
+    make_up_again(alloc, plan, blamed)
 }
 
 /// Makes up both ends around the frames of both files.

@@ -150,12 +150,12 @@ impl EndNumbers {
         }
     }
 
-    /// An import comes in under this reference.
+    /// An import comes in under this reference: a promise, where it belongs to a group of the peer's.
     fn take_in(
         &mut self,
         lives: &mut Vec<Life>,
         number: u32,
-        is_promise: bool,
+        group: Option<usize>,
         reference: u64,
     ) -> Result<(), AllocError> {
         if hold(&mut self.imports, number) {
@@ -165,8 +165,9 @@ impl EndNumbers {
         lives.push(Life {
             reference,
             turn: NextView::Stays,
+            group,
         })?;
-        begin(&mut self.imports, number, is_promise, view)
+        begin(&mut self.imports, number, group.is_some(), view)
     }
 
     /// A table comes in: a new reference for each entry but none, in its order; imports are introduced.
@@ -185,8 +186,10 @@ impl EndNumbers {
             let reference = next_reference(made);
             references.push(reference)?;
             match entry {
-                Entry::Hosted(number) => self.take_in(lives, *number, false, reference)?,
-                Entry::Promised(number, _) => self.take_in(lives, *number, true, reference)?,
+                Entry::Hosted(number) => self.take_in(lives, *number, None, reference)?,
+                Entry::Promised(number, group) => {
+                    self.take_in(lives, *number, Some(*group), reference)?
+                }
                 _ => {}
             }
         }

@@ -3,7 +3,7 @@
 use case_report::{WireAnswer, WireLine};
 use std::sync::Arc;
 use vat_log::VatLog;
-use wire_cut::Waiting;
+use wire_cut::{Overtaking, Waiting};
 
 /// What was found of a connection. Of two, the first is that of end A.
 #[derive(Drop)]
@@ -16,6 +16,8 @@ pub struct WireFound {
     pub(crate) left: [u64; 2],
     /// The message of each end at which the explanation stops, and what it lacks.
     pub(crate) waiting: [Option<Waiting>; 2],
+    /// Of each end the first messages whose calls came in the other order.
+    pub(crate) overtaking: [Option<Overtaking>; 2],
     /// The logs, where all is explained.
     pub(crate) logs: Option<(Arc<VatLog>, Arc<VatLog>)>,
 }
@@ -39,6 +41,7 @@ impl WireFound {
             frames: answer.frames,
             left: answer.left,
             waiting: answer.waiting,
+            overtaking: answer.overtaking,
             logs: logs_of(answer),
         }
     }

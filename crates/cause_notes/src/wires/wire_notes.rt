@@ -16,7 +16,7 @@ use report_lines::{report_sentence, why_sentence};
 use std::alloc::{AllocError, Global};
 use vat_log::VatLog;
 use vat_rules::Why;
-use wire_cut::{End, Lack, Waiting};
+use wire_cut::{End, Lack, Overtaking, Waiting};
 
 /// The two files, that of the first end before that of the second.
 #[derive(Clone, Copy)]
@@ -183,6 +183,39 @@ fn put_opens(alloc: Global, text: &mut NoteText, files: &WireFiles<'_>, found: &
     put_open(alloc, text, files.of_b, log_of_b)
 }
 
+/// Appends the notes of messages whose calls came in the other order, if there are any of an end.
+fn put_overtaking(text: &mut NoteText, files: &WireFiles<'_>, overtaking: Option<Overtaking>) {
+    let Some(
+        Overtaking {
+            end,
+            earlier,
+            later,
+            others,
+        },
+    ) = overtaking
+    else {
+        return;
+    };
+    let name = files.of(end).0.as_str();
+    text.file("note: ", name, ": messages ");
+    text.tell(
+        "# and # came in the other order; if they were made through one reference, that is a fault\n",
+        &[earlier, later],
+    );
+    if others > 0 {
+        text.file("note: ", name, ": ");
+        text.tell("# more came before one that was sent earlier\n", &[others]);
+    }
+}
+
+/// Appends the notes beside a yes: of calls that came in the other order, and of what is open.
+fn put_yes(alloc: Global, text: &mut NoteText, files: &WireFiles<'_>, found: &WireFound) {
+    let [of_a, of_b] = found.overtaking;
+    put_overtaking(text, files, of_a);
+    put_overtaking(text, files, of_b);
+    put_opens(alloc, text, files, found)
+}
+
 /// What the bytes of a file that doesn't begin with a frame are.
 #[derive(Clone, Copy)]
 enum Bytewise {
@@ -290,7 +323,7 @@ fn put_lefts(alloc: Global, text: &mut NoteText, files: &WireFiles<'_>, found: &
 /// Appends the notes of what the line says.
 fn put_line(alloc: Global, text: &mut NoteText, files: &WireFiles<'_>, found: &WireFound) {
     match found.line {
-        WireLine::Yes { .. } => put_opens(alloc, text, files, found),
+        WireLine::Yes { .. } => put_yes(alloc, text, files, found),
         WireLine::No { end, message, rule } => {
             put_no(alloc, text, files, found, (end, message), Some(rule))
         }

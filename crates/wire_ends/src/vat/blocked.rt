@@ -174,6 +174,21 @@ impl Vat<'_> {
         Ok(None)
     }
 
+    /// Whether a view leads to an own object that gets the number of an entry, which is then told.
+    fn gets_number(&mut self, view: EndView, entry: Entry) -> Result<bool, AllocError> {
+        let Entry::Hosted(number) = entry else {
+            return Ok(false);
+        };
+        let Some(EndView::Object(object)) = self.ahead().end_ahead(view) else {
+            return Ok(false);
+        };
+        if !self.numbers.give_number(object, number)? {
+            return Ok(false);
+        }
+        self.tell_along(view, EndView::Object(object))?;
+        Ok(true)
+    }
+
     /// Whether what was told of a call's results leads to what an entry stands for, which is then told.
     fn agrees(&mut self, call: usize, path: u32, entry: Entry) -> Result<bool, AllocError> {
         let Some(target) = self.numbers.view_of_entry(entry) else {
@@ -183,7 +198,7 @@ impl Vat<'_> {
             return Ok(false);
         };
         if !self.ahead().leads_ahead(view, target) {
-            return Ok(false);
+            return self.gets_number(view, entry);
         }
         self.tell_along(view, target)?;
         Ok(true)

@@ -18,6 +18,8 @@ pub(crate) struct EndNumbers {
     pub answers: RisingTable<Question>,
     pub exports: RisingTable<Held>,
     pub imports: RisingTable<Held>,
+    /// The objects that are hosted under the numbers of others: of each number the last.
+    objects: RisingTable<u64>,
     /// The promises of the file's groups.
     pub group_promises: RisingTable<usize>,
 }
@@ -30,6 +32,7 @@ impl EndNumbers {
             answers: RisingTable::new(alloc),
             exports: RisingTable::new(alloc),
             imports: RisingTable::new(alloc),
+            objects: RisingTable::new(alloc),
             group_promises: RisingTable::new(alloc),
         }
     }
@@ -83,6 +86,21 @@ impl EndNumbers {
         if held.count == 0 { None } else { Some(held) }
     }
 
+    /// The object that is hosted under a number: that of this number, or another one that got it.
+    pub(crate) fn object_of(&self, number: u32) -> u64 {
+        let own = u64::from(number);
+        self.objects.get(own).copied().unwrap_or(own)
+    }
+
+    /// An object gets a number, if that isn't in life. Whether it has it then.
+    pub(crate) fn give_number(&mut self, object: u64, number: u32) -> Result<bool, AllocError> {
+        if self.held_export(number).is_some() {
+            return Ok(false);
+        }
+        self.objects.put(u64::from(number), object)?;
+        Ok(true)
+    }
+
     /// What the target of an own message stands for.
     pub(crate) fn view_of_own(&self, aim: Aim) -> Option<EndView> {
         match aim {
@@ -108,7 +126,7 @@ impl EndNumbers {
             Entry::NoCap => None,
             Entry::Hosted(number) => match self.held_export(number) {
                 Some(held) => Some(held.view),
-                None => Some(EndView::Object(u64::from(number))),
+                None => Some(EndView::Object(self.object_of(number))),
             },
             Entry::Promised(number, group) => match self.held_export(number) {
                 Some(held) => Some(held.view),

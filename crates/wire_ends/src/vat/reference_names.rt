@@ -72,10 +72,10 @@ impl Vat<'_> {
     pub(crate) fn named(&mut self, entry: Entry) -> Result<(u64, EndView), AllocError> {
         match entry {
             Entry::NoCap => self.notes.new_object(),
-            Entry::Hosted(number) => Ok((
-                self.notes.hosted(number)?,
-                EndView::Object(u64::from(number)),
-            )),
+            Entry::Hosted(number) => {
+                let object = self.numbers.object_of(number);
+                Ok((self.notes.hosted(object)?, EndView::Object(object)))
+            }
             Entry::Promised(_, group) => self.promised(group),
             Entry::ReceiverHosted(number) => self.imported(number),
             Entry::ReceiverAnswer(question, path) => self.asked(question, path),

@@ -203,7 +203,7 @@ impl Vat<'_> {
                 Entry::Hosted(number) | Entry::Promised(number, _)
                     if hold(&mut self.numbers.exports, *number) => {}
                 Entry::Hosted(number) => {
-                    let view = EndView::Object(u64::from(*number));
+                    let view = EndView::Object(self.numbers.object_of(*number));
                     begin(&mut self.numbers.exports, *number, false, view)?;
                 }
                 Entry::Promised(number, group) => {

@@ -152,13 +152,21 @@ impl FileLook {
         }
     }
 
+    /// The message at this place is meant for a result of an own question, or resolves a promise to one.
+    fn aim(&mut self, place: usize, question: u32) {
+        if let Some(opening) = self.current.get(u64::from(question)) {
+            self.ties.aim(place, *opening);
+        }
+    }
+
     /// Looks at one message.
     fn look(&mut self, place: usize, message: &Planned) -> Result<(), AllocError> {
         if let Some(Aim::Answer(question, path)) = message.aim() {
             self.name(question, path)?;
-            if let Some(opening) = self.current.get(u64::from(question)) {
-                self.ties.aim(place, *opening);
-            }
+            self.aim(place, question);
+        }
+        if let Some((question, _)) = message.resolved_to_answer() {
+            self.aim(place, question);
         }
         self.name_entries(&message.table)?;
         if let Some(question) = message.opens() {
@@ -232,6 +240,38 @@ fn pair(alloc: Global, asker: &mut FilePlan, answerer: &mut FilePlan) -> Result<
     Ok(())
 }
 
+/// The number of the other end's under which it returns a result of an own question: what stands at a path of the Return to
+/// the question that the own message at this place opens.
+fn returned_number(own: &FilePlan, peer: &FilePlan, opening: usize, path: u32) -> Option<Aim> {
+    let answer = peer.messages.get(own.ties.pair_of(opening)?)?;
+    match answer.entry_at(path)? {
+        Entry::Hosted(number) | Entry::Promised(number, _) => Some(Aim::Import(number)),
+        Entry::NoCap | Entry::ReceiverHosted(_) | Entry::ReceiverAnswer(_, _) => None,
+    }
+}
+
+/// Where the own Resolve at this place leads, if it leads to a result of an own question: to the number under which that is
+/// returned.
+fn number_resolved_to(own: &FilePlan, peer: &FilePlan, place: usize) -> Option<(u32, Aim)> {
+    let message = own.messages.get(place)?;
+    let Kind::Resolve(number, _) = message.kind else {
+        return None;
+    };
+    let (_, path) = message.resolved_to_answer()?;
+    let aim = returned_number(own, peer, own.ties.aimed_of(place)?, path)?;
+    Some((number, aim))
+}
+
+/// What the own promises become by results of own questions, which the other end returns under a number of its own.
+fn lead_through(alloc: Global, own: &mut FilePlan, peer: &FilePlan) -> Result<(), AllocError> {
+    for place in 0..own.messages.len() {
+        if let Some((number, aim)) = number_resolved_to(own, peer, place) {
+            own.leading.lead(alloc, number, aim)?;
+        }
+    }
+    Ok(())
+}
+
 /// Where one end's file leads a result of the other end's question: what stands at a path of the Return that answers the
 /// question for which the other end's message at this place is meant.
 fn lead_of_aimed(own: &FilePlan, peer: &FilePlan, place: usize, path: u32) -> Option<Aim> {
@@ -284,6 +324,8 @@ impl WirePlan {
     fn join(&mut self, alloc: Global) -> Result<(), AllocError> {
         pair(alloc, &mut self.of_a, &mut self.of_b)?;
         pair(alloc, &mut self.of_b, &mut self.of_a)?;
+        lead_through(alloc, &mut self.of_a, &self.of_b)?;
+        lead_through(alloc, &mut self.of_b, &self.of_a)?;
         lead_back(alloc, &self.of_a, &self.of_b, &mut self.passing_of_a)?;
         lead_back(alloc, &self.of_b, &self.of_a, &mut self.passing_of_b)
     }

@@ -39,7 +39,7 @@ impl Leading {
     }
 
     /// A promise of this number becomes this of the other end's.
-    fn lead(&mut self, alloc: Global, number: u32, aim: Aim) -> Result<(), AllocError> {
+    pub(crate) fn lead(&mut self, alloc: Global, number: u32, aim: Aim) -> Result<(), AllocError> {
         let key = u64::from(number);
         if let Some(aims) = self.leads.get_mut(key) {
             if !aims.as_slice().contains(&aim) {

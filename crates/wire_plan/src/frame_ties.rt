@@ -10,7 +10,7 @@ pub struct FrameTie {
     /// Of a Call with sendResultsTo yourself the Return that takes its results, of such a Return that Call: a frame of
     /// the same end.
     pub take: Option<usize>,
-    /// Of a message for a result of a question, or of a Resolve to one, the opening of that: a frame of the same end.
+    /// Of a message for a result of a question the opening of that: a frame of the same end.
     pub aimed: Option<usize>,
 }
 
@@ -40,7 +40,7 @@ impl Ties {
         }
     }
 
-    /// The message is meant for a result of the question that this frame opened, or resolves a promise to one.
+    /// The message is meant for a result of the question that this frame opened.
     pub(crate) fn aim(&mut self, frame: usize, opening: usize) {
         if let Some(tie) = self.ties.get_mut(frame) {
             tie.aimed = Some(opening);
@@ -66,7 +66,7 @@ impl Ties {
         self.ties.get(frame)?.pair
     }
 
-    /// The frame that opened the question for a result of which this one is meant, or to which it resolves a promise.
+    /// The frame that opened the question for a result of which this one is meant.
     pub fn aimed_of(&self, frame: usize) -> Option<usize> {
         self.ties.get(frame)?.aimed
     }

@@ -127,16 +127,6 @@ impl Planned {
         }
     }
 
-    /// The result of an own question to which the message resolves a promise.
-    pub(crate) fn resolved_to_answer(&self) -> Option<(u32, u32)> {
-        match (self.kind, self.entry(0)) {
-            (Kind::Resolve(_, _), Some(Entry::ReceiverAnswer(question, path))) => {
-                Some((question, path))
-            }
-            _ => None,
-        }
-    }
-
     /// What the message is meant for.
     pub fn aim(&self) -> Option<Aim> {
         match self.kind {

@@ -6,8 +6,8 @@ use crate::led_back::Passing;
 use crate::message::{Aim, Entry, Kind, Planned, ReturnKind};
 use crate::named_paths::NamedPaths;
 use crate::paths::Paths;
-use crate::promise_ends::{Leading, lead_of};
-use crate::question_ties::Openings;
+use crate::promise_ends::{Lead, Leading, lead_of};
+use crate::question_ties::{Asked, Openings};
 use crate::reading::read_planned;
 use bytes::Bytes;
 use rising_table::RisingTable;
@@ -26,6 +26,8 @@ pub struct FilePlan {
     pub named: NamedPaths,
     /// What its promises become of the other end's.
     pub leading: Leading,
+    /// The frames that open its questions.
+    asked: Asked,
 }
 
 impl Drop for FilePlan {
@@ -36,6 +38,7 @@ impl Drop for FilePlan {
             ties: _,
             named: _,
             leading: _,
+            asked: _,
         } = self;
     }
 }
@@ -65,20 +68,32 @@ impl Drop for WirePlan {
 }
 
 impl FilePlan {
-    /// What an entry of a table becomes of the other end's, by the Resolves.
-    fn lead_of(&self, entry: Entry) -> Option<Aim> {
-        lead_of(&self.messages, &self.groups, entry)
+    /// What an entry of the message at this place becomes of the other end's, by the Resolves.
+    fn lead_of(&self, place: usize, entry: Entry) -> Option<Lead> {
+        lead_of(&self.messages, &self.groups, place, entry)
+    }
+
+    /// The promise that the message at this place resolves, and what it becomes of the other end's.
+    fn resolved_lead(&self, place: usize) -> Option<(u32, Lead)> {
+        let message = self.messages.get(place)?;
+        let Kind::Resolve(number, _) = message.kind else {
+            return None;
+        };
+        Some((number, self.lead_of(place, message.entry(0)?)?))
     }
 
     /// What stands at a path of the results that the Return at this place says, of the other end's.
-    fn result_lead(&self, place: usize, path: u32) -> Option<Aim> {
+    fn result_lead(&self, place: usize, path: u32) -> Option<Lead> {
         let answer = self.messages.get(place)?;
         match answer.kind {
             Kind::Return {
                 results: ReturnKind::TakenFrom(question),
                 ..
-            } => Some(Aim::Answer(question, path)),
-            _ => self.lead_of(answer.entry_at(path)?),
+            } => Some(Lead {
+                aim: Aim::Answer(question, path),
+                place,
+            }),
+            _ => self.lead_of(place, answer.entry_at(path)?),
         }
     }
 }
@@ -152,21 +167,13 @@ impl FileLook {
         }
     }
 
-    /// The message at this place is meant for a result of an own question, or resolves a promise to one.
-    fn aim(&mut self, place: usize, question: u32) {
-        if let Some(opening) = self.current.get(u64::from(question)) {
-            self.ties.aim(place, *opening);
-        }
-    }
-
     /// Looks at one message.
     fn look(&mut self, place: usize, message: &Planned) -> Result<(), AllocError> {
         if let Some(Aim::Answer(question, path)) = message.aim() {
             self.name(question, path)?;
-            self.aim(place, question);
-        }
-        if let Some((question, _)) = message.resolved_to_answer() {
-            self.aim(place, question);
+            if let Some(opening) = self.current.get(u64::from(question)) {
+                self.ties.aim(place, *opening);
+            }
         }
         self.name_entries(&message.table)?;
         if let Some(question) = message.opens() {
@@ -201,17 +208,30 @@ fn look_through(alloc: Global, messages: &[Planned]) -> Result<(Ties, NamedPaths
     Ok((ties, named))
 }
 
+/// The questions that these messages open.
+fn asked_in(alloc: Global, messages: &[Planned]) -> Result<Asked, AllocError> {
+    let mut asked = Asked::new(alloc);
+    for (place, message) in messages.iter().enumerate() {
+        if let Some(question) = message.opens() {
+            asked.opened(alloc, question, place)?;
+        }
+    }
+    Ok(asked)
+}
+
 /// The plan of one file, without what its frames have to do with the other one's.
 fn plan_file(alloc: Global, frames: &[Bytes], paths: &mut Paths) -> Result<FilePlan, AllocError> {
     let (messages, groups) = read_file(alloc, frames, paths)?;
     let (ties, named) = look_through(alloc, &messages)?;
     let leading = Leading::of(alloc, &messages, &groups)?;
+    let asked = asked_in(alloc, &messages)?;
     Ok(FilePlan {
         messages,
         groups,
         ties,
         named,
         leading,
+        asked,
     })
 }
 
@@ -240,9 +260,12 @@ fn pair(alloc: Global, asker: &mut FilePlan, answerer: &mut FilePlan) -> Result<
     Ok(())
 }
 
-/// The number of the other end's under which it returns a result of an own question: what stands at a path of the Return to
-/// the question that the own message at this place opens.
-fn returned_number(own: &FilePlan, peer: &FilePlan, opening: usize, path: u32) -> Option<Aim> {
+/// Where a lead goes on that ends at a result of an own question: to the number of the other end's under which it is returned.
+fn returned_number(own: &FilePlan, peer: &FilePlan, lead: Lead) -> Option<Aim> {
+    let Aim::Answer(question, path) = lead.aim else {
+        return None;
+    };
+    let opening = own.asked.opening_before(question, lead.place)?;
     let answer = peer.messages.get(own.ties.pair_of(opening)?)?;
     match answer.entry_at(path)? {
         Entry::Hosted(number) | Entry::Promised(number, _) => Some(Aim::Import(number)),
@@ -250,22 +273,13 @@ fn returned_number(own: &FilePlan, peer: &FilePlan, opening: usize, path: u32) -
     }
 }
 
-/// Where the own Resolve at this place leads, if it leads to a result of an own question: to the number under which that is
-/// returned.
-fn number_resolved_to(own: &FilePlan, peer: &FilePlan, place: usize) -> Option<(u32, Aim)> {
-    let message = own.messages.get(place)?;
-    let Kind::Resolve(number, _) = message.kind else {
-        return None;
-    };
-    let (_, path) = message.resolved_to_answer()?;
-    let aim = returned_number(own, peer, own.ties.aimed_of(place)?, path)?;
-    Some((number, aim))
-}
-
 /// What the own promises become by results of own questions, which the other end returns under a number of its own.
 fn lead_through(alloc: Global, own: &mut FilePlan, peer: &FilePlan) -> Result<(), AllocError> {
     for place in 0..own.messages.len() {
-        if let Some((number, aim)) = number_resolved_to(own, peer, place) {
+        let Some((number, lead)) = own.resolved_lead(place) else {
+            continue;
+        };
+        if let Some(aim) = returned_number(own, peer, lead) {
             own.leading.lead(alloc, number, aim)?;
         }
     }
@@ -274,7 +288,7 @@ fn lead_through(alloc: Global, own: &mut FilePlan, peer: &FilePlan) -> Result<()
 
 /// Where one end's file leads a result of the other end's question: what stands at a path of the Return that answers the
 /// question for which the other end's message at this place is meant.
-fn lead_of_aimed(own: &FilePlan, peer: &FilePlan, place: usize, path: u32) -> Option<Aim> {
+fn lead_of_aimed(own: &FilePlan, peer: &FilePlan, place: usize, path: u32) -> Option<Lead> {
     let opening = peer.ties.aimed_of(place)?;
     own.result_lead(peer.ties.pair_of(opening)?, path)
 }
@@ -298,8 +312,11 @@ fn pass_one(
             }
         }
         Aim::Answer(_, path) => {
-            if let Some(target) = lead_of_aimed(own, peer, place, path) {
-                passing.lead(alloc, digest, target, place)?;
+            if let Some(lead) = lead_of_aimed(own, peer, place, path) {
+                passing.lead(alloc, digest, lead.aim, place)?;
+                if let Some(number) = returned_number(own, peer, lead) {
+                    passing.lead(alloc, digest, number, place)?;
+                }
             }
         }
     }

@@ -53,6 +53,10 @@ fn put_number<W: fmt::Write>(f: &mut Formatter<W>, lack: Lack) -> fmt::Result {
             "export {id} released, or in life as it was before and without a Resolve"
         ),
         Lack::PromiseOpen(id) => write!(f, "export {id}, a promise in life without a Resolve"),
+        Lack::PromiseLeads(id) => write!(
+            f,
+            "an export {id} that became what its Resolve names: it was passed on while it was open"
+        ),
         lack => put_question(f, lack),
     }
 }

@@ -22,6 +22,9 @@ pub(crate) struct EndNumbers {
     objects: RisingTable<u64>,
     /// The promises of the file's groups.
     pub group_promises: RisingTable<usize>,
+    /// What groups stand for that aren't promises of this end, but what it passes on while it is open: a reference and what
+    /// that stands for.
+    pub passed_groups: RisingTable<(u64, EndView)>,
 }
 
 impl EndNumbers {
@@ -34,6 +37,7 @@ impl EndNumbers {
             imports: RisingTable::new(alloc),
             objects: RisingTable::new(alloc),
             group_promises: RisingTable::new(alloc),
+            passed_groups: RisingTable::new(alloc),
         }
     }
 
@@ -120,6 +124,20 @@ impl EndNumbers {
         }
     }
 
+    /// What a group stands for, if it was introduced or told before.
+    fn view_of_group(&self, group: usize) -> Option<EndView> {
+        match self.passed_groups.get(group as u64) {
+            Some((_, view)) => Some(*view),
+            None => Some(EndView::Vow(*self.group_promises.get(group as u64)?)),
+        }
+    }
+
+    /// What a number stands for that is no promise of this end, but what it passes on while it is open.
+    pub(crate) fn passed_view(&self, group: Option<usize>) -> Option<EndView> {
+        let (_, view) = self.passed_groups.get(group? as u64)?;
+        Some(*view)
+    }
+
     /// What an entry of an own table stands for where it goes out, if that is there.
     pub(crate) fn view_of_entry(&self, entry: Entry) -> Option<EndView> {
         match entry {
@@ -130,7 +148,7 @@ impl EndNumbers {
             },
             Entry::Promised(number, group) => match self.held_export(number) {
                 Some(held) => Some(held.view),
-                None => Some(EndView::Vow(*self.group_promises.get(group as u64)?)),
+                None => self.view_of_group(group),
             },
             Entry::ReceiverHosted(number) => {
                 let held = self.import(number)?;

@@ -166,6 +166,9 @@ impl Vat<'_> {
 
     /// What the promise of a group becomes is told, at the latest before its Resolve.
     fn tell_group(&mut self, group: usize, is_broken: bool) -> Result<(), AllocError> {
+        if self.numbers.passed_view(Some(group)).is_some() {
+            return Ok(());
+        }
         if let (_, EndView::Vow(place)) = self.promised(group)? {
             if is_broken {
                 self.turns.break_promise(&mut self.notes.log, place)?;

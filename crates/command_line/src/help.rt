@@ -566,6 +566,11 @@ or B and messages counted from 0 in each file:
 A yes is proved: such a run exists. A no says that none was found. docs/WIRE.md says
 what a connection's bytes can't show, and how to get them from any program.
 
+Bytes don't tell through which reference a call was made, and between calls through
+two references no order holds. So where calls came in the other order, two messages
+are noted beside the yes. With --one-reference all calls to a capability are taken to
+be made through one reference, and such a connection is a no by ORDER.
+
 With --out the two logs go to FOLDER, which is made, as A.log (vat 1) and B.log (vat
 2), with case.json for check, run, graph and draw. They are written where the line is
 a yes, a no or an outside.",
@@ -591,6 +596,9 @@ pub const WIRE_A: &str =
 
 /// B of `wire`.
 pub const WIRE_B: &str = "What the other end sent, a path too; - is standard input";
+
+/// `--one-reference` of `wire`.
+pub const ONE_REFERENCE: &str = "Takes all calls to a capability to be made through one reference";
 
 /// FOLDER of `wire`.
 pub const FOLDER: &str = "The folder that is made, for the two logs and their case";

@@ -30,6 +30,9 @@ pub(crate) const COUNT: &str = "count";
 /// By what `clap` knows that the later edition is asked for.
 pub(crate) const LATER: &str = "later";
 
+/// By what `clap` knows that all calls to a capability are taken to be made through one reference.
+pub(crate) const ONE_REFERENCE: &str = "one-reference";
+
 /// By what `clap` knows that a page is asked for.
 pub(crate) const HTML: &str = "html";
 
@@ -301,7 +304,7 @@ fn migrate_command<'a>(alloc: Global) -> Result<Command<'a>, AllocError>
     with_argument(flagged, out(alloc, "FILE", help::OUT))
 }
 
-/// The command `wire A B`, which has the option `--out FOLDER`.
+/// The command `wire A B`, which has the options `--one-reference` and `--out FOLDER`.
 ///
 /// # Errors
 ///
@@ -313,7 +316,8 @@ fn wire_command<'a>(alloc: Global) -> Result<Command<'a>, AllocError>
         reader_command(alloc, help::WIRE),
         input(alloc, OTHER, "B", help::WIRE_B),
     );
-    with_argument(both, folder(alloc))
+    let flagged = with_argument(both, flag(alloc, ONE_REFERENCE, help::ONE_REFERENCE));
+    with_argument(flagged, folder(alloc))
 }
 
 /// The command `join LOG .. --out FOLDER`.

@@ -45,6 +45,11 @@ impl Groups {
 
     /// The place of a group's Resolve among the frames, if one comes.
     pub fn resolve(&self, group: usize) -> Option<usize> {
-        *self.resolves.get(group)?
+        self.resolves.get(group).copied().unwrap_or(None)
+    }
+
+    /// How many groups there are.
+    pub fn len(&self) -> usize {
+        self.resolves.len()
     }
 }

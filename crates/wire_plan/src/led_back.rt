@@ -19,20 +19,18 @@ impl Passing {
         }
     }
 
-    /// The Call at this place, behind those before it, leads to these targets.
+    /// The Call at this place, behind those before it, leads to this target.
     pub(crate) fn lead(
         &mut self,
         alloc: Global,
         digest: u64,
-        targets: &[Aim],
+        target: Aim,
         place: usize,
     ) -> Result<(), AllocError> {
-        for target in targets {
-            self.places
-                .entry((digest, *target))?
-                .or_insert(Vec::new(alloc))
-                .push(place)?;
-        }
+        self.places
+            .entry((digest, target))?
+            .or_insert(Vec::new(alloc))
+            .push(place)?;
         Ok(())
     }
 

@@ -19,7 +19,7 @@ mod promise_ends;
 mod question_ties;
 mod reading;
 
-pub use frame_ties::Ties;
+pub use frame_ties::{FrameTie, Ties};
 pub use groups::Groups;
 pub use message::{Aim, Entry, Kind, Named, Planned, ReturnKind};
 pub use named_paths::NamedPaths;

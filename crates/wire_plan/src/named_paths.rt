@@ -30,8 +30,9 @@ impl NamedPaths {
 
     /// The paths that are named of the question that this frame opens.
     pub fn of(&self, opening: usize) -> &[u32] {
-        self.paths
-            .get(opening)
-            .map_or(&[], |paths| paths.as_slice())
+        match self.paths.get(opening) {
+            Some(paths) => paths.as_slice(),
+            None => &[],
+        }
     }
 }

@@ -1,6 +1,5 @@
 //! Questions by their openings: the k-th Return for a number answers its k-th opening.
 
-use crate::frame_ties::Places;
 use rising_table::RisingTable;
 use std::alloc::{AllocError, Global};
 
@@ -12,7 +11,7 @@ pub(crate) struct Openings {
     /// The last opening of each number.
     last: RisingTable<usize>,
     /// The opening of the same number behind each frame that opens one.
-    following: Places,
+    following: Vec<Option<usize>>,
 }
 
 impl Openings {
@@ -21,7 +20,7 @@ impl Openings {
         Ok(Openings {
             first: RisingTable::new(alloc),
             last: RisingTable::new(alloc),
-            following: Places::new(alloc, frames)?,
+            following: vec![in alloc; None; frames]?,
         })
     }
 
@@ -29,7 +28,11 @@ impl Openings {
     pub(crate) fn opened(&mut self, number: u32, frame: usize) -> Result<(), AllocError> {
         let key = u64::from(number);
         match self.last.replace(key, frame) {
-            Some(last) => self.following.put(last, frame),
+            Some(last) => {
+                if let Some(following) = self.following.get_mut(last) {
+                    *following = Some(frame);
+                }
+            }
             None => {
                 self.last.put(key, frame)?;
                 self.first.put(key, Some(frame))?;
@@ -42,7 +45,47 @@ impl Openings {
     pub(crate) fn take(&mut self, number: u32) -> Option<usize> {
         let key = u64::from(number);
         let first = (*self.first.get(key)?)?;
-        let _ = self.first.replace(key, self.following.get(first));
+        let following = self.following.get(first).copied().unwrap_or(None);
+        let _ = self.first.replace(key, following);
         Some(first)
+    }
+}
+
+/// The openings of one end's questions, by number and in their order.
+#[derive(Drop)]
+pub(crate) struct Asked {
+    places: RisingTable<Vec<usize>>,
+}
+
+impl Asked {
+    /// No openings.
+    pub(crate) fn new(alloc: Global) -> Asked {
+        Asked {
+            places: RisingTable::new(alloc),
+        }
+    }
+
+    /// The frame of this place, behind those before it, opens this number.
+    pub(crate) fn opened(
+        &mut self,
+        alloc: Global,
+        number: u32,
+        frame: usize,
+    ) -> Result<(), AllocError> {
+        let key = u64::from(number);
+        if let Some(places) = self.places.get_mut(key) {
+            places.push(frame)?;
+            return Ok(());
+        }
+        let mut places = Vec::new(alloc);
+        places.push(frame)?;
+        self.places.put(key, places)
+    }
+
+    /// The last frame before this place that opens this number.
+    pub(crate) fn opening_before(&self, number: u32, place: usize) -> Option<usize> {
+        let places = self.places.get(u64::from(number))?.as_slice();
+        let before = places.partition_point(|opening| *opening < place);
+        places.get(before.checked_sub(1)?).copied()
     }
 }

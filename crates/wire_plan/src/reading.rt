@@ -12,25 +12,12 @@ use rpc_view::{
 };
 use std::alloc::{AllocError, Global};
 
-/// What is made use of while a message is read: its frame, how many words that has, its place in the file, and what the
-/// messages before it named.
+/// What is made use of while messages are read.
 #[derive(Drop)]
 struct Reading<'a> {
     alloc: Global,
-    frame: &'a Frame,
-    words: u64,
-    place: usize,
     paths: &'a mut Paths,
     groups: &'a mut Groups,
-}
-
-/// A message without a payload.
-fn bare(alloc: Global, kind: Kind) -> Planned {
-    Planned {
-        kind,
-        table: Vec::new(alloc),
-        fields: Vec::new(alloc),
-    }
 }
 
 impl Reading<'_> {
@@ -89,14 +76,31 @@ impl Reading<'_> {
         })
     }
 
-    /// A Resolve.
-    fn resolve(&mut self, promise: u32, resolution: &Resolution) -> Result<Planned, AllocError> {
-        let mut planned = bare(self.alloc, Kind::Unread);
-        if let Resolution::Cap(descriptor) = resolution {
-            planned.table.push(self.entry(descriptor)?)?;
+    /// A message without a payload.
+    fn bare(&self, kind: Kind) -> Planned {
+        Planned {
+            kind,
+            table: Vec::new(self.alloc),
+            fields: Vec::new(self.alloc),
         }
-        planned.kind = Kind::Resolve(promise, self.groups.resolved(promise, self.place));
-        Ok(planned)
+    }
+
+    /// A Resolve, the frame of this place.
+    fn resolve(
+        &mut self,
+        place: usize,
+        promise: u32,
+        resolution: &Resolution,
+    ) -> Result<Planned, AllocError> {
+        let mut table = Vec::new(self.alloc);
+        if let Resolution::Cap(descriptor) = resolution {
+            table.push(self.entry(descriptor)?)?;
+        }
+        Ok(Planned {
+            kind: Kind::Resolve(promise, self.groups.resolved(promise, place)),
+            table,
+            fields: Vec::new(self.alloc),
+        })
     }
 
     /// A Return.
@@ -122,12 +126,17 @@ impl Reading<'_> {
         };
         match outcome {
             Outcome::Results(payload) => self.with_payload(kind, payload),
-            _ => Ok(bare(self.alloc, kind)),
+            _ => Ok(self.bare(kind)),
         }
     }
 
-    /// A Call.
-    fn call(&mut self, message: &RpcMessage) -> Result<Planned, AllocError> {
+    /// A Call, in a frame of so many words.
+    fn call(
+        &mut self,
+        frame: &Frame,
+        words: u64,
+        message: &RpcMessage,
+    ) -> Result<Planned, AllocError> {
         let RpcMessage::Call {
             question,
             target,
@@ -137,12 +146,12 @@ impl Reading<'_> {
             yourself,
         } = message
         else {
-            return Ok(bare(self.alloc, Kind::Unread));
+            return Ok(self.bare(Kind::Unread));
         };
         let kind = Kind::Call {
             question: *question,
             aim: self.aim(target)?,
-            digest: digest_of(self.alloc, self.frame, self.words, *interface, *method)?,
+            digest: digest_of(self.alloc, frame, words, *interface, *method)?,
             interface: *interface,
             method: *method,
             yourself: *yourself,
@@ -158,20 +167,23 @@ impl Reading<'_> {
         target: &Target,
     ) -> Result<Planned, AllocError> {
         let aim = self.aim(target)?;
-        Ok(bare(
-            self.alloc,
-            match loopback {
-                Loopback::Sender => Kind::Loopback(number, aim),
-                Loopback::Receiver => Kind::Echo(number, aim),
-            },
-        ))
+        Ok(self.bare(match loopback {
+            Loopback::Sender => Kind::Loopback(number, aim),
+            Loopback::Receiver => Kind::Echo(number, aim),
+        }))
     }
 
-    /// The message.
-    fn planned(&mut self, message: &RpcMessage) -> Result<Planned, AllocError> {
+    /// The message of a frame at this place.
+    fn planned(
+        &mut self,
+        frame: &Frame,
+        words: u64,
+        place: usize,
+        message: &RpcMessage,
+    ) -> Result<Planned, AllocError> {
         match message {
-            RpcMessage::Bootstrap { question } => Ok(bare(self.alloc, Kind::Bootstrap(*question))),
-            RpcMessage::Call { .. } => self.call(message),
+            RpcMessage::Bootstrap { question } => Ok(self.bare(Kind::Bootstrap(*question))),
+            RpcMessage::Call { .. } => self.call(frame, words, message),
             RpcMessage::Return {
                 answer,
                 release_param_caps,
@@ -181,18 +193,18 @@ impl Reading<'_> {
             RpcMessage::Finish {
                 question,
                 release_result_caps,
-            } => Ok(bare(self.alloc, Kind::Finish(*question, *release_result_caps))),
+            } => Ok(self.bare(Kind::Finish(*question, *release_result_caps))),
             RpcMessage::Resolve {
                 promise,
                 resolution,
-            } => self.resolve(*promise, resolution),
-            RpcMessage::Release { id, count } => Ok(bare(self.alloc, Kind::Release(*id, *count))),
+            } => self.resolve(place, *promise, resolution),
+            RpcMessage::Release { id, count } => Ok(self.bare(Kind::Release(*id, *count))),
             RpcMessage::Disembargo {
                 number,
                 loopback,
                 target,
             } => self.disembargo(*number, *loopback, target),
-            RpcMessage::Abort => Ok(bare(self.alloc, Kind::Abort)),
+            RpcMessage::Abort => Ok(self.bare(Kind::Abort)),
         }
     }
 }
@@ -205,20 +217,18 @@ pub(crate) fn read_planned(
     paths: &mut Paths,
     groups: &mut Groups,
 ) -> Result<Planned, AllocError> {
-    let Ok(frame) = Frame::read(bytes.slice(0..bytes.len())?) else {
-        return Ok(bare(alloc, Kind::Unread));
-    };
     let mut reading = Reading {
         alloc,
-        frame: &frame,
-        words: bytes.len() as u64 / 8,
-        place,
         paths,
         groups,
     };
+    let words = bytes.len() as u64 / 8;
+    let Ok(frame) = Frame::read(bytes.slice(0..bytes.len())?) else {
+        return Ok(reading.bare(Kind::Unread));
+    };
     match read_message(alloc, &frame, Limits::default(), Edition::Later) {
-        Ok(message) => reading.planned(&message),
+        Ok(message) => reading.planned(&frame, words, place, &message),
         Err(ViewError::OutOfMemory) => Err(AllocError),
-        Err(_) => Ok(bare(alloc, Kind::Unread)),
+        Err(_) => Ok(reading.bare(Kind::Unread)),
     }
 }

@@ -360,7 +360,7 @@ module _ (v : ℕ) (es : Past) (steps before : List Step) (w : IsWithin v es ste
           let from = Some (FieldOf call field.0) in
           let own = is_own_number (slice_get (descriptors telling) field.1) in (
             described_became from (cap.Field name field.0) field.1 y (ap (λ o. option_map (λ n. cap.Field n field.0) o) named) d
-            (λ caps. went_on own es from (view_of_descriptor es telling field.1) (rules.0 caps)),
+                (λ caps. went_on own es from (view_of_descriptor es telling field.1) (rules.0 caps)),
             rest,
           )
 

@@ -7,7 +7,7 @@ use crate::message::{Aim, Entry, Kind, Planned, ReturnKind};
 use crate::named_paths::NamedPaths;
 use crate::paths::Paths;
 use crate::promise_ends::{Lead, Leading, lead_of};
-use crate::question_ties::{Asked, Openings};
+use crate::question_ties::{AskedQuestions, Openings};
 use crate::reading::read_planned;
 use bytes::Bytes;
 use rising_table::RisingTable;
@@ -27,7 +27,7 @@ pub struct FilePlan {
     /// What its promises become of the other end's.
     pub leading: Leading,
     /// The frames that open its questions.
-    asked: Asked,
+    asked: AskedQuestions,
 }
 
 impl Drop for FilePlan {
@@ -209,8 +209,8 @@ fn look_through(alloc: Global, messages: &[Planned]) -> Result<(Ties, NamedPaths
 }
 
 /// The questions that these messages open.
-fn asked_in(alloc: Global, messages: &[Planned]) -> Result<Asked, AllocError> {
-    let mut asked = Asked::new(alloc);
+fn asked_in(alloc: Global, messages: &[Planned]) -> Result<AskedQuestions, AllocError> {
+    let mut asked = AskedQuestions::new(alloc);
     for (place, message) in messages.iter().enumerate() {
         if let Some(question) = message.opens() {
             asked.opened(alloc, question, place)?;

@@ -53,14 +53,14 @@ impl Openings {
 
 /// The openings of one end's questions, by number and in their order.
 #[derive(Drop)]
-pub(crate) struct Asked {
+pub(crate) struct AskedQuestions {
     places: RisingTable<Vec<usize>>,
 }
 
-impl Asked {
+impl AskedQuestions {
     /// No openings.
-    pub(crate) fn new(alloc: Global) -> Asked {
-        Asked {
+    pub(crate) fn new(alloc: Global) -> AskedQuestions {
+        AskedQuestions {
             places: RisingTable::new(alloc),
         }
     }

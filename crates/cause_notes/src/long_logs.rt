@@ -10,7 +10,7 @@ use past_records::{NoteText, Replay, decoded_as};
 use record_notes::{put_past_cause, put_stored, vat_of};
 use rpc_view::Edition;
 use std::alloc::{AllocError, Global};
-use vat_log::{LogStream, ReadFault, Record, VatLog, write_log};
+use vat_log::{LogStream, ReadFault, Record, VatLog, write_later_log, write_log};
 use vat_rules::edition_of_header;
 use vat_view::DecodedRecord;
 
@@ -145,9 +145,13 @@ fn replayed<S: SearchingSource>(
     }
 }
 
-/// A log of this vat that has no record.
-fn no_records(alloc: Global, vat: u32) -> Result<VatLog, AllocError> {
-    write_log(alloc, vat, &[]).map_err(|_| AllocError)
+/// A log of this vat that has no record and is judged by this edition.
+fn no_records(alloc: Global, vat: u32, edition: Edition) -> Result<VatLog, AllocError> {
+    match edition {
+        Edition::First => write_log(alloc, vat, &[]),
+        Edition::Later => write_later_log(alloc, vat, &[]),
+    }
+    .map_err(|_| AllocError)
 }
 
 impl FarRecord<'_> {
@@ -177,7 +181,7 @@ impl FarRecord<'_> {
         let Some(replay) = found(text, replayed(alloc, source, self, &event)) else {
             return;
         };
-        if let Some(log) = made(text, no_records(alloc, self.vat)) {
+        if let Some(log) = made(text, no_records(alloc, self.vat, self.edition)) {
             put_past_cause(&replay.before(alloc, &log, event), text, rule);
         }
     }

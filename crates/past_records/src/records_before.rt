@@ -2,9 +2,10 @@
 
 use crate::number_lives::{Lives, NumberLife, number_described};
 use crate::read_again::decoded;
-use rpc_view::Descriptor;
+use rpc_view::{Descriptor, Edition};
 use std::alloc::{AllocError, Global};
 use vat_log::{Body, VatLog};
+use vat_rules::edition_of;
 use vat_view::{DecodedRecord, VatState};
 
 /// A record, and what the numbers of its log are before it.
@@ -98,6 +99,11 @@ impl<'a> Past<'a> {
         };
         let lives = Lives::of_record(alloc, &event)?;
         Past::watching(alloc, log, at, event, lives)
+    }
+
+    /// The edition of rpc.capnp by which the log is judged.
+    pub fn edition(&self) -> Edition {
+        edition_of(self.log)
     }
 
     /// Whether all records before it are there. Where they aren't, none that isn't found is said not to be.

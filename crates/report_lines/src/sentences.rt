@@ -13,7 +13,7 @@ pub fn rule_sentence(rule: Rule) -> &'static str
 {
     match rule {
         Rule::Closed => {
-            "nothing is sent on a connection on which an abort was sent or received, but in a log of version 3 an abort where none was sent"
+            "nothing is sent on a connection behind an abort that this vat sent there, or in a log of version 1 or 2 received there"
         }
         Rule::Ref => {
             "a record binds new references and calls once, names others only where they were bound, and notes a call beside a Bootstrap or a Call alone"
@@ -49,7 +49,7 @@ pub fn rule_sentence(rule: Rule) -> &'static str
             "a received message has one new reference for each capability in its table, and none where it is a late Return"
         }
         Rule::Emb => {
-            "a loopback has a free number and a target that leads back, and its echo goes to where the target led, after each call that was received for it before"
+            "a loopback has a free number and a target that leads back, or in a log of version 3 came back, and its echo goes to where the target led, after each call that was received for it before"
         }
     }
 }

@@ -1,7 +1,7 @@
 //! What is sent behind an abort.
 
 use past_records::{NoteText, Past, put_reason};
-use rpc_view::RpcMessage;
+use rpc_view::{Edition, RpcMessage};
 use vat_view::DecodedRecord;
 
 /// Whether a record is an abort on this connection that was sent, or else received.
@@ -29,19 +29,16 @@ fn put_abort(past: &Past<'_>, text: &mut NoteText, over: u32, out: bool) -> bool
     true
 }
 
-/// Notes the abort behind which the record is sent.
+/// Notes the aborts behind which the record is not to be sent: in a log of version 3 that of this vat, else the peer's too.
 pub(crate) fn put_closed(past: &Past<'_>, text: &mut NoteText) {
-    let DecodedRecord::Wire {
-        connection,
-        message,
-        ..
-    } = &past.event
-    else {
+    let DecodedRecord::Wire { connection, .. } = &past.event else {
         return;
     };
     let was_sent = put_abort(past, text, *connection, true);
-    let was_received = put_abort(past, text, *connection, false);
-    if matches!(message, RpcMessage::Abort) && was_received && !was_sent {
-        text.say("it answers that abort: C++ does so, and a log of version 3 allows it");
+    if past.edition() == Edition::First {
+        let was_received = put_abort(past, text, *connection, false);
+        if was_received && !was_sent {
+            text.say("in a log of version 3 an abort that was received forbids nothing");
+        }
     }
 }

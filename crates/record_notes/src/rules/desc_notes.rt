@@ -5,7 +5,7 @@ use crate::rules::view_text::ViewText;
 use crate::rules::view_turns::put_reference;
 use past_records::{NoteText, Past, put_life, put_opening};
 use report_lines::Shown;
-use rpc_view::Descriptor;
+use rpc_view::{Descriptor, Edition};
 use std::fmt;
 use std::fmt::{Display, Formatter};
 use vat_view::{BorrowedView, DecodedRecord, View};
@@ -125,13 +125,40 @@ fn put_open(past: &Past<'_>, text: &mut NoteText, entry: NotedEntry<'_>, view: &
     true
 }
 
-/// Notes of an entry whose reference doesn't lead to what it stands for; and says whether it doesn't, or memory was refused.
+/// Whether a reference's view goes for what the entry stands for beside which it is noted: it leads there, or in a log of version
+/// 3 is one with it.
+fn goes_for(past: &Past<'_>, view: &View, stands: &View) -> bool {
+    match past.edition() {
+        Edition::First => past.state.leads(view, stands),
+        Edition::Later => past.state.are_one(view, stands),
+    }
+}
+
+/// Notes of what is known that it isn't one with what an entry of the table stands for, in a log of version 3.
+pub(crate) fn put_apart(
+    past: &Past<'_>,
+    text: &mut NoteText,
+    known: &View,
+    place: usize,
+    stands: &View,
+) {
+    if past.edition() == Edition::Later && !past.state.are_one(known, stands) {
+        text.tell_of("note: @ and ", &ViewText::of(known), &[]);
+        text.tell_of(
+            "@ lead to nothing in common\n",
+            &EntryText(&past.event, place),
+            &[],
+        );
+    }
+}
+
+/// Notes of an entry whose reference doesn't go for what it stands for; and says whether it doesn't, or memory was refused.
 fn put_if_amiss(past: &Past<'_>, text: &mut NoteText, entry: NotedEntry<'_>) -> bool {
     let Some(view) = text.granted(past.state.view_of_reference(entry.reference)) else {
         return true;
     };
     if let (Some(view), Some(stands)) = (&view, entry.stands) {
-        if past.state.leads(view, stands) {
+        if goes_for(past, view, stands) {
             return put_open(past, text, entry, view);
         }
     }
@@ -139,10 +166,13 @@ fn put_if_amiss(past: &Past<'_>, text: &mut NoteText, entry: NotedEntry<'_>) -> 
     text.note_of("@ has reference # beside it", &shown, &[entry.reference]);
     put_reference(past, text, entry.reference);
     put_entry(past, text, entry.place, entry.stands);
+    if let (Some(view), Some(stands)) = (&view, entry.stands) {
+        put_apart(past, text, view, entry.place, stands);
+    }
     true
 }
 
-/// Notes of the first entry whose reference doesn't lead to what it stands for, and says whether there is one, or memory was refused.
+/// Notes of the first entry whose reference doesn't go for what it stands for, and says whether there is one, or memory was refused.
 fn put_amiss(past: &Past<'_>, text: &mut NoteText) -> bool {
     let Some(stands) = text.granted(past.state.views_of_descriptors(&past.event)) else {
         return true;

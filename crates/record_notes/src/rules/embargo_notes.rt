@@ -3,7 +3,7 @@
 use crate::rules::view_text::ViewText;
 use crate::rules::view_turns::put_turns;
 use past_records::{NoteText, Past};
-use rpc_view::RpcMessage;
+use rpc_view::{Edition, RpcMessage};
 use std::alloc::AllocError;
 use vat_view::{DecodedRecord, TableKey};
 
@@ -39,10 +39,14 @@ fn put_asking(past: &Past<'_>, text: &mut NoteText, asked: TableKey) {
         return put_deed(text, sentence, asked_by(past, asked), asked.ours);
     }
     put_target(past, text);
-    let sentence = if asked.ours {
-        "calls come back over connection # only from what isn't reached over it"
-    } else {
-        "calls go back over connection # only to what is reached over it"
+    let sentence = match (asked.ours, past.edition()) {
+        (true, Edition::First) => {
+            "calls come back over connection # only from what isn't reached over it"
+        }
+        (true, Edition::Later) => {
+            "calls come back over connection # only from what isn't reached over it, or came back over it"
+        }
+        (false, _) => "calls go back over connection # only to what is reached over it",
     };
     text.note(sentence, &[u64::from(asked.connection)]);
 }

@@ -4,7 +4,7 @@ use crate::rules::call_notes::put_origin;
 use crate::rules::view_text::ViewText;
 use crate::rules::view_turns::{Way, put_way};
 use past_records::{NoteText, Past, put_life, put_opening};
-use rpc_view::RpcMessage;
+use rpc_view::{Edition, RpcMessage};
 use std::alloc::AllocError;
 use std::fmt;
 use std::fmt::{Display, Formatter};
@@ -117,7 +117,12 @@ fn put_sent(past: &Past<'_>, text: &mut NoteText, call: u64) {
         return;
     };
     if let Some(end) = past.state.end(way.last()) {
-        let sentence = "so it was expected to go to @, or to what stands before it on that way";
+        let sentence = match past.edition() {
+            Edition::First => {
+                "so it was expected to go to @, or to what stands before it on that way"
+            }
+            Edition::Later => "so it was expected to go to @, or to what leads there",
+        };
         text.note_of(sentence, &ViewText(end), &[]);
     }
     put_target(past, text);

@@ -1,10 +1,10 @@
 //! Returns that don't say what is known of their call.
 
 use crate::rules::call_notes::{put_left, put_origin, settled_by};
-use crate::rules::desc_notes::put_entry;
+use crate::rules::desc_notes::{put_apart, put_entry};
 use crate::rules::view_turns::put_turns;
 use past_records::{NoteText, Past, QuestionOpening, opening_of};
-use rpc_view::{Descriptor, Outcome, Payload, RpcMessage};
+use rpc_view::{Descriptor, Edition, Outcome, Payload, RpcMessage};
 use std::alloc::AllocError;
 use vat_log::Body;
 use vat_view::{DecodedRecord, TableKey, View};
@@ -30,11 +30,22 @@ fn put_unknown(past: &Past<'_>, text: &mut NoteText, call: u64) {
     }
 }
 
+/// Whether what was known went on to what a descriptor stands for: by turns, or in a log of version 3 it became what a number of
+/// the sender's own stands for.
+fn went_on(past: &Past<'_>, known: &View, descriptor: &Descriptor, stands: &View) -> bool {
+    match (past.edition(), descriptor) {
+        (Edition::Later, Descriptor::SenderHosted(_) | Descriptor::SenderPromise(_)) => {
+            past.state.became(known, stands)
+        }
+        _ => past.state.leads_by_turns(known, stands),
+    }
+}
+
 /// Whether what stands at a place of the table, a capability, is another than was known.
 fn is_other(past: &Past<'_>, known: &View, place: usize, stands: &[Option<View>]) -> bool {
     match (past.event.descriptors().get(place), stands.get(place)) {
         (None | Some(Descriptor::NoCap), _) => false,
-        (_, Some(Some(stands))) => !past.state.leads_by_turns(known, stands),
+        (Some(descriptor), Some(Some(stands))) => !went_on(past, known, descriptor, stands),
         _ => true,
     }
 }
@@ -69,9 +80,15 @@ fn put_other(past: &Past<'_>, text: &mut NoteText, payload: &Payload, call: u64)
     if let Some(at) = settled_by(past, call) {
         text.note("record # tells the results of call #", &[at as u64, call]);
     }
-    put_turns(past, text, known);
+    let Some(shown) = text.granted(known.copy()) else {
+        return;
+    };
+    put_turns(past, text, shown);
     if let Some(view) = stands.get(place) {
         put_entry(past, text, place, view.as_ref());
+        if let Some(view) = view {
+            put_apart(past, text, &known, place, view);
+        }
     }
 }
 

@@ -165,10 +165,10 @@ fn put_if_amiss(past: &Past<'_>, text: &mut NoteText, entry: NotedEntry<'_>) -> 
     let shown = EntryText(&past.event, entry.place);
     text.note_of("@ has reference # beside it", &shown, &[entry.reference]);
     put_reference(past, text, entry.reference);
-    put_entry(past, text, entry.place, entry.stands);
     if let (Some(view), Some(stands)) = (&view, entry.stands) {
         put_apart(past, text, view, entry.place, stands);
     }
+    put_entry(past, text, entry.place, entry.stands);
     true
 }
 

@@ -85,10 +85,10 @@ fn put_other(past: &Past<'_>, text: &mut NoteText, payload: &Payload, call: u64)
     };
     put_turns(past, text, shown);
     if let Some(view) = stands.get(place) {
-        put_entry(past, text, place, view.as_ref());
         if let Some(view) = view {
             put_apart(past, text, &known, place, view);
         }
+        put_entry(past, text, place, view.as_ref());
     }
 }
 

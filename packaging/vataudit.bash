@@ -11,7 +11,8 @@ _vataudit_options() {
         records) echo "--from= --count=" ;;
         frame) echo "--later" ;;
         migrate) echo "--out= --later" ;;
-        salvage | wire | join) echo "--out=" ;;
+        wire) echo "--out= --one-reference" ;;
+        salvage | join) echo "--out=" ;;
     esac
 }
 

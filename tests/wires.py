@@ -1,14 +1,16 @@
 #!/usr/bin/env python3
 """Tries `wire` on real and made-up connections: that the two files may change places; that a connection is told yes wherever
 both files are cut at one moment of it, and where one is cut as a note says; that each cut of one file has a line; that the
-logs of --out have just the frames of both files, and that `check` says yes of them; and bad input: what is packed or encrypted,
-begins in the middle, is no file or no frame, and a folder that is there before or can't be written.
+logs of --out have just the frames of both files, and that `check` says yes of them; what --one-reference changes; and bad
+input: what is packed or encrypted, begins in the middle, is no file or no frame, and a folder that is there before or can't be
+written.
 
 usage: tests/wires.py PROGRAM [ROWS [COUNT]]     (the built program)
 
 ROWS is a JSON file with `rows`, a list of objects with `a` and `b`, the bytes of both files in base64, and `verdict`; COUNT is
-how many of them are taken. Without it the connections are those of samples/. What isn't as it must be is printed, and the last
-line counts. It is no part of the gate.
+how many of them are taken, or else all. The connections of samples/ are tried without it, and those of tests/wires.json: what
+Rust's capnp-rpc sent in sound programs of tests/storm/scripts. A row of it may have `one_reference`, the line by that option,
+and `note`, what is noted beside the yes. What isn't as it must be is printed, and the last line counts. It is no part of the gate.
 """
 import base64
 import concurrent.futures
@@ -177,6 +179,17 @@ def try_bytes(name, a, b):
             must(f"{name}: {left} bytes are left", any(f"a: {left} bytes behind" in note for note in notes), notes)
 
 
+def try_one_reference(row):
+    """What --one-reference says of a row, and what is noted without it."""
+    a, b = base64.b64decode(row["a"]), base64.b64decode(row["b"])
+    _, line, notes = wire(a, b)
+    must(f"{row['name']}: the note", any(note == f"note: a: {row['note']}" for note in notes), notes)
+    must(f"{row['name']}: no note beside --quiet", wire(a, b, "--quiet")[2] == [])
+    status, one, notes = wire(a, b, "--one-reference")
+    must(f"{row['name']}: by one reference", (status, one) == (1, row["one_reference"]), one)
+    must(f"{row['name']}: no note of two references", not has(notes, "came in the other order"), notes)
+
+
 def try_connection(name, a, b, verdict):
     line = try_mirror(name, a, b, verdict)
     if not line.startswith("yes"):
@@ -262,6 +275,11 @@ def try_folder(a, b):
         must("no folder beside a bad frame", not os.path.exists(f"{room}/none"))
 
 
+def rows_of(path):
+    with open(path) as file:
+        return json.load(file)["rows"]
+
+
 def sample(name):
     with open(f"{ROOT}/samples/{name}.frames", "rb") as file:
         return file.read()
@@ -275,10 +293,13 @@ def main():
     try_bytes("library", a, b)
     try_bytes("library, exchanged", b, a)
     connections = [("library", a, b, "yes")]
+    rows = rows_of(f"{ROOT}/tests/wires.json")
+    for row in rows:
+        if "one_reference" in row:
+            try_one_reference(row)
     if len(sys.argv) > 2:
-        with open(sys.argv[2]) as file:
-            rows = json.load(file)["rows"][: int(sys.argv[3]) if len(sys.argv) > 3 else None]
-        connections += [(row["name"], base64.b64decode(row["a"]), base64.b64decode(row["b"]), row["verdict"]) for row in rows]
+        rows += rows_of(sys.argv[2])[: int(sys.argv[3]) if len(sys.argv) > 3 else None]
+    connections += [(row["name"], base64.b64decode(row["a"]), base64.b64decode(row["b"]), row["verdict"]) for row in rows]
     with concurrent.futures.ThreadPoolExecutor(2) as pool:
         list(pool.map(lambda row: (try_connection if row[3] == "yes" else try_mirror)(*row), connections))
     print(f"{TALLY[True]} passed, {TALLY[False]} failed")

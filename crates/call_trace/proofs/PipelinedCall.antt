@@ -56,7 +56,7 @@ run =
     []
 
 pub is_legal : IsLegalRun run
-is_legal = ((tt, inl refl), ((tt, (refl, tt)), ((tt, (refl, refl, refl)), ((tt, inl refl), ((((inr (inr (inr (inr (inl (refl, refl)))))), ((inr (inr (inr (inr (inl (refl, refl)))))), tt)), (refl, (inl ((cap.Object 2 7), (inr (inl (inl (refl, refl)))), here), tt))), ((tt, (turn (inl (inl (refl, refl))) here)), ((((inr (inr (inl (refl, refl)))), tt), (refl, refl, refl)), ((tt, refl), ((tt, refl), ((tt, tt), ((((inr (inr (inl (refl, ([], refl))))), tt), (here, refl, refl)), ((((inr (inl (refl, ([], refl)))), tt), refl), ((((inl (refl, ([], refl))), tt), tt), ((tt, (refl, refl)), tt))))))))))))))
+is_legal = ((tt, inl refl), ((tt, (refl, tt)), ((tt, (refl, refl, refl)), ((tt, inl refl), ((((inr (inr (inr (inr (inl (refl, refl)))))), ((inr (inr (inr (inr (inl (refl, refl)))))), tt)), (refl, (((cap.Object 2 7, turn (inr (inl (inl (refl, refl)))) here, here), inl (cap.Object 2 7, inr (inl (inl (refl, refl))))), tt))), ((tt, (turn (inl (inl (refl, refl))) here)), ((((inr (inr (inl (refl, refl)))), tt), (refl, refl, refl)), ((tt, refl), ((tt, refl), ((tt, tt), ((((inr (inr (inl (refl, ([], refl))))), tt), ((cap.Field (call 1 1) [], here, here), refl, refl)), ((((inr (inl (refl, ([], refl)))), tt), refl), ((((inl (refl, ([], refl))), tt), tt), ((tt, (refl, refl)), tt))))))))))))))
 
 pub is_linked : IsLinkedRun run
 is_linked = ((refl, refl), (refl, (tt, ((refl, refl), (refl, (tt, (tt, ((refl, refl), ((refl, refl), (tt, (refl, (tt, (tt, (refl, tt))))))))))))))

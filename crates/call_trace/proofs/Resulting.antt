@@ -320,11 +320,11 @@ cap_there : (names : Naming) (es : Past) (e : DecodedRecord) (place : ℕ) (cs :
 cap_there names es e place cs c all there is =
     let d = together_back (descriptor_named names es e) (descriptors e) place cs c all there in cap_described names es e place c d.0 d.1 d.2 is
 
--- a view became what it leads on to
+-- a view became what it leads to by 1 or more turns
 led_on : (es : Past) (from to : Option View) → LeadsOnTo es from to → BecameThere es from to
 led_on es None to led = absurd led
 led_on es (Some a) None led = absurd led
-led_on es (Some a) (Some b) (turned {b = first} h rest) = (first, h, b, onward h rest, stay)
+led_on es (Some a) (Some b) (turned {b = first} h rest) = (first, h, (b, onward h rest, stay))
 
 went_on : (own : Bool) (es : Past) (from to : Option View) → WentOn Later own es from to → BecameThere es from to
 went_on true es from to went = went
@@ -346,7 +346,7 @@ module _ (v : ℕ) (es : Past) (steps before : List Step) (w : IsWithin v es ste
       let there = known_named v es steps before w telling s (g rule.Ref) (Some d.0) known y d.2 in
       became_there v es steps before w from (Some d.0) x y named there (subst (BecameThere es from) d.1 (keeps d.3))
 
-  results_became : (call : ℕ) (name : Name) (cs : List Cap) (fields : List (List ℕ × ℕ)) → call_named v es steps call ≡ Some name → caps_named (naming v (telling ∷ es) (s ∷ steps)) es sent ≡ Some cs →
+  results_became : (call : ℕ) (name : Name) (cs : List Cap) (fields : List (List ℕ × ℕ)) → call_named v es steps call ≡ Some name → caps_named (naming v (telling ∷ es) (s ∷ steps)) es telling ≡ Some cs →
       AllByRecursion (ReturnsField Later es telling call) fields → AllByRecursion (λ result. Became before (cap.Field name result.0) result.1) (caps_at_paths cs fields)
   results_became call name cs [] named all rules = tt
   results_became call name cs (field ∷ fields) named all rules = at (cap_at field.1 cs) refl (results_became call name cs fields named all rules.1)
@@ -360,7 +360,7 @@ module _ (v : ℕ) (es : Past) (steps before : List Step) (w : IsWithin v es ste
           let from = Some (FieldOf call field.0) in
           let own = is_own_number (slice_get (descriptors telling) field.1) in (
             described_became from (cap.Field name field.0) field.1 y (ap (λ o. option_map (λ n. cap.Field n field.0) o) named) d
-            (λ caps. went_on own es from (view_of_descriptor es telling field.1) (rules.0 caps)),
+                (λ caps. went_on own es from (view_of_descriptor es telling field.1) (rules.0 caps)),
             rest,
           )
 

@@ -76,7 +76,7 @@ run =
     []
 
 pub is_legal : IsLegalRun run
-is_legal = ((tt, turn (inr (inr (inr (inr (inr (inr (inr (inr (inr (inr (inl (0 ∷ [], refl, refl)))))))))))) (turn (inr (inr (inr (inr (inl (inl (refl, refl))))))) here)), (((inr (inr (inr (inr (inr (inr (inr (inr (inr (inr (inr (inr (inr (inr (inr (inr (inr (inl (refl, (0 ∷ [], refl))))))))))))))))))), tt), refl), (((inr (inr (inr (inr (inr (inr (inr (inr (inr (inr (inr (inr (inr (inr (inr (inr (inl (refl, (0 ∷ [], refl)))))))))))))))))), tt), tt), ((tt, refl), ((tt, tt), (((inr (inr (inr (inr (inr (inr (inr (inr (inr (inr (inr (inr (inr (inr (inr (inr (inl (refl, refl))))))))))))))))), tt), (refl, refl, refl)), ((tt, here), ((tt, refl), ((tt, refl), ((tt, refl), (((inr (inr (inr (inl (refl, inl (inl refl))))), tt), (here, refl, refl)), ((tt, (refl, refl, refl)), (((inr (inl (refl, inl (inl refl))), tt), refl), ((tt, turn (inr (inl (inl (refl, refl)))) here), ((tt, refl), (((inr (inl (refl, refl)), tt), (refl, refl, refl)), ((tt, refl), ((tt, tt), (((inr (inr (inl (refl, ([], refl)))), (inr (inr (inr (inr (inl (refl, refl))))), tt)), (here, refl, refl)), (((inr (inl (refl, ([], refl))), tt), refl), (((inl (refl, ([], refl)), tt), tt), ((tt, (refl, refl)), ((tt, tt), ((tt, tt), tt))))))))))))))))))))))))
+is_legal = ((tt, turn (inr (inr (inr (inr (inr (inr (inr (inr (inr (inr (inl (0 ∷ [], refl, refl)))))))))))) (turn (inr (inr (inr (inr (inl (inl (refl, refl))))))) here)), (((inr (inr (inr (inr (inr (inr (inr (inr (inr (inr (inr (inr (inr (inr (inr (inr (inr (inl (refl, (0 ∷ [], refl))))))))))))))))))), tt), refl), (((inr (inr (inr (inr (inr (inr (inr (inr (inr (inr (inr (inr (inr (inr (inr (inr (inl (refl, (0 ∷ [], refl)))))))))))))))))), tt), tt), ((tt, refl), ((tt, tt), (((inr (inr (inr (inr (inr (inr (inr (inr (inr (inr (inr (inr (inr (inr (inr (inr (inl (refl, refl))))))))))))))))), tt), (refl, refl, refl)), ((tt, here), ((tt, refl), ((tt, refl), ((tt, refl), (((inr (inr (inr (inl (refl, inl (inl refl))))), tt), ((cap.Object 1 5, here, here), refl, refl)), ((tt, (refl, refl, refl)), (((inr (inl (refl, inl (inl refl))), tt), refl), ((tt, turn (inr (inl (inl (refl, refl)))) here), ((tt, refl), (((inr (inl (refl, refl)), tt), (refl, refl, refl)), ((tt, refl), ((tt, tt), (((inr (inr (inl (refl, ([], refl)))), (inr (inr (inr (inr (inl (refl, refl))))), tt)), ((cap.Field (call 1 1) [], here, here), refl, refl)), (((inr (inl (refl, ([], refl))), tt), refl), (((inl (refl, ([], refl)), tt), tt), ((tt, (refl, refl)), ((tt, tt), ((tt, tt), tt))))))))))))))))))))))))
 
 pub is_linked : IsLinkedRun run
 is_linked = (tt, (tt, (tt, ((refl, refl), (refl, (tt, (tt, ((refl, refl), ((refl, refl), (refl, (refl, (tt, (tt, (tt, ((refl, refl), (tt, ((refl, refl), (tt, (refl, (tt, (tt, (refl, (tt, (tt, tt))))))))))))))))))))))))

@@ -1,4 +1,4 @@
--- A log's records beside the steps of a run so far, and where its views lead there.
+-- A log's records beside the steps of a run so far, and what its views are there.
 use Rattle.std.specs.Prelude.{◌≡◌, ℕ, List, filter, Some, ◌==◌}
 use Rattle.call_trace.specs.Types.{View, Cap, Step}
 use Rattle.call_trace.specs.Naming.{Naming}

@@ -3,7 +3,7 @@
 use crate::wire_line::WireLine;
 use std::sync::Arc;
 use vat_log::VatLog;
-use wire_cut::Waiting;
+use wire_cut::{Overtaking, Waiting};
 
 /// The logs that were made of two files: of vat 1, who sent the first file, and of vat 2; their connection is 0. Both are
 /// of version 3.
@@ -28,4 +28,6 @@ pub struct WireAnswer {
     pub left: [u64; 2],
     /// Where the explanation stops: the message of the first end that waits, and of the second, and what each lacks.
     pub waiting: [Option<Waiting>; 2],
+    /// Of each end the first two messages whose calls came in the other order, where the logs have two references for them.
+    pub overtaking: [Option<Overtaking>; 2],
 }

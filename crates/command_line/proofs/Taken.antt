@@ -290,6 +290,20 @@ pub takes_wire_out : (first one another out : Text) → is_flag one ≡ false �
 unfolding clap_on_literals
 takes_wire_out first one another out e h f = ap (λ (k : Kinds). or_else k []) (wire_out_words one another out e h f)
 
+wire_one_reference_words : (one another : Text) → is_flag one ≡ false → is_flag another ≡ false
+    → level_fault (shape_by wiring) [] nothing_held (codes "--one-reference" ∷ one ∷ another ∷ []) false [] ≡ []
+unfolding clap_on_literals
+wire_one_reference_words one another e h =
+    let is = plain_word_is one e in
+    let are = plain_word_is another h in
+    rw (is.0, is.1, is.2, are.0, are.1, are.2) (refl {a = []})
+
+-- nor has it with `--one-reference`
+pub takes_wire_one_reference : (first one another : Text) → is_flag one ≡ false → is_flag another ≡ false
+    → fault_of program (first ∷ name_of wiring ∷ codes "--one-reference" ∷ one ∷ another ∷ []) ≡ []
+unfolding clap_on_literals
+takes_wire_one_reference first one another e h = ap (λ (k : Kinds). or_else k []) (wire_one_reference_words one another e h)
+
 -- ---- join
 
 join_words : (one another out : Text) → is_flag one ≡ false → is_flag another ≡ false → is_flag out ≡ false

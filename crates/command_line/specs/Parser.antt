@@ -112,9 +112,13 @@ other_rule = record (new_rule other) { value_names = 1; required = true }
 abbrev pub folder_rule : Rule
 folder_rule = record (new_rule path) { long = Some (codes "out"); value_names = 1 }
 
--- `wire A B`, with `--out FOLDER` if wanted
+-- by what clap knows that all calls to a capability are taken to be made through one reference, which is said by `--one-reference`
+abbrev pub one_reference : List ℕ
+one_reference = codes "one-reference"
+
+-- `wire A B`, with `--one-reference` and `--out FOLDER` if wanted
 abbrev pub wire : App
-wire = with_rule (with_rule (with_rule (new_app (codes "wire")) input_rule) other_rule) folder_rule
+wire = with_rule (with_rule (with_rule (with_rule (new_app (codes "wire")) input_rule) other_rule) (flag_rule one_reference)) folder_rule
 
 -- the logs that `join` reads, of which one at least has to be given
 abbrev pub logs_rule : Rule

@@ -8,7 +8,7 @@ use Rattle.clap.specs.Simple.{subcommand_rows_of}
 use Rattle.clap.specs.Values.{IsUnsignedIn}
 use Rattle.clap.specs.Words.{Row, all_of, fault_of, first_of, subcommand_of}
 use Rattle.clap.specs.declared.ArgMatches.{ArgMatches}
-use Rattle.command_line.specs.Parser.{count, dot, html, input, later, other, path, program, start, workers}
+use Rattle.command_line.specs.Parser.{count, dot, html, input, later, one_reference, other, path, program, start, workers}
 
 -- a word that begins with a hyphen, but `-`
 abbrev pub is_flag : List ℕ → Bool
@@ -94,10 +94,12 @@ SpellsDraw words name out first steps is_page many = (rows : List Row) ×
     × IsNumber (first_of start rows) first × IsNumber (first_of count rows) steps × (is_set (first_of html rows) ≡ is_page)
     × IsNumber (first_of workers rows) (Some many))
 
--- the words are read as `wire A B`, and clap finds both files in them and, where it was given, the folder
-abbrev pub SpellsWire : List (List ℕ) → List ℕ → List ℕ → Option (List ℕ) → Type 0
-SpellsWire words one another out = (rows : List Row) ×
-    (IsRead words (codes "wire") rows × (first_of input rows ≡ Some one) × (first_of other rows ≡ Some another) × (first_of path rows ≡ out))
+-- the words are read as `wire A B`, and clap finds both files in them, whether `--one-reference` is there and, where it was
+-- given, the folder
+abbrev pub SpellsWire : List (List ℕ) → List ℕ → List ℕ → Bool → Option (List ℕ) → Type 0
+SpellsWire words one another has_one out = (rows : List Row) ×
+    (IsRead words (codes "wire") rows × (first_of input rows ≡ Some one) × (first_of other rows ≡ Some another)
+    × (is_set (first_of one_reference rows) ≡ has_one) × (first_of path rows ≡ out))
 
 -- the words are read as `join LOG .. --out FOLDER`, and clap finds the logs and the folder in them
 abbrev pub SpellsJoin : List (List ℕ) → List (List ℕ) → List ℕ → Type 0
@@ -116,7 +118,7 @@ Spells words (Frame hex is_later) = SpellsFlagged (codes "frame") later words he
 Spells words (Frames file) = SpellsOne (codes "frames") words file.now
 Spells words (Migrate file is_later out) = SpellsMigrate words file.now is_later out.now
 Spells words (Salvage file out) = SpellsWriter (codes "salvage") words file.now out.now
-Spells words (Wire one another out) = SpellsWire words one.now another.now (option_map (λ name. name.now) out)
+Spells words (Wire one another has_one out) = SpellsWire words one.now another.now has_one (option_map (λ name. name.now) out)
 Spells words (Join logs out) = SpellsJoin words (map (λ name. name.now) logs.items) out.now
 
 -- the name of a command that may be given one thing alone
@@ -141,7 +143,7 @@ HasWorkers (Frame hex is_later) = ⊤
 HasWorkers (Frames name) = ⊤
 HasWorkers (Migrate file is_later out) = ⊤
 HasWorkers (Salvage file out) = ⊤
-HasWorkers (Wire one another out) = ⊤
+HasWorkers (Wire one another has_one out) = ⊤
 HasWorkers (Join logs out) = ⊤
 
 -- the name of the file or folder that a command writes, if it writes one
@@ -157,5 +159,5 @@ out_of (Frame hex is_later) = None
 out_of (Frames name) = None
 out_of (Migrate file is_later out) = Some out.now
 out_of (Salvage file out) = Some out.now
-out_of (Wire one another out) = option_map (λ name. name.now) out
+out_of (Wire one another has_one out) = option_map (λ name. name.now) out
 out_of (Join logs out) = Some out.now

@@ -7,7 +7,9 @@ ghost use Rattle.clap.specs.Words.{fault_of, first_value, found_of, kind_of, mat
 ghost use Rattle.command_line.specs.Parser.{most, program, workers};
 ghost use Rattle.command_line.specs.Spelled.{AreMatchesOf, HasWorkers, IsAuditor, IsChecked, IsNumber, IsReader, Spells, is_flag, is_set, out_of};
 
-use crate::parser::{self, COUNT, DOT, FROM, HTML, INPUT, LATER, OTHER, OUT, WORKERS};
+use crate::parser::{
+    self, COUNT, DOT, FROM, HTML, INPUT, LATER, ONE_REFERENCE, OTHER, OUT, WORKERS,
+};
 use clap::error::ErrorKind;
 use clap::{ArgMatches, Error};
 use std::alloc::{AllocError, Global};
@@ -84,11 +86,13 @@ pub enum Command<'a> {
         file: &'a str,
         out: &'a str,
     },
-    /// Judge a connection by the bytes alone that its ends sent, which the source has under these names; and write the logs
-    /// that explain them to a folder, where one is named.
+    /// Judge a connection by the bytes alone that its ends sent, which the source has under these names, where all calls to a
+    /// capability may be taken to be made through one reference; and write the logs that explain them to a folder, where one
+    /// is named.
     Wire {
         a: &'a str,
         b: &'a str,
+        one_reference: bool,
         out: Option<&'a str>,
     },
     /// Find which connection of which log is the other end of which, in the logs that the source has under these names, and
@@ -249,6 +253,7 @@ fn command_in<'a>(alloc: Global, matches: &ArgMatches<'a>) -> Result<Command<'a>
         "wire" => Ok(Command::Wire {
             a: input,
             b: value_of(given, OTHER),
+            one_reference: is_set(given, ONE_REFERENCE),
             out: given_value(given, OUT),
         }),
         "join" => Ok(Command::Join {
@@ -289,7 +294,7 @@ fn read_command<'a, S: AsStr>(alloc: Global, words: &'a [S]) -> Result<Command<'
 /// before or after the last of these may stand `--`, and it may begin with a hyphen only after that or where it is `-`; or, as
 /// `clap` reads them, `check CASE` or `run CASE` with `--workers N` if wanted, a number from 1 to 64, or `graph CASE` with that and
 /// `--dot` if wanted, or `draw CASE --out FILE` with that and `--from I`, `--count N` and `--html` if wanted, or `order CASE --out
-/// FILE`, or `wire A B` with `--out FOLDER` if wanted, or `join LOG .. --out FOLDER`, or `frame HEX` with `--later` if wanted, or `migrate FILE --out FILE` with `--later` if wanted, or `salvage FILE --out FILE`, or `records FILE`
+/// FILE`, or `wire A B` with `--one-reference` and `--out FOLDER` if wanted, or `join LOG .. --out FOLDER`, or `frame HEX` with `--later` if wanted, or `migrate FILE --out FILE` with `--later` if wanted, or `salvage FILE --out FILE`, or `records FILE`
 /// with `--from I` and `--count N` if wanted, numbers of 64 bits.
 ///
 /// # Errors
@@ -368,6 +373,11 @@ pub fn command_of<'a, S: AsStr>(alloc: Global, words: &'a [S]) -> Result<Command
         → map S.text words.entry.now
         ≡ first ∷ codes "wire" ∷ one ∷ another ∷ codes "--out" ∷ out ∷ []
         → is_flag one ≡ false → is_flag another ≡ false → is_flag out ≡ false
+        → IfErr result (λ e. kind_of e ≡ ErrorKind.OutOfMemory) }
+    ensures taken_wire_one_reference { (first one another : List ℕ)
+        → map S.text words.entry.now
+        ≡ first ∷ codes "wire" ∷ codes "--one-reference" ∷ one ∷ another ∷ []
+        → is_flag one ≡ false → is_flag another ≡ false
         → IfErr result (λ e. kind_of e ≡ ErrorKind.OutOfMemory) }
     ensures taken_join { (first one another out : List ℕ)
         → map S.text words.entry.now

@@ -1,5 +1,16 @@
 //! What `--help` prints.
 
+/// What is said of a command that reads one thing.
+#[derive(Clone, Copy)]
+pub struct Reader<'a> {
+    pub name: &'a str,
+    pub about: &'a str,
+    pub long_about: &'a str,
+    pub after_help: &'a str,
+    pub thing: &'a str,
+    pub help: &'a str,
+}
+
 /// The program.
 pub const PROGRAM: &str = "\
 Judges what the vats of Cap'n Proto RPC recorded.";
@@ -37,10 +48,11 @@ Exit status:
      or one that asks for help, which is printed on standard error
   3  memory ran out";
 
-/// `check`, in the list of commands.
-pub const CHECK: &str = "Audits the logs of a case together";
-
-pub const CHECK_LONG: &str = "\
+/// The command `check`.
+pub const CHECK: Reader<'static> = Reader {
+    name: "check",
+    about: "Audits the logs of a case together",
+    long_about: "\
 Audits the logs of a case together: each vat's log by itself, the two ends of
 each link, the order of all records, and the order of calls. Reads the case and
 the files that it names, and prints the first of these lines that applies, vats
@@ -69,9 +81,8 @@ A log may have 1099511627776 bytes, and be a pipe: it is read once, and isn't ke
 
 Records, messages and steps are counted from 0. The line is the same for each
 number of workers. vataudit vat --help has the WHYs, vataudit order --help the
-form of a case file and what the last lines mean, docs/RULES.md each CODE.";
-
-pub const CHECK_END: &str = "\
+form of a case file and what the last lines mean, docs/RULES.md each CODE.",
+    after_help: "\
 Example:
   $ cd samples
   $ vataudit check pipelined_call.json
@@ -82,16 +93,20 @@ Exit status:
   1  no
   2  a record isn't judged, the case or a file of it is bad or can't be read,
      the line can't be written, or the command line is wrong
-  3  memory ran out";
+  3  memory ran out",
+    thing: "CASE",
+    help: CASE,
+};
 
 /// N of the commands that have a case audited.
 pub const WORKERS: &str =
     "How many workers, 1 to 64, audit at the same time; the answer is the same";
 
-/// `graph`, in the list of commands.
-pub const GRAPH: &str = "Prints which vat came to have what of another's";
-
-pub const GRAPH_LONG: &str = "\
+/// The command `graph`.
+pub const GRAPH: Reader<'static> = Reader {
+    name: "graph",
+    about: "Prints which vat came to have what of another's",
+    long_about: "\
 Audits a case as check does. Where the answer is yes it prints a line for each
 capability of another vat that a vat came to have, by the vat and then by the
 record:
@@ -109,9 +124,8 @@ call C of vat W. Records are counted from 0.
 Where the answer isn't yes, the line is check's (vataudit check --help). Where
 memory runs out, the last line is
 
-  out of memory";
-
-pub const GRAPH_END: &str = "\
+  out of memory",
+    after_help: "\
 Example:
   $ cd samples
   $ vataudit graph pipelined_call.json
@@ -123,15 +137,19 @@ Exit status:
   1  no
   2  a record isn't judged, the case or a file of it is bad or can't be read, a
      line can't be written, or the command line is wrong
-  3  memory ran out";
+  3  memory ran out",
+    thing: "CASE",
+    help: CASE,
+};
 
 /// `--dot` of `graph`.
 pub const DOT_GRAPH: &str = "Prints a graph in the DOT language";
 
-/// `run`, in the list of commands.
-pub const RUN: &str = "Prints the run of a case, step by step";
-
-pub const RUN_LONG: &str = "\
+/// The command `run`.
+pub const RUN: Reader<'static> = Reader {
+    name: "run",
+    about: "Prints the run of a case, step by step",
+    long_about: "\
 Audits a case as check does. Where the answer is yes it prints a line for each step
 of the run whose parts the logs are, in order:
 
@@ -145,9 +163,8 @@ the step is about, call C of vat W, which made it.
 Where the answer isn't yes, the line is check's (vataudit check --help). Where
 memory runs out, the last line is
 
-  out of memory";
-
-pub const RUN_END: &str = "\
+  out of memory",
+    after_help: "\
 Example:
   $ cd samples
   $ vataudit run pipelined_call.json
@@ -159,12 +176,16 @@ Exit status:
   1  no
   2  a record isn't judged, the case or a file of it is bad or can't be read, a
      line can't be written, or the command line is wrong
-  3  memory ran out";
+  3  memory ran out",
+    thing: "CASE",
+    help: CASE,
+};
 
-/// `draw`, in the list of commands.
-pub const DRAW: &str = "Draws the records of a case, with an arrow for each message";
-
-pub const DRAW_LONG: &str = "\
+/// The command `draw`.
+pub const DRAW: Reader<'static> = Reader {
+    name: "draw",
+    about: "Draws the records of a case, with an arrow for each message",
+    long_about: "\
 Audits a case as check does, writes a picture of it to FILE, an SVG, and prints
 check's line (vataudit check --help), with its status.
 
@@ -183,9 +204,8 @@ the one leads to that of the other.
 
 Of a case that isn't audited nothing is drawn, and FILE isn't made: bad case .., bad
 log .., bad order .., cannot read, out of memory. What FILE held before is lost.
-docs/FORMATS.md says more of the picture.";
-
-pub const DRAW_END: &str = "\
+docs/FORMATS.md says more of the picture.",
+    after_help: "\
 Example:
   $ cd samples
   $ vataudit draw overtaking_call.json --out overtaking_call.svg
@@ -196,7 +216,10 @@ Exit status:
   1  no
   2  a record isn't judged, and the picture is written; or the case or a file of it
      is bad or can't be read, a write failed, or the command line is wrong
-  3  memory ran out";
+  3  memory ran out",
+    thing: "CASE",
+    help: CASE,
+};
 
 /// STEP of `draw`.
 pub const FROM_STEP: &str = "The first row that is drawn, counted from 0";
@@ -207,10 +230,11 @@ pub const COUNT_STEPS: &str = "How many rows are drawn at most, up to 200, or 50
 /// `--html` of `draw`.
 pub const HTML: &str = "Writes a page with the picture and its records";
 
-/// `vat`, in the list of commands.
-pub const VAT: &str = "Audits the log of one vat";
-
-pub const VAT_LONG: &str = "\
+/// The command `vat`.
+pub const VAT: Reader<'static> = Reader {
+    name: "vat",
+    about: "Audits the log of one vat",
+    long_about: "\
 Audits the log of one vat of Cap'n Proto RPC. Reads the log, in the format
 VATLOG01, VATLOG02 or VATLOG03, and prints one line:
 
@@ -225,9 +249,8 @@ VATLOG01, VATLOG02 or VATLOG03, and prints one line:
   out of memory
 
 Records and offsets are counted from 0. docs/RULES.md has each CODE with what
-breaks it, docs/FORMATS.md the format and what each WHY and NAME means.";
-
-pub const VAT_END: &str = "\
+breaks it, docs/FORMATS.md the format and what each WHY and NAME means.",
+    after_help: "\
 Example:
   $ vataudit vat samples/pipelined_call.vat2.log
   good vat 2 records 8 delivered 1
@@ -237,15 +260,19 @@ Exit status:
   1  a record breaks a rule
   2  a record isn't judged, the log is bad or can't be read, the line can't be
      written, or the command line is wrong
-  3  memory ran out";
+  3  memory ran out",
+    thing: "FILE",
+    help: FILE,
+};
 
 /// FILE of the commands that read a log.
 pub const FILE: &str = "The log, a path from the working directory; - is standard input";
 
-/// `frame`, in the list of commands.
-pub const FRAME: &str = "Prints the message of a frame";
-
-pub const FRAME_LONG: &str = "\
+/// The command `frame`.
+pub const FRAME: Reader<'static> = Reader {
+    name: "frame",
+    about: "Prints the message of a frame",
+    long_about: "\
 Reads a frame of the Cap'n Proto stream framing, given in hexadecimal, as a
 message of rpc.capnp, by its first edition or, with --later, by the later one, and
 prints one line:
@@ -278,9 +305,8 @@ senderHosted N, senderPromise N, receiverHosted N or receiverAnswer Q PATH. PATH
 is [a,b], pointer fields counted from 0. H is 16 hexadecimal digits, B is true or
 false, and other numbers are decimal. docs/FORMATS.md says what each WHY and NAME
 means. A frame of a log is read by the later edition where the log is of VATLOG03.
-A frame that is too long for a command line goes into a file: see frames.";
-
-pub const FRAME_END: &str = "\
+A frame that is too long for a command line goes into a file: see frames.",
+    after_help: "\
 Example:
   $ vataudit frame 0000000003000000000000000100010001000000000000000000000000000000
   abort
@@ -289,7 +315,10 @@ Exit status:
   0  the message is printed
   2  the message isn't judged, the frame or its digits are bad, the line can't
      be written, or the command line is wrong
-  3  memory ran out";
+  3  memory ran out",
+    thing: "HEX",
+    help: HEX,
+};
 
 /// HEX of `frame`.
 pub const HEX: &str = "The frame, two digits a byte in either case, without blanks";
@@ -297,10 +326,11 @@ pub const HEX: &str = "The frame, two digits a byte in either case, without blan
 /// `--later` of `frame`.
 pub const LATER_FRAME: &str = "Reads the frame by the later edition of rpc.capnp";
 
-/// `frames`, in the list of commands.
-pub const FRAMES: &str = "Prints the messages of a file of frames";
-
-pub const FRAMES_LONG: &str = "\
+/// The command `frames`.
+pub const FRAMES: Reader<'static> = Reader {
+    name: "frames",
+    about: "Prints the messages of a file of frames",
+    long_about: "\
 Reads a file of frames of the Cap'n Proto stream framing, one after another, as a
 connection's bytes have them, and prints a line for each in order, as frame does
 without --later (vataudit frame --help has the lines). A frame that isn't read has
@@ -317,9 +347,8 @@ bytes, has the one line
 
 and where memory runs out, the last line is
 
-  out of memory";
-
-pub const FRAMES_END: &str = "\
+  out of memory",
+    after_help: "\
 Example:
   $ vataudit frames samples/pipelined_call.vat1.frames
   bootstrap question 0
@@ -329,15 +358,19 @@ Exit status:
   0  each line is a message
   2  a message isn't judged, a frame is bad, the file can't be read, a line can't
      be written, or the command line is wrong
-  3  memory ran out";
+  3  memory ran out",
+    thing: "FILE",
+    help: FRAMES_FILE,
+};
 
 /// FILE of `frames`.
 pub const FRAMES_FILE: &str = "The frames, a path from the working directory; - is standard input";
 
-/// `order`, in the list of commands.
-pub const ORDER: &str = "Makes an order of the records of a case";
-
-pub const ORDER_LONG: &str = "\
+/// The command `order`.
+pub const ORDER: Reader<'static> = Reader {
+    name: "order",
+    about: "Makes an order of the records of a case",
+    long_about: "\
 Reads a case and the files that it names, makes an order of the records of its
 logs in which each frame is sent before it is received, taking the smallest vat
 number that may come at each step, writes it to FILE in the format VATORD01, and
@@ -356,9 +389,8 @@ prints one line:
 
 A case file is a JSON object with logs, a list of paths from the working
 directory, links, a list of [CONNECTION, VAT, VAT], and, if wanted, order, a path.
-What FILE held before is lost.";
-
-pub const ORDER_END: &str = "\
+What FILE held before is lost.",
+    after_help: "\
 Example:
   $ cd samples
   $ vataudit order pipelined_call.json --out made.order
@@ -369,12 +401,16 @@ Exit status:
   1  no order exists
   2  the case or a file of it is bad or can't be read, a write failed, or the
      command line is wrong
-  3  memory ran out";
+  3  memory ran out",
+    thing: "CASE",
+    help: CASE,
+};
 
-/// `records`, in the list of commands.
-pub const RECORDS: &str = "Prints the records of a log";
-
-pub const RECORDS_LONG: &str = "\
+/// The command `records`.
+pub const RECORDS: Reader<'static> = Reader {
+    name: "records",
+    about: "Prints the records of a log",
+    long_about: "\
 Reads the log of one vat, in the format VATLOG01, VATLOG02 or VATLOG03, and prints
 a line for each record, in order, with its number, counted from 0:
 
@@ -404,9 +440,8 @@ Where the file can't be read, or has over 1099511627776 bytes, the last line is
 
 and where memory runs out, it is
 
-  out of memory";
-
-pub const RECORDS_END: &str = "\
+  out of memory",
+    after_help: "\
 Example:
   $ vataudit records samples/pipelined_call.vat2.log --from 3 --count 2
   3 answer call 1 results [[]=1]
@@ -416,7 +451,10 @@ Exit status:
   0  the records are printed, whatever their frames are
   2  the log is bad or can't be read, a line can't be written, or the command
      line is wrong
-  3  memory ran out";
+  3  memory ran out",
+    thing: "FILE",
+    help: FILE,
+};
 
 /// I of `records`.
 pub const FROM: &str = "The first record that is printed, counted from 0";
@@ -430,10 +468,11 @@ pub const CASE: &str = "The case, a path from the working directory; - is standa
 /// FILE of `order`, `draw`, `migrate` and `salvage`.
 pub const OUT: &str = "The file that is written";
 
-/// `migrate`, in the list of commands.
-pub const MIGRATE: &str = "Writes a log in another version of its format";
-
-pub const MIGRATE_LONG: &str = "\
+/// The command `migrate`.
+pub const MIGRATE: Reader<'static> = Reader {
+    name: "migrate",
+    about: "Writes a log in another version of its format",
+    long_about: "\
 Reads the log of one vat, in the format VATLOG01, VATLOG02 or VATLOG03, writes the
 log with the same vat and records to the file of --out, and prints one line. A log
 of VATLOG01 is written in the format VATLOG02, and with --later each log in the
@@ -446,9 +485,8 @@ format VATLOG03; any other is written as it is.
 
 Without --later no command prints another line of the new log than of the old one.
 A log of VATLOG03 is one of a runtime that speaks the later edition of rpc.capnp:
-say --later where the runtime did, and its log was recorded in an earlier version.";
-
-pub const MIGRATE_END: &str = "\
+say --later where the runtime did, and its log was recorded in an earlier version.",
+    after_help: "\
 Example:
   $ vataudit migrate samples/pipelined_call.vat2.log --out new.log
   migrated vat 2 records 8
@@ -456,15 +494,19 @@ Example:
 Exit status:
   0  the log is written
   2  the log is bad or can't be read, a write failed, or the command line is wrong
-  3  memory ran out";
+  3  memory ran out",
+    thing: "FILE",
+    help: FILE,
+};
 
 /// `--later` of `migrate`.
 pub const LATER_LOG: &str = "Writes version 3, of a runtime that speaks the later edition";
 
-/// `salvage`, in the list of commands.
-pub const SALVAGE: &str = "Writes the whole records of a log that is cut";
-
-pub const SALVAGE_LONG: &str = "\
+/// The command `salvage`.
+pub const SALVAGE: Reader<'static> = Reader {
+    name: "salvage",
+    about: "Writes the whole records of a log that is cut",
+    long_about: "\
 Reads the log of one vat, in the format VATLOG01, VATLOG02 or VATLOG03, of which a
 part may be cut off or bad, as where its recorder was killed. Writes the longest run
 of whole records, from the first on, to the file of --out, as a log in the same
@@ -478,9 +520,8 @@ format, and prints one line:
 
 What stands behind these records is left out, and a note says why. A log that is
 whole is written as it is. The file of --out must not be there yet, so that none is
-lost, FILE least of all.";
-
-pub const SALVAGE_END: &str = "\
+lost, FILE least of all.",
+    after_help: "\
 Example:
   $ head --bytes 100 samples/pipelined_call.vat2.log > cut.log
   $ vataudit salvage cut.log --out whole.log
@@ -490,12 +531,16 @@ Exit status:
   0  the log is written
   2  no log begins so, the file can't be read, a write failed, or the command line
      is wrong
-  3  memory ran out";
+  3  memory ran out",
+    thing: "FILE",
+    help: FILE,
+};
 
-/// `wire`, in the list of commands.
-pub const WIRE: &str = "Judges a connection by the bytes that its ends sent";
-
-pub const WIRE_LONG: &str = "\
+/// The command `wire`.
+pub const WIRE: Reader<'static> = Reader {
+    name: "wire",
+    about: "Judges a connection by the bytes that its ends sent",
+    long_about: "\
 Judges a connection by its bytes alone: no vat has to record anything. A holds all
 that one end sent and B all that the other sent, each one frame after another in
 the Cap'n Proto stream framing. Makes two logs that sound vats could have written
@@ -521,11 +566,15 @@ or B and messages counted from 0 in each file:
 A yes is proved: such a run exists. A no says that none was found. docs/WIRE.md says
 what a connection's bytes can't show, and how to get them from any program.
 
+Bytes don't tell through which reference a call was made, and between calls through
+two references no order holds. So where calls came in the other order, two messages
+are noted beside the yes. With --one-reference all calls to a capability are taken to
+be made through one reference, and such a connection is a no by ORDER.
+
 With --out the two logs go to FOLDER, which is made, as A.log (vat 1) and B.log (vat
 2), with case.json for check, run, graph and draw. They are written where the line is
-a yes, a no or an outside.";
-
-pub const WIRE_END: &str = "\
+a yes, a no or an outside.",
+    after_help: "\
 Example:
   $ cd samples
   $ vataudit wire library.client.frames library.server.frames
@@ -536,7 +585,10 @@ Exit status:
   1  no
   2  a message isn't judged, a file is bad, too long or can't be read, a write
      failed, or the command line is wrong
-  3  memory ran out";
+  3  memory ran out",
+    thing: "A",
+    help: WIRE_A,
+};
 
 /// A of `wire`.
 pub const WIRE_A: &str =
@@ -544,6 +596,9 @@ pub const WIRE_A: &str =
 
 /// B of `wire`.
 pub const WIRE_B: &str = "What the other end sent, a path too; - is standard input";
+
+/// `--one-reference` of `wire`.
+pub const ONE_REFERENCE: &str = "Takes all calls to a capability to be made through one reference";
 
 /// FOLDER of `wire`.
 pub const FOLDER: &str = "The folder that is made, for the two logs and their case";

@@ -4,7 +4,7 @@ ghost use Rattle.std.specs.Prelude.{◌≡◌, IfOk, Some, codes, false, true};
 ghost use Rattle.clap.specs.Words.{App, new_app, new_rule, rule_of, with_rule, with_subcommand};
 ghost use Rattle.command_line.specs.Parser.{IsTold, auditor, draw, flag_rule, flagged, folder_rule, frame, graph, join, judging, logs_rule, migrate, most, number_rule, path_rule, program, reader, reading, records, top, wire, workers_rule, writer};
 
-use crate::help;
+use crate::help::{self, Reader};
 use clap::builder::ValueParser;
 use clap::{Arg, ArgAction, Command};
 use std::alloc::{AllocError, Global};
@@ -30,22 +30,14 @@ pub(crate) const COUNT: &str = "count";
 /// By what `clap` knows that the later edition is asked for.
 pub(crate) const LATER: &str = "later";
 
+/// By what `clap` knows that all calls to a capability are taken to be made through one reference.
+pub(crate) const ONE_REFERENCE: &str = "one-reference";
+
 /// By what `clap` knows that a page is asked for.
 pub(crate) const HTML: &str = "html";
 
 /// By what `clap` knows that the DOT language is asked for.
 pub(crate) const DOT: &str = "dot";
-
-/// What is said of a command that reads one thing.
-#[derive(Drop)]
-struct Reader<'a> {
-    name: &'a str,
-    about: &'a str,
-    long_about: &'a str,
-    after_help: &'a str,
-    thing: &'a str,
-    help: &'a str,
-}
 
 /// A thing that a command reads, which has to be given.
 fn input<'a>(alloc: Global, name: &'a str, thing: &'a str, help: &'a str) -> Arg<'a>
@@ -247,44 +239,6 @@ fn auditor_command<'a>(alloc: Global, said: Reader<'a>) -> Result<Command<'a>, A
     with_argument(reader_command(alloc, said), workers_option(alloc))
 }
 
-/// The command `check CASE`, which has the option `--workers N`.
-///
-/// # Errors
-///
-/// Out of memory.
-fn check_command<'a>(alloc: Global) -> Result<Command<'a>, AllocError>
-    ensures { IfOk result (IsTold (auditor (codes "check"))) }
-{
-    let said = Reader {
-        name: "check",
-        about: help::CHECK,
-        long_about: help::CHECK_LONG,
-        after_help: help::CHECK_END,
-        thing: "CASE",
-        help: help::CASE,
-    };
-    auditor_command(alloc, said)
-}
-
-/// The command `order CASE --out FILE`.
-///
-/// # Errors
-///
-/// Out of memory.
-fn order_command<'a>(alloc: Global) -> Result<Command<'a>, AllocError>
-    ensures { IfOk result (IsTold (writer (codes "order"))) }
-{
-    let said = Reader {
-        name: "order",
-        about: help::ORDER,
-        long_about: help::ORDER_LONG,
-        after_help: help::ORDER_END,
-        thing: "CASE",
-        help: help::CASE,
-    };
-    writer_command(alloc, said)
-}
-
 /// The command `graph CASE`, which has the options `--dot` and `--workers N`.
 ///
 /// # Errors
@@ -293,35 +247,8 @@ fn order_command<'a>(alloc: Global) -> Result<Command<'a>, AllocError>
 fn graph_command<'a>(alloc: Global) -> Result<Command<'a>, AllocError>
     ensures { IfOk result (IsTold graph) }
 {
-    let said = Reader {
-        name: "graph",
-        about: help::GRAPH,
-        long_about: help::GRAPH_LONG,
-        after_help: help::GRAPH_END,
-        thing: "CASE",
-        help: help::CASE,
-    };
-    let flagged = flagged_command(alloc, said, DOT, help::DOT_GRAPH);
+    let flagged = flagged_command(alloc, help::GRAPH, DOT, help::DOT_GRAPH);
     with_argument(flagged, workers_option(alloc))
-}
-
-/// The command `run CASE`, which has the option `--workers N`.
-///
-/// # Errors
-///
-/// Out of memory.
-fn run_command<'a>(alloc: Global) -> Result<Command<'a>, AllocError>
-    ensures { IfOk result (IsTold (auditor (codes "run"))) }
-{
-    let said = Reader {
-        name: "run",
-        about: help::RUN,
-        long_about: help::RUN_LONG,
-        after_help: help::RUN_END,
-        thing: "CASE",
-        help: help::CASE,
-    };
-    auditor_command(alloc, said)
 }
 
 /// The command `draw CASE --out FILE`, which has the options `--from STEP`, `--count N`, `--html` and `--workers N`.
@@ -332,39 +259,12 @@ fn run_command<'a>(alloc: Global) -> Result<Command<'a>, AllocError>
 fn draw_command<'a>(alloc: Global) -> Result<Command<'a>, AllocError>
     ensures { IfOk result (IsTold draw) }
 {
-    let said = Reader {
-        name: "draw",
-        about: help::DRAW,
-        long_about: help::DRAW_LONG,
-        after_help: help::DRAW_END,
-        thing: "CASE",
-        help: help::CASE,
-    };
     let from = word_option(alloc, FROM, "STEP", help::FROM_STEP);
     let count = word_option(alloc, COUNT, "N", help::COUNT_STEPS);
-    let begun = with_argument(writer_command(alloc, said), from);
+    let begun = with_argument(writer_command(alloc, help::DRAW), from);
     let ended = with_argument(begun, count);
     let paged = with_argument(ended, flag(alloc, HTML, help::HTML));
     with_argument(paged, workers_option(alloc))
-}
-
-/// The command `vat FILE`.
-///
-/// # Errors
-///
-/// Out of memory.
-fn vat_command<'a>(alloc: Global) -> Result<Command<'a>, AllocError>
-    ensures { IfOk result (IsTold (reader (codes "vat"))) }
-{
-    let said = Reader {
-        name: "vat",
-        about: help::VAT,
-        long_about: help::VAT_LONG,
-        after_help: help::VAT_END,
-        thing: "FILE",
-        help: help::FILE,
-    };
-    reader_command(alloc, said)
 }
 
 /// The command `records FILE`, which has the options `--from I` and `--count N`.
@@ -375,17 +275,9 @@ fn vat_command<'a>(alloc: Global) -> Result<Command<'a>, AllocError>
 fn records_command<'a>(alloc: Global) -> Result<Command<'a>, AllocError>
     ensures { IfOk result (IsTold records) }
 {
-    let said = Reader {
-        name: "records",
-        about: help::RECORDS,
-        long_about: help::RECORDS_LONG,
-        after_help: help::RECORDS_END,
-        thing: "FILE",
-        help: help::FILE,
-    };
     let from = word_option(alloc, FROM, "I", help::FROM);
     let count = word_option(alloc, COUNT, "N", help::COUNT);
-    let begun = with_argument(reader_command(alloc, said), from);
+    let begun = with_argument(reader_command(alloc, help::RECORDS), from);
     with_argument(begun, count)
 }
 
@@ -397,34 +289,7 @@ fn records_command<'a>(alloc: Global) -> Result<Command<'a>, AllocError>
 fn frame_command<'a>(alloc: Global) -> Result<Command<'a>, AllocError>
     ensures { IfOk result (IsTold frame) }
 {
-    let said = Reader {
-        name: "frame",
-        about: help::FRAME,
-        long_about: help::FRAME_LONG,
-        after_help: help::FRAME_END,
-        thing: "HEX",
-        help: help::HEX,
-    };
-    flagged_command(alloc, said, LATER, help::LATER_FRAME)
-}
-
-/// The command `frames FILE`.
-///
-/// # Errors
-///
-/// Out of memory.
-fn frames_command<'a>(alloc: Global) -> Result<Command<'a>, AllocError>
-    ensures { IfOk result (IsTold (reader (codes "frames"))) }
-{
-    let said = Reader {
-        name: "frames",
-        about: help::FRAMES,
-        long_about: help::FRAMES_LONG,
-        after_help: help::FRAMES_END,
-        thing: "FILE",
-        help: help::FRAMES_FILE,
-    };
-    reader_command(alloc, said)
+    flagged_command(alloc, help::FRAME, LATER, help::LATER_FRAME)
 }
 
 /// The command `migrate FILE --out FILE`, which has the option `--later`.
@@ -435,38 +300,11 @@ fn frames_command<'a>(alloc: Global) -> Result<Command<'a>, AllocError>
 fn migrate_command<'a>(alloc: Global) -> Result<Command<'a>, AllocError>
     ensures { IfOk result (IsTold migrate) }
 {
-    let said = Reader {
-        name: "migrate",
-        about: help::MIGRATE,
-        long_about: help::MIGRATE_LONG,
-        after_help: help::MIGRATE_END,
-        thing: "FILE",
-        help: help::FILE,
-    };
-    let flagged = flagged_command(alloc, said, LATER, help::LATER_LOG);
+    let flagged = flagged_command(alloc, help::MIGRATE, LATER, help::LATER_LOG);
     with_argument(flagged, out(alloc, "FILE", help::OUT))
 }
 
-/// The command `salvage FILE --out FILE`.
-///
-/// # Errors
-///
-/// Out of memory.
-fn salvage_command<'a>(alloc: Global) -> Result<Command<'a>, AllocError>
-    ensures { IfOk result (IsTold (writer (codes "salvage"))) }
-{
-    let said = Reader {
-        name: "salvage",
-        about: help::SALVAGE,
-        long_about: help::SALVAGE_LONG,
-        after_help: help::SALVAGE_END,
-        thing: "FILE",
-        help: help::FILE,
-    };
-    writer_command(alloc, said)
-}
-
-/// The command `wire A B`, which has the option `--out FOLDER`.
+/// The command `wire A B`, which has the options `--one-reference` and `--out FOLDER`.
 ///
 /// # Errors
 ///
@@ -474,19 +312,12 @@ fn salvage_command<'a>(alloc: Global) -> Result<Command<'a>, AllocError>
 fn wire_command<'a>(alloc: Global) -> Result<Command<'a>, AllocError>
     ensures { IfOk result (IsTold wire) }
 {
-    let said = Reader {
-        name: "wire",
-        about: help::WIRE,
-        long_about: help::WIRE_LONG,
-        after_help: help::WIRE_END,
-        thing: "A",
-        help: help::WIRE_A,
-    };
     let both = with_argument(
-        reader_command(alloc, said),
+        reader_command(alloc, help::WIRE),
         input(alloc, OTHER, "B", help::WIRE_B),
     );
-    with_argument(both, folder(alloc))
+    let flagged = with_argument(both, flag(alloc, ONE_REFERENCE, help::ONE_REFERENCE));
+    with_argument(flagged, folder(alloc))
 }
 
 /// The command `join LOG .. --out FOLDER`.
@@ -521,10 +352,13 @@ fn bare<'a>(alloc: Global) -> Command<'a>
 fn with_cases<'a>(alloc: Global) -> Result<Command<'a>, AllocError>
     ensures { IfOk result (IsTold judging) }
 {
-    let checking = with_command(Ok(bare(alloc)), check_command(alloc));
-    let ordering = with_command(checking, order_command(alloc));
+    let check = auditor_command(alloc, help::CHECK);
+    let checking = with_command(Ok(bare(alloc)), check);
+    let order = writer_command(alloc, help::ORDER);
+    let ordering = with_command(checking, order);
     let graphing = with_command(ordering, graph_command(alloc));
-    let stepping = with_command(graphing, run_command(alloc));
+    let run = auditor_command(alloc, help::RUN);
+    let stepping = with_command(graphing, run);
     with_command(stepping, draw_command(alloc))
 }
 
@@ -536,10 +370,12 @@ fn with_cases<'a>(alloc: Global) -> Result<Command<'a>, AllocError>
 fn with_files<'a>(alloc: Global) -> Result<Command<'a>, AllocError>
     ensures { IfOk result (IsTold reading) }
 {
-    let auditing = with_command(with_cases(alloc), vat_command(alloc));
+    let vat = reader_command(alloc, help::VAT);
+    let auditing = with_command(with_cases(alloc), vat);
     let listing = with_command(auditing, records_command(alloc));
     let framing = with_command(listing, frame_command(alloc));
-    with_command(framing, frames_command(alloc))
+    let frames = reader_command(alloc, help::FRAMES);
+    with_command(framing, frames)
 }
 
 /// The program's command line, with its help: those commands and the ones that write a log or read several inputs, `migrate`,
@@ -552,7 +388,8 @@ pub(crate) fn command_line<'a>(alloc: Global) -> Result<Command<'a>, AllocError>
     ensures { IfOk result (IsTold program) }
 {
     let migrated = with_command(with_files(alloc), migrate_command(alloc));
-    let salvaged = with_command(migrated, salvage_command(alloc));
+    let salvage = writer_command(alloc, help::SALVAGE);
+    let salvaged = with_command(migrated, salvage);
     let wired = with_command(salvaged, wire_command(alloc));
     with_command(wired, join_command(alloc))
 }

@@ -36,7 +36,7 @@ CarriesOut gives (Draw name out first steps is_page many) old new writes =
     writes (λ text status bytes. AnswersDraw (record { from = first; count = steps; page = is_page }) gives old name.now text status bytes new)
 CarriesOut gives (Migrate file later out) old new writes = (read : Read) × gives old file.now read new × writes (AnswersMigration later read)
 CarriesOut gives (Salvage file out) old new writes = (read : Read) × gives old file.now read new × writes (AnswersSalvage read)
-CarriesOut gives (Wire one another out) old new writes =
+CarriesOut gives (Wire one another has_one out) old new writes =
     writes (λ text status bytes. AnswersWire gives old one.now another.now (option_map (λ name. name.now) out) text status bytes new)
 CarriesOut gives (Join logs out) old new writes =
     writes (λ text status bytes. AnswersJoin gives old (map (λ name. name.now) logs.items) out.now text status bytes new)

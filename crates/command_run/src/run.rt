@@ -107,10 +107,16 @@ pub fn answer_heard<
         Command::Salvage { file: name, .. } => {
             say_salvaged(host.alloc, name, source, heard, out, file)
         }
-        Command::Wire { a, b, out: folder } => {
+        Command::Wire {
+            a,
+            b,
+            one_reference,
+            out: folder,
+        } => {
             let asked = AskedWire {
                 a,
                 b,
+                one_reference: *one_reference,
                 folder: *folder,
             };
             say_wire(host, &asked, source, heard, out, file)

@@ -93,17 +93,13 @@ pub(crate) fn read_file<F: Read + OpenFile + Drop>(
 
 /// Whether a file can be read once more under its name, as a pipe can't.
 fn lasts<F: OpenFile>(file: &F) -> bool {
-    match file.metadata() {
-        Ok(metadata) => metadata.is_file(),
-        Err(_) => false,
-    }
+    file.metadata().is_ok_and(|metadata| metadata.is_file())
 }
 
 /// The bytes of a file that isn't held open, to be handed out; or why there are none.
 fn whole<F: Read + OpenFile + Drop, I>(alloc: Global, file: F) -> Opened<F, I> {
-    let room = room_for(&file);
     let mut why = None;
-    match read_all(alloc, file, room, &mut why) {
+    match read_file(alloc, Ok(file), &mut why) {
         Ok(bytes) => Opened::Whole(bytes, 0),
         Err(SourceError::CannotRead) => Opened::Refused(why),
         Err(SourceError::OutOfMemory) => {
@@ -132,30 +128,43 @@ impl Openings {
 
     /// Where the bytes of what can or can't be read once more are kept, if they are.
     fn room_to_keep(&self, alloc: Global, lasts: bool) -> Option<Vec<u8>> {
-        if self.keeps && !lasts {
-            Some(Vec::new(alloc))
-        } else {
-            None
-        }
+        (self.keeps && !lasts).then(|| Vec::new(alloc))
     }
 
-    /// All bytes of standard input, which are there once. Where they can't be read the reason is told.
-    pub(crate) fn read_input<I: Read + Drop>(
+    /// All bytes under a name; those of standard input are there once. Where they can't be read the reason is told.
+    pub(crate) fn read<R: LogHost>(
         &mut self,
-        alloc: Global,
-        input: I,
+        rt: &R,
+        name: &str,
         why: &mut Option<io::Error>,
     ) -> Result<Bytes, SourceError> {
+        if name != "-" {
+            return read_file(rt.alloc(), rt.open_log(name), why);
+        }
         if self.input_was_read {
             *why = Some(read_before());
             return Err(SourceError::CannotRead);
         }
         self.input_was_read = true;
-        read_all(alloc, input, 0, why)
+        read_all(rt.alloc(), rt.log_input(), 0, why)
+    }
+
+    /// What hands out the bytes under a name.
+    pub(crate) fn open<R: LogHost>(
+        &mut self,
+        rt: &R,
+        name: &str,
+    ) -> FolderReader<R::LogFile, R::LogInput>
+        ensures { result.pieces ≡ record { bytes = []; is_over = false } }
+    {
+        if name == "-" {
+            return self.of_input(rt.alloc(), rt.log_input());
+        }
+        self.of_file(rt.alloc(), rt.open_log(name))
     }
 
     /// What hands out a file that was opened.
-    pub(crate) fn of_file<F: Read + OpenFile + Drop, I>(
+    fn of_file<F: Read + OpenFile + Drop, I>(
         &mut self,
         alloc: Global,
         opened: io::Result<F>,
@@ -177,7 +186,7 @@ impl Openings {
     }
 
     /// What hands out standard input, once.
-    pub(crate) fn of_input<F, I: Drop>(&mut self, alloc: Global, input: I) -> FolderReader<F, I>
+    fn of_input<F, I: Drop>(&mut self, alloc: Global, input: I) -> FolderReader<F, I>
         ensures { result.pieces ≡ record { bytes = []; is_over = false } }
     {
         if self.input_was_read {
@@ -218,21 +227,11 @@ impl<R: LogHost> Source for Folder<'_, R> {
     type Reader = FolderReader<R::LogFile, R::LogInput>;
 
     fn read(&mut self, name: &str) -> Result<Bytes, SourceError> {
-        let alloc = self.rt.alloc();
-        if name == "-" {
-            let input = self.rt.log_input();
-            return self.openings.read_input(alloc, input, &mut None);
-        }
-        read_file(alloc, self.rt.open_log(name), &mut None)
+        self.openings.read(self.rt, name, &mut None)
     }
 
     fn open(&mut self, name: &str) -> FolderReader<R::LogFile, R::LogInput> {
-        let alloc = self.rt.alloc();
-        if name == "-" {
-            let input = self.rt.log_input();
-            return self.openings.of_input(alloc, input);
-        }
-        self.openings.of_file(alloc, self.rt.open_log(name))
+        self.openings.open(self.rt, name)
     }
 
     fn close(

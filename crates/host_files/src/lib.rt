@@ -10,7 +10,6 @@ mod file;
 mod folder_reader;
 mod host;
 mod made;
-mod named_file;
 mod new_file;
 mod new_folder;
 mod remembered_files;

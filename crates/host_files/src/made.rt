@@ -1,6 +1,5 @@
 //! What a command writes beside its lines.
 
-use crate::named_file::NamedFile;
 use crate::new_file::NewFile;
 use crate::new_folder::NewFolder;
 use case_files::{CASE_FILE, file_names};
@@ -15,7 +14,6 @@ use std::rt::Files;
 #[derive(Drop)]
 pub enum Made<'a, R: Files> {
     File(NewFile<'a, R>),
-    Drawn(NamedFile<'a, R>),
     Folder(NewFolder<'a, R>),
 }
 
@@ -49,10 +47,6 @@ impl<'a, R: Files + AllocGlobal> Made<'a, R> {
         command: &Command<'a>,
         names: Option<&'a SchemaNames>,
     ) -> Result<Made<'a, R>, AllocError> {
-        if let (Command::Draw { out: name, .. }, Some(names)) = (command, names) {
-            let file = NewFile::new(rt, Some(*name));
-            return Ok(Made::Drawn(NamedFile::new(names, file)));
-        }
         match command {
             Command::Wire {
                 out: Some(name),
@@ -65,6 +59,7 @@ impl<'a, R: Files + AllocGlobal> Made<'a, R> {
                 let paths = paths_of(rt.alloc(), name, &file_names(rt.alloc(), logs)?)?;
                 Ok(Made::Folder(NewFolder::new(rt, name, paths)))
             }
+            Command::Draw { out: name, .. } => Ok(Made::File(NewFile::drawn(rt, name, names))),
             Command::Salvage { out: name, .. } => Ok(Made::File(NewFile::beside(rt, name))),
             command => Ok(Made::File(NewFile::new(rt, command.out()))),
         }
@@ -75,7 +70,6 @@ impl<R: Files + AllocGlobal> Write for Made<'_, R> {
     fn write(&mut self, buf: &[u8]) -> io::Result<usize> {
         match self {
             Made::File(file) => file.write(buf),
-            Made::Drawn(file) => file.write(buf),
             Made::Folder(folder) => folder.write(buf),
         }
     }
@@ -83,7 +77,6 @@ impl<R: Files + AllocGlobal> Write for Made<'_, R> {
     fn flush(&mut self) -> io::Result<()> {
         match self {
             Made::File(file) => file.flush(),
-            Made::Drawn(file) => file.flush(),
             Made::Folder(folder) => folder.flush(),
         }
     }

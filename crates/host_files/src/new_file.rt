@@ -1,5 +1,7 @@
 //! A file that is made when it is first written to.
 
+use named_text::NamedMarkup;
+use schema_names::SchemaNames;
 use std::io::Write;
 use std::rt::Files;
 use std::{fs, io};
@@ -11,6 +13,7 @@ pub struct NewFile<'a, R: Files> {
     rt: &'a R,
     name: Option<&'a str>,
     has_to_be_new: bool,
+    names: Option<&'a SchemaNames>,
     file: Option<R::File>,
 }
 
@@ -21,17 +24,25 @@ impl<'a, R: Files> NewFile<'a, R> {
             rt,
             name,
             has_to_be_new: false,
+            names: None,
             file: None,
+        }
+    }
+
+    /// The file of this name, in which interfaces and methods have these names, if there are any. Names are put into each write by
+    /// itself: what is drawn comes in one.
+    pub fn drawn(rt: &'a R, name: &'a str, names: Option<&'a SchemaNames>) -> NewFile<'a, R> {
+        NewFile {
+            names,
+            ..NewFile::new(rt, Some(name))
         }
     }
 
     /// The file of this name, which isn't made yet. Writing fails where there is one, so it can't be one that is read.
     pub fn beside(rt: &'a R, name: &'a str) -> NewFile<'a, R> {
         NewFile {
-            rt,
-            name: Some(name),
             has_to_be_new: true,
-            file: None,
+            ..NewFile::new(rt, Some(name))
         }
     }
 
@@ -50,10 +61,14 @@ impl<R: Files> Write for NewFile<'_, R> {
         if let (None, Some(name)) = (&self.file, self.name) {
             self.file = Some(self.make(name)?);
         }
-        match &mut self.file {
-            Some(file) => file.write(buf),
-            None => Ok(0),
+        let Some(file) = &mut self.file else {
+            return Ok(0);
+        };
+        if let (Some(names), Ok(text)) = (self.names, std::str::from_utf8(buf)) {
+            file.write_fmt(NamedMarkup { names, text })?;
+            return Ok(buf.len());
         }
+        file.write(buf)
     }
 
     fn flush(&mut self) -> io::Result<()> {

@@ -86,10 +86,8 @@ impl<'a, R: Files + AllocGlobal> NewFolder<'a, R> {
 impl<R: Files + AllocGlobal> Write for NewFolder<'_, R> {
     fn write(&mut self, buf: &[u8]) -> io::Result<usize> {
         let written = self.write_on(buf);
-        match written {
-            Ok(0) if !buf.is_empty() => self.take_away(),
-            Ok(_) => {}
-            Err(_) => self.take_away(),
+        if written.is_err() || (matches!(written, Ok(0)) && !buf.is_empty()) {
+            self.take_away();
         }
         written
     }

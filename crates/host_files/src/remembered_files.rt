@@ -107,11 +107,8 @@ impl<'a, R: AllocGlobal> RememberingFolder<'a, R> {
 impl<R: Files + AllocGlobal> RememberingFolder<'_, R> {
     /// How many bytes may still be read once more.
     fn room(&self) -> usize {
-        let mut room = LIMIT;
-        for (_, bytes) in &self.kept {
-            room = room.saturating_sub(bytes.len());
-        }
-        room
+        let lengths = self.kept.iter().map(|file| file.1.len());
+        lengths.fold(LIMIT, |room, length| room.saturating_sub(length))
     }
 
     /// Keeps the name whose reading ends, and what its reader has. Where memory is refused less is kept.
@@ -122,8 +119,7 @@ impl<R: Files + AllocGlobal> RememberingFolder<'_, R> {
     ) -> Result<(), AllocError> {
         self.keep_name(name)?;
         let file = ClosedFile::of(self.rt.alloc(), name, reader)?;
-        self.closed.push(file)?;
-        Ok(())
+        Ok(self.closed.push(file)?)
     }
 
     /// The bytes of a file that was closed: those that its reader kept, or else those that are read once more; at most so many.
@@ -139,11 +135,7 @@ impl<R: Files + AllocGlobal> RememberingFolder<'_, R> {
             Again::Kept(bytes) => bytes.clone().ok()?,
             Again::Nowhere => return None,
         };
-        if bytes.len() <= room {
-            Some(bytes)
-        } else {
-            None
-        }
+        (bytes.len() <= room).then_some(bytes)
     }
 
     /// Keeps the name of a file whose bytes aren't kept, where some came.
@@ -155,8 +147,7 @@ impl<R: Files + AllocGlobal> RememberingFolder<'_, R> {
             let name = String::from_str(self.rt.alloc(), file.name.as_str())?;
             self.lasting.push(name)?;
         }
-        self.left_out.push(file.name)?;
-        Ok(())
+        Ok(self.left_out.push(file.name)?)
     }
 
     /// Keeps the bytes of a file that was closed, or else its name.
@@ -175,24 +166,13 @@ impl<R: LogHost> Source for RememberingFolder<'_, R> {
 
     fn read(&mut self, name: &str) -> Result<Bytes, SourceError> {
         self.refusal = None;
-        let alloc = self.rt.alloc();
-        let read = if name == "-" {
-            let input = self.rt.log_input();
-            self.openings.read_input(alloc, input, &mut self.refusal)
-        } else {
-            read_file(alloc, self.rt.open_log(name), &mut self.refusal)
-        };
+        let read = self.openings.read(self.rt, name, &mut self.refusal);
         let _ = self.keep(name, &read);
         read
     }
 
     fn open(&mut self, name: &str) -> FolderReader<R::LogFile, R::LogInput> {
-        let alloc = self.rt.alloc();
-        if name == "-" {
-            let input = self.rt.log_input();
-            return self.openings.of_input(alloc, input);
-        }
-        self.openings.of_file(alloc, self.rt.open_log(name))
+        self.openings.open(self.rt, name)
     }
 
     fn close(
@@ -201,10 +181,8 @@ impl<R: LogHost> Source for RememberingFolder<'_, R> {
         reader: &FolderReader<R::LogFile, R::LogInput>,
         failed: bool,
     ) -> Result<(), SourceError> {
-        self.refusal = match reader.refusal() {
-            Some(error) => Some(copy_of(self.rt.alloc(), error)),
-            None => None,
-        };
+        let alloc = self.rt.alloc();
+        self.refusal = reader.refusal().map(|error| copy_of(alloc, error));
         let _ = self.keep_closed(name, reader);
         closed(failed)
     }

@@ -1,28 +1,27 @@
-//! The object of an answer.
+//! The members of an answer.
 
 use crate::fault_object::put_fault;
-use crate::join_object::put_join;
 use crate::json_text::JsonText;
 use crate::message_object::put_message;
 use crate::wire_object::put_wire;
 use case_report::Report;
-use report_lines::{Answer, breach_code, code_of, word_of};
+use report_lines::{Answer, JoinLine, breach_code, code_of, word_of};
 use vat_log::{Salvaged, SpelledLog};
 use vat_rules::{SlimFinding, SlimOutcome, Why};
 
 /// Writes that a record of a vat breaks what has this code.
 fn put_broken(json: &mut JsonText<'_>, vat: u32, at: u64, code: &str) {
     json.text_member("kind", "no");
-    json.number_member("record", at);
+    json.member("record", at);
     json.text_member("rule", code);
-    json.number_member("vat", u64::from(vat));
+    json.member("vat", vat);
 }
 
 /// Writes that a record of a vat isn't judged.
 fn put_outside(json: &mut JsonText<'_>, vat: u32, at: u64, why: Why) {
     json.text_member("kind", "outside");
-    json.number_member("record", at);
-    json.number_member("vat", u64::from(vat));
+    json.member("record", at);
+    json.member("vat", vat);
     json.text_member("why", word_of(why));
 }
 
@@ -31,27 +30,14 @@ fn put_finding(json: &mut JsonText<'_>, finding: &SlimFinding) {
     let vat = finding.vat();
     match finding.outcome() {
         SlimOutcome::Good(story) => {
-            json.number_member("delivered", story.delivered());
+            json.member("delivered", story.delivered());
             json.text_member("kind", "good");
-            json.number_member("records", finding.len());
-            json.number_member("vat", u64::from(vat));
+            json.member("records", finding.len());
+            json.member("vat", vat);
         }
         SlimOutcome::Broken { at, rule } => put_broken(json, vat, *at, code_of(*rule)),
         SlimOutcome::Outside { at, why } => put_outside(json, vat, *at, *why),
     }
-}
-
-/// Writes a link whose ends differ.
-fn put_link(json: &mut JsonText<'_>, connection: u32, end: u32, message: u64) {
-    json.number_member("connection", u64::from(connection));
-    json.number_member("end", u64::from(end));
-    json.text_member("kind", "no link");
-    json.number_member("message", message);
-}
-
-/// Writes that no order of the records exists.
-fn put_no_order(json: &mut JsonText<'_>) {
-    json.text_member("kind", "no order exists");
 }
 
 /// Writes what is answered of a case.
@@ -63,12 +49,17 @@ fn put_report(json: &mut JsonText<'_>, report: &Report) {
             connection,
             end,
             message,
-        } => put_link(json, *connection, *end, *message),
+        } => {
+            json.member("connection", *connection);
+            json.member("end", *end);
+            json.text_member("kind", "no link");
+            json.member("message", *message);
+        }
         Report::OrderStep(step) => {
             json.text_member("kind", "no order step");
-            json.number_member("step", *step);
+            json.member("step", *step);
         }
-        Report::NoOrder => put_no_order(json),
+        Report::NoOrder => json.text_member("kind", "no order exists"),
         Report::Yes {
             vats,
             records,
@@ -76,11 +67,11 @@ fn put_report(json: &mut JsonText<'_>, report: &Report) {
             under_way,
             ..
         } => {
-            json.number_member("delivered", *delivered);
+            json.member("delivered", *delivered);
             json.text_member("kind", "yes");
-            json.number_member("records", *records);
-            json.number_member("under_way", *under_way);
-            json.number_member("vats", *vats);
+            json.member("records", *records);
+            json.member("under_way", *under_way);
+            json.member("vats", *vats);
         }
     }
 }
@@ -88,35 +79,45 @@ fn put_report(json: &mut JsonText<'_>, report: &Report) {
 /// Writes of which vat a log is, and how many records it has.
 fn put_log(json: &mut JsonText<'_>, kind: &str, log: &SpelledLog) {
     json.text_member("kind", kind);
-    json.number_member("records", log.len() as u64);
-    json.number_member("vat", u64::from(log.vat()));
+    json.member("records", log.len());
+    json.member("vat", log.vat());
+}
+
+/// Writes what is answered of logs whose connections are joined.
+fn put_join(json: &mut JsonText<'_>, line: &JoinLine) {
+    let (kind, connection, vat) = match *line {
+        JoinLine::Joined { vats, links } => {
+            json.text_member("kind", "joined");
+            json.member("links", links);
+            json.member("vats", vats);
+            return;
+        }
+        JoinLine::Unmatched { connection, vat } => ("unmatched", connection, vat),
+        JoinLine::Ambiguous { connection, vat } => ("ambiguous", connection, vat),
+    };
+    json.member("connection", connection);
+    json.text_member("kind", kind);
+    json.member("vat", vat);
 }
 
 /// Writes the members of an answer.
-fn put_members(json: &mut JsonText<'_>, answer: &Answer) {
+pub(crate) fn put_answer(json: &mut JsonText<'_>, answer: &Answer) {
     match answer {
         Answer::Finding(finding) => put_finding(json, finding),
         Answer::Report(report) => put_report(json, report),
         Answer::Message(message) => put_message(json, message),
         Answer::Order(order) => {
             json.text_member("kind", "order");
-            json.number_member("steps", order.as_slice().len() as u64);
+            json.member("steps", order.as_slice().len());
         }
-        Answer::NoOrder => put_no_order(json),
+        Answer::NoOrder => put_report(json, &Report::NoOrder),
         Answer::Migrated(log) => put_log(json, "migrated", log),
         Answer::Salvaged(Salvaged { log, .. }) => {
-            json.number_member("bytes", log.bytes().len() as u64);
+            json.member("bytes", log.bytes().len());
             put_log(json, "salvaged", log);
         }
         Answer::Wire(line) => put_wire(json, line),
         Answer::Join(line) => put_join(json, line),
         Answer::Fault(fault) => put_fault(json, *fault),
     }
-}
-
-/// Writes the object of an answer.
-pub(crate) fn put_answer(json: &mut JsonText<'_>, answer: &Answer) {
-    json.begin_object();
-    put_members(json, answer);
-    json.end_object();
 }

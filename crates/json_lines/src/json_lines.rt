@@ -1,9 +1,11 @@
 //! Lines that are written as JSON objects.
 
-use crate::json_text::{JsonText, NOTES, OPEN, WholeText};
-use crate::line_object::put_line;
+use crate::answer_object::put_answer;
+use crate::json_text::{JsonText, NOTES, OPEN};
+use crate::record_object::put_record;
+use crate::run_object::{put_edge, put_step};
 use named_text::NamedText;
-use report_lines::ShownLine;
+use report_lines::{DotEdge, ShownEdge, ShownLine};
 use schema_names::SchemaNames;
 use std::alloc::{AllocError, Global};
 use std::fmt::Display;
@@ -37,17 +39,32 @@ impl From<io::Error> for JsonFault {
 pub struct JsonLines<'a, W: Write> {
     alloc: Global,
     out: &'a mut W,
-    held: Option<WholeText>,
+    held: Option<JsonText<'a>>,
     names: Option<&'a SchemaNames>,
 }
 
 /// Writes the list of what notes say, which stand in a text, each a line behind the word `note`.
 pub(crate) fn put_notes(list: &mut JsonText<'_>, notes: &str) {
-    list.begin_list();
+    list.begin("[");
     for line in notes.lines() {
         list.text(line.strip_prefix("note: ").unwrap_or(line));
     }
-    list.end_list();
+    list.end("]");
+}
+
+/// Writes the object of a line that says something by itself. In the DOT language an edge says the same.
+fn put_line(json: &mut JsonText<'_>, line: ShownLine<'_>) {
+    json.begin("{");
+    match line {
+        ShownLine::Answer(answer) => put_answer(json, answer),
+        ShownLine::Record(record) => put_record(json, record),
+        ShownLine::Step(step) => put_step(json, step),
+        ShownLine::Edge(ShownEdge(edge)) | ShownLine::DotEdge(DotEdge(edge)) => {
+            put_edge(json, edge);
+        }
+        ShownLine::DotBound(_) => {}
+    }
+    json.end("}");
 }
 
 impl<'a, W: Write> JsonLines<'a, W> {
@@ -64,17 +81,15 @@ impl<'a, W: Write> JsonLines<'a, W> {
     /// With names for interfaces and methods, in objects and in notes.
     pub fn with_names(self, names: &'a SchemaNames) -> JsonLines<'a, W> {
         JsonLines {
-            alloc: self.alloc,
-            out: self.out,
-            held: self.held,
             names: Some(names),
+            ..self
         }
     }
 
     /// Writes the object that is held back, if there is one.
     fn write_held(&mut self) -> io::Result<()> {
         match self.held.take() {
-            Some(object) => self.out.writeln(object.text.as_str()),
+            Some(object) => self.out.writeln(object.as_str()),
             None => Ok(()),
         }
     }
@@ -85,13 +100,14 @@ impl<'a, W: Write> JsonLines<'a, W> {
     ///
     /// Out of memory, or that of the write.
     pub fn add(&mut self, line: ShownLine<'_>) -> Result<(), JsonFault> {
+        if let ShownLine::DotBound(_) = line {
+            return Ok(());
+        }
         let mut object = JsonText::new(self.alloc, self.names);
         put_line(&mut object, line);
         let object = object.finish()?;
-        if !object.text.is_empty() {
-            self.write_held()?;
-            self.held = Some(object);
-        }
+        self.write_held()?;
+        self.held = Some(object);
         Ok(())
     }
 
@@ -115,7 +131,7 @@ impl<'a, W: Write> JsonLines<'a, W> {
             }
             None => put_notes(&mut list, notes),
         }
-        Ok(list.finish()?.text)
+        list.into_text()
     }
 
     /// Writes the last object with these members, which are JSON; or one of their own where there is no last one.

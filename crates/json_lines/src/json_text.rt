@@ -26,25 +26,6 @@ pub struct JsonText<'a> {
     is_refused: bool,
 }
 
-/// A whole text of an object, or an empty one; and where `notes` and `open` would stand among the object's members.
-#[derive(Drop)]
-pub(crate) struct WholeText {
-    pub(crate) text: String,
-    notes_at: usize,
-    open_at: usize,
-}
-
-impl WholeText {
-    /// Its parts: before the notes, between these and what is open, and behind.
-    pub(crate) fn parts(&self) -> (&str, &str, &str) {
-        let text = self.text.as_str();
-        let (before, rest) = text.split_at_checked(self.notes_at).unwrap_or((text, ""));
-        let length = self.open_at.saturating_sub(self.notes_at);
-        let (between, behind) = rest.split_at_checked(length).unwrap_or((rest, ""));
-        (before, between, behind)
-    }
-}
-
 impl<'a> JsonText<'a> {
     /// An empty text. Interfaces and methods have names in it where some are given.
     pub(crate) fn new(alloc: Global, names: Option<&'a SchemaNames>) -> JsonText<'a> {
@@ -60,24 +41,35 @@ impl<'a> JsonText<'a> {
         }
     }
 
-    /// The text, if no memory was refused.
-    pub(crate) fn finish(self) -> Result<WholeText, AllocError> {
-        let JsonText {
-            text,
-            notes_at,
-            open_at,
-            is_refused,
-            ..
-        } = self;
-        if is_refused {
-            return Err(AllocError);
+    /// Itself, if no memory was refused.
+    pub(crate) fn finish(self) -> Result<JsonText<'a>, AllocError> {
+        if self.is_refused {
+            Err(AllocError)
+        } else {
+            Ok(self)
         }
+    }
+
+    /// The text, if no memory was refused.
+    pub(crate) fn into_text(self) -> Result<String, AllocError> {
+        Ok(self.finish()?.text)
+    }
+
+    /// What is written so far.
+    pub(crate) fn as_str(&self) -> &str {
+        self.text.as_str()
+    }
+
+    /// The parts of an object that has ended: before where `notes` stands or would stand, between that and the place of `open`,
+    /// and behind.
+    pub(crate) fn parts(&self) -> (&str, &str, &str) {
+        let text = self.text.as_str();
         let end = text.len().saturating_sub(1);
-        Ok(WholeText {
-            text,
-            notes_at: notes_at.unwrap_or(end),
-            open_at: open_at.unwrap_or(end),
-        })
+        let notes_at = self.notes_at.unwrap_or(end);
+        let length = self.open_at.unwrap_or(end).saturating_sub(notes_at);
+        let (before, rest) = text.split_at_checked(notes_at).unwrap_or((text, ""));
+        let (between, behind) = rest.split_at_checked(length).unwrap_or((rest, ""));
+        (before, between, behind)
     }
 
     /// Where memory for what is to be written comes from.
@@ -92,9 +84,7 @@ impl<'a> JsonText<'a> {
 
     /// Writes a piece of text as it is.
     fn put(&mut self, piece: &str) {
-        if self.text.push_str(piece).is_err() {
-            self.is_refused = true;
-        }
+        self.is_refused |= self.text.push_str(piece).is_err();
     }
 
     /// Writes what stands before a value, behind which another one may come.
@@ -104,7 +94,7 @@ impl<'a> JsonText<'a> {
     }
 
     /// Begins an object or a list, by this bracket.
-    fn begin(&mut self, bracket: &str) {
+    pub(crate) fn begin(&mut self, bracket: &str) {
         self.begin_value();
         self.put(bracket);
         self.separator = "";
@@ -112,42 +102,18 @@ impl<'a> JsonText<'a> {
     }
 
     /// Ends one.
-    fn end(&mut self, bracket: &str) {
+    pub(crate) fn end(&mut self, bracket: &str) {
         self.put(bracket);
         self.separator = ",";
         self.depth = self.depth.saturating_sub(1);
     }
 
-    /// Begins an object.
-    pub(crate) fn begin_object(&mut self) {
-        self.begin("{");
-    }
-
-    /// Ends an object.
-    pub(crate) fn end_object(&mut self) {
-        self.end("}");
-    }
-
-    /// Begins a list.
-    pub(crate) fn begin_list(&mut self) {
-        self.begin("[");
-    }
-
-    /// Ends a list.
-    pub(crate) fn end_list(&mut self) {
-        self.end("]");
-    }
-
     /// Remembers which members of the outermost object have to stand behind the notes, and which behind what is open, at the
     /// first one of them.
     fn note_place(&mut self, name: &str) {
-        let here = Some(self.text.len());
-        if self.notes_at.is_none() && name > NOTES {
-            self.notes_at = here;
-        }
-        if self.open_at.is_none() && name > OPEN {
-            self.open_at = here;
-        }
+        let here = self.text.len();
+        self.notes_at = self.notes_at.or((name > NOTES).then_some(here));
+        self.open_at = self.open_at.or((name > OPEN).then_some(here));
     }
 
     /// Writes the name of a member, whose value comes next. Nothing in a name needs an escape.
@@ -171,12 +137,22 @@ impl<'a> JsonText<'a> {
         }
     }
 
-    /// Writes a number.
-    fn number(&mut self, number: u64) {
+    /// Writes a value as it is shown, which is JSON.
+    fn value<D: Display>(&mut self, shown: &D) {
         self.begin_value();
-        if write!(self.text, "{number}").is_err() {
-            self.is_refused = true;
-        }
+        self.is_refused |= write!(self.text, "{shown}").is_err();
+    }
+
+    /// Writes a member that is a number, or says whether something is so.
+    pub(crate) fn member<D: Display + Copy>(&mut self, name: &str, value: D) {
+        self.key(name);
+        self.value(&value);
+    }
+
+    /// Begins a member that is an object or a list, by this bracket.
+    pub(crate) fn begin_member(&mut self, name: &str, bracket: &str) {
+        self.key(name);
+        self.begin(bracket);
     }
 
     /// Writes a member that is a text.
@@ -193,27 +169,13 @@ impl<'a> JsonText<'a> {
         }
     }
 
-    /// Writes a member that is a number.
-    pub(crate) fn number_member(&mut self, name: &str, number: u64) {
-        self.key(name);
-        self.number(number);
-    }
-
-    /// Writes a member that says whether something is so.
-    pub(crate) fn flag_member(&mut self, name: &str, flag: bool) {
-        self.key(name);
-        self.begin_value();
-        self.put(if flag { "true" } else { "false" });
-    }
-
     /// Writes a member that is a list of numbers.
-    pub(crate) fn numbers_member<N: Into<u64> + Copy>(&mut self, name: &str, numbers: &[N]) {
-        self.key(name);
-        self.begin_list();
+    pub(crate) fn numbers_member<N: Display>(&mut self, name: &str, numbers: &[N]) {
+        self.begin_member(name, "[");
         for number in numbers {
-            self.number((*number).into());
+            self.value(number);
         }
-        self.end_list();
+        self.end("]");
     }
 
     /// What an interface and a method are called.
@@ -225,9 +187,7 @@ impl<'a> JsonText<'a> {
     pub(crate) fn interface_members(&mut self, interface: u64, method: u16) {
         self.key("interface");
         self.begin_value();
-        if write!(self.text, "\"{interface:016x}\"").is_err() {
-            self.is_refused = true;
-        }
+        self.is_refused |= write!(self.text, "\"{interface:016x}\"").is_err();
         if let Some(called) = self.called(interface, method) {
             self.text_member("interface_name", called.interface_name());
         }
@@ -235,11 +195,11 @@ impl<'a> JsonText<'a> {
 
     /// Writes a method of an interface: its number, and its name where it has one.
     pub(crate) fn method_members(&mut self, interface: u64, method: u16) {
-        self.number_member("method", u64::from(method));
-        let Some(called) = self.called(interface, method) else {
-            return;
-        };
-        if let Some(name) = called.method_name() {
+        self.member("method", method);
+        if let Some(Some(name)) = self
+            .called(interface, method)
+            .map(|called| called.method_name())
+        {
             self.text_member("method_name", name);
         }
     }

@@ -8,16 +8,13 @@
 #![tactic(auto)]
 
 mod answer_object;
-mod edge_object;
 mod fault_object;
-mod join_object;
 mod json_lines;
 mod json_text;
-mod line_object;
 mod message_object;
 mod record_object;
+mod run_object;
 mod schema_object;
-mod step_object;
 mod wire_object;
 
 pub use json_lines::{JsonFault, JsonLines, OUT_OF_MEMORY};

@@ -1,47 +1,37 @@
-//! The object of a message.
+//! The members of a message.
 
 use crate::json_text::JsonText;
 use cap_frame::Path;
 use report_lines::loopback_text;
 use rpc_view::{Descriptor, Loopback, Outcome, Payload, Resolution, RpcMessage, Target};
 
-/// Writes an object that has a number alone beside its kind.
+/// Writes a kind and the number that is alone beside it.
 fn put_numbered(json: &mut JsonText<'_>, kind: &str, id: u32) {
-    json.begin_object();
-    json.number_member("id", u64::from(id));
+    json.member("id", id);
     json.text_member("kind", kind);
-    json.end_object();
 }
 
 /// Writes what stands at a path of a question's answer.
 fn put_promised(json: &mut JsonText<'_>, kind: &str, question: u32, path: &Path) {
-    json.begin_object();
     json.text_member("kind", kind);
     json.numbers_member("path", path.as_slice());
-    json.number_member("question", u64::from(question));
-    json.end_object();
-}
-
-/// Writes an object that has its kind alone.
-fn put_kind(json: &mut JsonText<'_>, kind: &str) {
-    json.begin_object();
-    json.text_member("kind", kind);
-    json.end_object();
+    json.member("question", question);
 }
 
 /// Writes what a call or an embargo goes to.
 fn put_target(json: &mut JsonText<'_>, target: &Target) {
-    json.key("target");
+    json.begin_member("target", "{");
     match target {
         Target::Imported(id) => put_numbered(json, "import", *id),
         Target::Promised(question, path) => put_promised(json, "answer", *question, path),
     }
+    json.end("}");
 }
 
-/// Writes an entry of a capability table.
+/// Writes the members of an entry of a capability table.
 fn put_descriptor(json: &mut JsonText<'_>, descriptor: &Descriptor) {
     match descriptor {
-        Descriptor::NoCap => put_kind(json, "none"),
+        Descriptor::NoCap => json.text_member("kind", "none"),
         Descriptor::SenderHosted(id) => put_numbered(json, "senderHosted", *id),
         Descriptor::SenderPromise(id) => put_numbered(json, "senderPromise", *id),
         Descriptor::ReceiverHosted(id) => put_numbered(json, "receiverHosted", *id),
@@ -53,45 +43,38 @@ fn put_descriptor(json: &mut JsonText<'_>, descriptor: &Descriptor) {
 
 /// Writes a capability table.
 fn put_table(json: &mut JsonText<'_>, descriptors: &[Descriptor]) {
-    json.key("cap_table");
-    json.begin_list();
+    json.begin_member("cap_table", "[");
     for descriptor in descriptors {
+        json.begin("{");
         put_descriptor(json, descriptor);
+        json.end("}");
     }
-    json.end_list();
-}
-
-/// Writes a capability of a payload's content.
-fn put_field(json: &mut JsonText<'_>, path: &Path, index: u32) {
-    json.begin_object();
-    json.number_member("index", u64::from(index));
-    json.numbers_member("path", path.as_slice());
-    json.end_object();
+    json.end("]");
 }
 
 /// Writes the capabilities of a payload's content.
 fn put_fields(json: &mut JsonText<'_>, fields: &[(Path, u32)]) {
-    json.key("fields");
-    json.begin_list();
+    json.begin_member("fields", "[");
     for (path, index) in fields {
-        put_field(json, path, *index);
+        json.begin("{");
+        json.member("index", *index);
+        json.numbers_member("path", path.as_slice());
+        json.end("}");
     }
-    json.end_list();
+    json.end("]");
 }
 
 /// Writes a member that is a payload.
 fn put_payload(json: &mut JsonText<'_>, name: &str, payload: &Payload) {
-    json.key(name);
-    json.begin_object();
+    json.begin_member(name, "{");
     put_table(json, payload.descriptors.as_slice());
     put_fields(json, payload.fields.as_slice());
-    json.end_object();
+    json.end("}");
 }
 
 /// Writes what came of a call.
 fn put_outcome(json: &mut JsonText<'_>, outcome: &Outcome) {
-    json.key("outcome");
-    json.begin_object();
+    json.begin_member("outcome", "{");
     match outcome {
         Outcome::Results(results) => {
             json.text_member("kind", "results");
@@ -102,19 +85,20 @@ fn put_outcome(json: &mut JsonText<'_>, outcome: &Outcome) {
         Outcome::Elsewhere => json.text_member("kind", "resultsSentElsewhere"),
         Outcome::TakeFrom(question) => {
             json.text_member("kind", "takeFromOtherQuestion");
-            json.number_member("question", u64::from(*question));
+            json.member("question", *question);
         }
     }
-    json.end_object();
+    json.end("}");
 }
 
 /// Writes what a promise became.
 fn put_resolution(json: &mut JsonText<'_>, resolution: &Resolution) {
-    json.key("resolution");
+    json.begin_member("resolution", "{");
     match resolution {
         Resolution::Cap(descriptor) => put_descriptor(json, descriptor),
-        Resolution::Exception => put_kind(json, "exception"),
+        Resolution::Exception => json.text_member("kind", "exception"),
     }
+    json.end("}");
 }
 
 /// Writes a Call, without where it goes.
@@ -130,7 +114,7 @@ fn put_call(
     json.text_member("kind", "call");
     json.method_members(interface, method);
     put_payload(json, "params", params);
-    json.number_member("question", u64::from(question));
+    json.member("question", question);
     json.text_member(
         "send_results_to",
         if yourself { "yourself" } else { "caller" },
@@ -145,17 +129,17 @@ fn put_return(
     outcome: &Outcome,
     light: bool,
 ) {
-    json.number_member("answer", u64::from(answer));
+    json.member("answer", answer);
     json.text_member("kind", "return");
-    json.flag_member("no_finish_needed", light);
+    json.member("no_finish_needed", light);
     put_outcome(json, outcome);
-    json.flag_member("release_param_caps", releases);
+    json.member("release_param_caps", releases);
 }
 
 /// Writes a Disembargo.
 fn put_disembargo(json: &mut JsonText<'_>, id: u32, loopback: Loopback, target: &Target) {
     json.text_member("context", loopback_text(loopback));
-    json.number_member("id", u64::from(id));
+    json.member("id", id);
     json.text_member("kind", "disembargo");
     put_target(json, target);
 }
@@ -165,7 +149,7 @@ pub(crate) fn put_message(json: &mut JsonText<'_>, message: &RpcMessage) {
     match message {
         RpcMessage::Bootstrap { question } => {
             json.text_member("kind", "bootstrap");
-            json.number_member("question", u64::from(*question));
+            json.member("question", *question);
         }
         RpcMessage::Call {
             question,
@@ -189,20 +173,20 @@ pub(crate) fn put_message(json: &mut JsonText<'_>, message: &RpcMessage) {
             release_result_caps,
         } => {
             json.text_member("kind", "finish");
-            json.number_member("question", u64::from(*question));
-            json.flag_member("release_result_caps", *release_result_caps);
+            json.member("question", *question);
+            json.member("release_result_caps", *release_result_caps);
         }
         RpcMessage::Resolve {
             promise,
             resolution,
         } => {
             json.text_member("kind", "resolve");
-            json.number_member("promise", u64::from(*promise));
+            json.member("promise", *promise);
             put_resolution(json, resolution);
         }
         RpcMessage::Release { id, count } => {
-            json.number_member("count", u64::from(*count));
-            json.number_member("id", u64::from(*id));
+            json.member("count", *count);
+            json.member("id", *id);
             json.text_member("kind", "release");
         }
         RpcMessage::Disembargo {

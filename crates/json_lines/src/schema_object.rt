@@ -12,13 +12,13 @@ use std::alloc::{AllocError, Global};
 /// Out of memory.
 pub fn bad_schema_object(alloc: Global, file: &str, notes: &str) -> Result<String, AllocError> {
     let mut json = JsonText::new(alloc, None);
-    json.begin_object();
+    json.begin("{");
     json.text_member("file", file);
     json.text_member("kind", "bad schema");
     if !notes.is_empty() {
         json.key(NOTES);
         put_notes(&mut json, notes);
     }
-    json.end_object();
-    Ok(json.finish()?.text)
+    json.end("}");
+    json.into_text()
 }

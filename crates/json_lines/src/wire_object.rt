@@ -1,4 +1,4 @@
-//! The object of what is answered of the bytes of a connection.
+//! The members of what is answered of the bytes of a connection.
 
 use crate::json_text::JsonText;
 use case_report::WireLine;
@@ -9,7 +9,7 @@ use wire_cut::End;
 fn put_message(json: &mut JsonText<'_>, kind: &str, end: End, message: u64) {
     json.text_member("end", end_name(end));
     json.text_member("kind", kind);
-    json.number_member("message", message);
+    json.member("message", message);
 }
 
 /// Writes what is answered of the bytes of a connection. A no at a message has a rule, unless none is named.
@@ -20,9 +20,9 @@ pub(crate) fn put_wire(json: &mut JsonText<'_>, line: &WireLine) {
             frames_of_b,
             delivered,
         } => {
-            json.number_member("delivered", delivered);
-            json.number_member("frames_of_a", frames_of_a);
-            json.number_member("frames_of_b", frames_of_b);
+            json.member("delivered", delivered);
+            json.member("frames_of_a", frames_of_a);
+            json.member("frames_of_b", frames_of_b);
             json.text_member("kind", "yes");
         }
         WireLine::No { end, message, rule } => {
@@ -31,8 +31,8 @@ pub(crate) fn put_wire(json: &mut JsonText<'_>, line: &WireLine) {
         }
         WireLine::NoOrder { of_a, of_b } => {
             json.text_member("kind", "no ends");
-            json.number_member("message_of_a", of_a);
-            json.number_member("message_of_b", of_b);
+            json.member("message_of_a", of_a);
+            json.member("message_of_b", of_b);
         }
         WireLine::Unexplained { end, message } => put_message(json, "no", end, message),
         WireLine::TooLong { end, message } => put_message(json, "too long", end, message),
@@ -44,7 +44,7 @@ pub(crate) fn put_wire(json: &mut JsonText<'_>, line: &WireLine) {
             json.text_member("end", end_name(end));
             json.text_member("fault", "TooManySegments");
             json.text_member("kind", "bad frame");
-            json.number_member("message", message);
+            json.member("message", message);
         }
     }
 }

@@ -35,10 +35,7 @@ impl<'a> Called<'a> {
 
     /// The name of the method, None where it has none.
     pub fn method_name(&self) -> Option<&'a str> {
-        match self.interface.method(self.method) {
-            Some(name) => Some(name.as_str()),
-            None => None,
-        }
+        Some(self.interface.method(self.method)?.as_str())
     }
 
     /// Writes it into a text of this form.

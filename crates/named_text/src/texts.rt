@@ -13,14 +13,10 @@ const METHOD: &str = " method ";
 
 /// How many bytes at the start of a text are decimal digits.
 fn digits_at_start(text: &str) -> usize {
-    let mut count = 0usize;
-    for byte in text.as_bytes() {
-        if !byte.is_ascii_digit() {
-            return count;
-        }
-        count = count.saturating_add(1);
-    }
-    count
+    let mut bytes = text.as_bytes().iter();
+    bytes
+        .position(|byte| !byte.is_ascii_digit())
+        .unwrap_or(text.len())
 }
 
 /// The method with which a text begins, of an interface that has a name, and what stands behind it.
@@ -58,14 +54,10 @@ fn put_text<W: fmt::Write>(
     text: &str,
     form: Form,
 ) -> fmt::Result {
-    let mut is_first = true;
-    for piece in text.split(INTERFACE) {
-        if is_first {
-            f.write_str(piece)?;
-            is_first = false;
-        } else {
-            put_piece(f, names, piece, form)?;
-        }
+    let mut pieces = text.split(INTERFACE);
+    f.write_str(pieces.next().unwrap_or(""))?;
+    for piece in pieces {
+        put_piece(f, names, piece, form)?;
     }
     Ok(())
 }

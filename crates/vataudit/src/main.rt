@@ -40,7 +40,7 @@ use proved_by::ProgramVersion;
 use report_lines::Fault;
 use schema_names::SchemaNames;
 use schemas::{SchemaFault, names_of, say_bad_schema};
-use std::alloc::{AllocError, Global};
+use std::alloc::AllocError;
 use std::io::{IsTerminal, Write};
 use std::process::ExitCode;
 use std::rt::Files;
@@ -53,6 +53,11 @@ use told_runs::{
     run_with_notes,
 };
 use watched::{CountedSource, WipingWriter};
+
+/// What the program asks of its host.
+trait Host: Threads + Wait + Clock + Sync + LogHost + Print + Eprint {}
+
+impl<R: Threads + Wait + Clock + Sync + LogHost + Print + Eprint> Host for R {}
 
 /// Prints that memory ran out, as a line or as an object, and gives the exit status: that of a failed write where the line can't be written.
 fn out_of_memory(rt: &impl Print, is_json: bool) -> u8
@@ -97,10 +102,7 @@ fn hold_standard_places<R: Files>(rt: &R) -> [io::Result<R::File>; 3] {
 
 /// Whether the words ask for the version alone.
 fn asks_version(words: &[String]) -> bool {
-    match words {
-        [_, word] => word.as_str() == "--version",
-        _ => false,
-    }
+    matches!(words, [_, word] if word.as_str() == "--version")
 }
 
 /// Prints the version, and gives the exit status.
@@ -125,32 +127,13 @@ fn may_take_long(command: &Command<'_>) -> bool {
     )
 }
 
-/// Runs a command with lines as text and without notes.
-fn run_quietly<R: Threads + Wait + Sync + LogHost, W: Write>(
-    rt: &R,
-    command: &Command<'_>,
-    out: &mut W,
-    made: &mut Made<'_, R>,
-) -> u8
-    requires { HasWorkers command.now }
-{
-    let mut folder = Folder::new(rt);
-    run_on(rt, rt.alloc(), command, &mut folder, out, made)
-}
-
 /// Whether something is told besides in lines, so that they aren't what they are without it.
 fn tells_more(telling: Telling<'_>) -> bool {
     telling.names.is_some() || telling.has_reasons
 }
 
 /// Runs a command with lines and notes as text, with names and reasons where these are told.
-fn run_noted<
-    R: Threads + Wait + Sync + LogHost,
-    G: Watch + Sync,
-    S: SearchingSource,
-    W: Write,
-    N: Write,
->(
+fn run_noted<R: Host, G: Watch + Sync, S: SearchingSource, W: Write, N: Write>(
     rt: &R,
     telling: Telling<'_>,
     command: &Command<'_>,
@@ -168,7 +151,7 @@ fn run_noted<
 }
 
 /// Runs a command with lines and notes as text, and tells nothing of its progress.
-fn run_plainly<R: Threads + Wait + Sync + LogHost, W: Write, N: Write + Drop>(
+fn run_plainly<R: Host, W: Write, N: Write + Drop>(
     rt: &R,
     telling: Telling<'_>,
     command: &Command<'_>,
@@ -188,11 +171,7 @@ fn run_plainly<R: Threads + Wait + Sync + LogHost, W: Write, N: Write + Drop>(
 
 /// Runs a command with lines and notes as text, and tells of its progress meanwhile. Where no thread can be started it tells
 /// nothing.
-fn run_with_progress<
-    R: Threads + Wait + Clock + Sync + LogHost + Eprint,
-    W: Write,
-    N: Write + Drop,
->(
+fn run_with_progress<R: Host, W: Write, N: Write + Drop>(
     rt: &R,
     telling: Telling<'_>,
     command: &Command<'_>,
@@ -235,21 +214,8 @@ fn run_with_progress<
     )
 }
 
-/// An output of lines as JSON objects, with names where these are told.
-fn json_output<'a, W: Write>(
-    alloc: Global,
-    telling: Telling<'a>,
-    out: &'a mut W,
-) -> JsonOutput<'a, W> {
-    let lines = JsonOutput::new(alloc, out);
-    match telling.names {
-        Some(names) => lines.with_names(names),
-        None => lines,
-    }
-}
-
 /// Runs a command with lines as JSON objects, the last of which has the notes where none asks for quiet.
-fn run_in_json<R: Threads + Wait + Sync + LogHost, W: Write>(
+fn run_in_json<R: Host, W: Write>(
     rt: &R,
     telling: Telling<'_>,
     command: &Command<'_>,
@@ -259,21 +225,19 @@ fn run_in_json<R: Threads + Wait + Sync + LogHost, W: Write>(
     requires { HasWorkers command.now }
 {
     let alloc = rt.alloc();
-    let mut lines = json_output(alloc, telling, out);
+    let mut lines = JsonOutput::new(alloc, out);
+    if let Some(names) = telling.names {
+        lines = lines.with_names(names);
+    }
     if telling.is_quiet {
-        let mut folder = Folder::new(rt);
-        return run_as_json(rt, alloc, command, &mut folder, &mut lines, made);
+        return run_as_json(rt, alloc, command, &mut Folder::new(rt), &mut lines, made);
     }
     let mut folder = RememberingFolder::new(rt);
     run_as_json_with_notes(rt, alloc, command, &mut folder, &mut lines, made)
 }
 
 /// Runs a command with lines as text, and gives the exit status.
-fn run_in_text<
-    R: Threads + Wait + Clock + Sync + LogHost + Print + Eprint,
-    W: Write,
-    N: Write + IsTerminal + Drop,
->(
+fn run_in_text<R: Host, W: Write, N: Write + IsTerminal + Drop>(
     rt: &R,
     telling: Telling<'_>,
     command: &Command<'_>,
@@ -284,7 +248,7 @@ fn run_in_text<
     requires { HasWorkers command.now }
 {
     if telling.is_quiet && !tells_more(telling) {
-        run_quietly(rt, command, out, made)
+        run_on(rt, rt.alloc(), command, &mut Folder::new(rt), out, made)
     } else if !telling.is_quiet && notes.is_terminal() && may_take_long(command) {
         run_with_progress(rt, telling, command, out, made, notes)
     } else {
@@ -310,11 +274,7 @@ fn refuse_schema<R: Print + Eprint + AllocGlobal>(
 }
 
 /// Runs a command in a manner, with these names where any are asked for, and gives the exit status.
-fn run_named<
-    R: Threads + Wait + Clock + Sync + LogHost + Print + Eprint,
-    W: Write,
-    N: Write + IsTerminal + Drop,
->(
+fn run_named<R: Host, W: Write, N: Write + IsTerminal + Drop>(
     rt: &R,
     manner: &Manner,
     names: Option<&SchemaNames>,
@@ -339,26 +299,20 @@ fn run_named<
     }
 }
 
-/// The names, where a schema is asked for.
-fn asked_names<'a>(manner: &Manner, names: &'a SchemaNames) -> Option<&'a SchemaNames> {
-    if manner.schemas.is_empty() {
-        return None;
-    }
-    Some(names)
-}
-
 /// Runs a command in a manner, with the names of the schemas that are asked for, and gives the exit status.
-fn run_in<
-    R: Threads + Wait + Clock + Sync + LogHost + Print + Eprint,
-    W: Write,
-    N: Write + IsTerminal + Drop,
->(rt: &R, manner: &Manner, command: &Command<'_>, out: &mut W, notes: N) -> u8
+fn run_in<R: Host, W: Write, N: Write + IsTerminal + Drop>(
+    rt: &R,
+    manner: &Manner,
+    command: &Command<'_>,
+    out: &mut W,
+    notes: N,
+) -> u8
     requires { HasWorkers command.now }
 {
     match names_of(rt, &manner.schemas) {
         Ok(names) => {
-            let names = asked_names(manner, &names);
-            run_named(rt, manner, names, command, out, notes)
+            let asked = (!manner.schemas.is_empty()).then_some(&names);
+            run_named(rt, manner, asked, command, out, notes)
         }
         Err((file, fault)) => refuse_schema(rt, manner, file, fault),
     }
@@ -366,11 +320,12 @@ fn run_in<
 
 /// Does what the words ask, writes its lines to `out` and, where none asks for quiet, notes to `notes`, or both as JSON
 /// objects to `out`; and gives the exit status.
-fn start<
-    R: Threads + Wait + Clock + Sync + LogHost + Print + Eprint,
-    W: Write,
-    N: Write + IsTerminal + Drop,
->(rt: &R, out: &mut W, notes: N, words: &mut Vec<String>) -> u8 {
+fn start<R: Host, W: Write, N: Write + IsTerminal + Drop>(
+    rt: &R,
+    out: &mut W,
+    notes: N,
+    words: &mut Vec<String>,
+) -> u8 {
     if asks_version(words) {
         return say_version(out);
     }

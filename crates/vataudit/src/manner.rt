@@ -16,16 +16,6 @@ pub struct Manner {
 }
 
 impl Manner {
-    /// Notes and lines, without names.
-    fn plain(alloc: Global) -> Manner {
-        Manner {
-            is_quiet: false,
-            is_json: false,
-            has_reasons: false,
-            schemas: Vec::new(alloc),
-        }
-    }
-
     /// Notes a word that asks for a manner, and says whether it is one that wasn't noted before.
     fn takes(&mut self, word: &str) -> bool {
         match word {
@@ -88,7 +78,12 @@ fn takes_last(manner: &mut Manner, words: &mut Vec<String>) -> Result<bool, Allo
 ///
 /// Out of memory.
 pub fn take_manner(alloc: Global, words: &mut Vec<String>) -> Result<Manner, AllocError> {
-    let mut manner = Manner::plain(alloc);
+    let mut manner = Manner {
+        is_quiet: false,
+        is_json: false,
+        has_reasons: false,
+        schemas: Vec::new(alloc),
+    };
     for _ in 0..words.len() {
         if !takes_first(&mut manner, words)? {
             break;

@@ -34,11 +34,7 @@ impl Count {
         self.0.store(number, Ordering::SeqCst);
     }
 
-    fn raise(&self) {
-        self.raise_by(1);
-    }
-
-    fn raise_by(&self, number: u64) {
+    fn raise(&self, number: u64) {
         let _ = self.0.fetch_add(number, Ordering::SeqCst);
     }
 }
@@ -72,18 +68,10 @@ struct ProgressLine<'a> {
 
 impl Display for ProgressLine<'_> {
     fn fmt<W: fmt::Write>(&self, f: &mut Formatter<W>) -> fmt::Result {
-        let RunProgress {
-            files,
-            bytes,
-            logs,
-            links,
-            audited,
-            compared,
-            ..
-        } = self.progress;
-        let (files, bytes) = (files.read(), bytes.read());
-        let (logs, links) = (logs.read(), links.read());
-        let (audited, compared) = (audited.read(), compared.read());
+        let progress = self.progress;
+        let (files, bytes) = (progress.files.read(), progress.bytes.read());
+        let (logs, links) = (progress.logs.read(), progress.links.read());
+        let (audited, compared) = (progress.audited.read(), progress.compared.read());
         write!(f, "\r{} s: files read {files}", self.seconds)?;
         if bytes > 0 {
             write!(f, ", bytes of logs read {bytes}")?;
@@ -121,12 +109,12 @@ impl RunProgress {
 
     /// A file was read.
     pub fn read_file(&self) {
-        self.files.raise();
+        self.files.raise(1);
     }
 
     /// So many bytes came of files that are read piece by piece.
     pub fn read_bytes(&self, count: usize) {
-        self.bytes.raise_by(count as u64);
+        self.bytes.raise(count as u64);
     }
 
     /// Writes the line, where the run takes long, and says whether it may be written again.
@@ -176,9 +164,9 @@ impl RunProgress {
 impl Gate for RunProgress {
     fn before_post(&self, piece: u32) {
         if (piece as u64) < self.logs.read() {
-            self.audited.raise();
+            self.audited.raise(1);
         } else {
-            self.compared.raise();
+            self.compared.raise(1);
         }
     }
 }

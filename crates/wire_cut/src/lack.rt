@@ -17,6 +17,8 @@ pub enum Lack {
     ExportFree(u32),
     /// The export of this number is a promise in life, without a Resolve.
     PromiseOpen(u32),
+    /// What the promise of this number stands for became what its Resolve names.
+    PromiseLeads(u32),
     /// The question of this number was received, and isn't returned.
     QuestionReceived(u32),
     /// The call of this received question was delivered, or it was passed on and its own Return was received.

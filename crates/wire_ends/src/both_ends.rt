@@ -10,25 +10,29 @@ impl Vat<'_> {
         self.received < peers_sent && self.files.is_receivable(self.received)
     }
 
-    /// Sends and receives as far as it goes: it receives as late as it can. Whether anything moved, and what the next message
-    /// lacks.
-    pub(crate) fn advance(
-        &mut self,
-        peers_sent: usize,
-    ) -> Result<(bool, Option<Lack>), AllocError> {
+    /// Why the next message doesn't go out, if it doesn't.
+    fn pause(&mut self) -> Result<Option<Pause>, AllocError> {
+        if self.holds_back() {
+            return Ok(Some(Pause::HeldBack));
+        }
+        Ok(self.blocked()?.map(Pause::Lacks))
+    }
+
+    /// Sends and receives as far as it goes: it receives as late as it can. Whether anything moved, and why it stopped.
+    pub(crate) fn advance(&mut self, peers_sent: usize) -> Result<(bool, Pause), AllocError> {
         let mut moved = false;
         for _ in 0..u64::MAX {
             if self.files.is_done(self.sent) {
-                return Ok((moved, None));
+                return Ok((moved, Pause::Done));
             }
-            match self.blocked()? {
+            match self.pause()? {
                 None => self.send()?,
-                Some(lack) if !self.may_receive(peers_sent) => return Ok((moved, Some(lack))),
+                Some(pause) if !self.may_receive(peers_sent) => return Ok((moved, pause)),
                 Some(_) => self.receive()?,
             }
             moved = true;
         }
-        Ok((moved, None))
+        Ok((moved, Pause::Done))
     }
 
     /// Receives all that the peer sent.
@@ -39,14 +43,46 @@ impl Vat<'_> {
         Ok(())
     }
 
+    /// Lets the next message go out, if it is held back.
+    fn lets_go(&mut self, pause: Pause) -> bool {
+        match pause {
+            Pause::HeldBack => {
+                self.let_go = Some(self.sent);
+                true
+            }
+            Pause::Done | Pause::Lacks(_) => false,
+        }
+    }
+
     /// Lets the next message go out without the call that it hands on, if it waits for that alone.
-    pub(crate) fn hurries(&mut self, lack: Option<Lack>) -> bool {
-        match lack {
-            Some(Lack::HandedOnCall(_)) => {
+    fn hurries(&mut self, pause: Pause) -> bool {
+        match pause {
+            Pause::Lacks(Lack::HandedOnCall(_)) => {
                 self.hurried = Some(self.sent);
                 true
             }
             _ => false,
+        }
+    }
+}
+
+/// Why an end stops.
+#[derive(Clone, Copy)]
+pub(crate) enum Pause {
+    /// All is sent.
+    Done,
+    /// The next message is held back.
+    HeldBack,
+    /// The next message lacks this.
+    Lacks(Lack),
+}
+
+impl Pause {
+    /// What the next message lacks.
+    fn lack(self) -> Option<Lack> {
+        match self {
+            Pause::Lacks(lack) => Some(lack),
+            Pause::Done | Pause::HeldBack => None,
         }
     }
 }
@@ -60,7 +96,8 @@ pub(crate) struct Stuck {
     pub of_b: Option<Lack>,
 }
 
-/// Lets both ends send and receive until both files are sent, or neither end moves.
+/// Lets both ends send and receive until both files are sent, or neither end moves. Where nothing moves, both let go what they
+/// hold back; and then one goes on without a call that it hands on.
 pub(crate) fn run_both(a: &mut Vat<'_>, b: &mut Vat<'_>) -> Result<Stuck, AllocError> {
     for _ in 0..u64::MAX {
         let (a_moved, of_a) = a.advance(b.sent)?;
@@ -68,10 +105,14 @@ pub(crate) fn run_both(a: &mut Vat<'_>, b: &mut Vat<'_>) -> Result<Stuck, AllocE
         if a_moved || b_moved {
             continue;
         }
-        if a.hurries(of_a) || b.hurries(of_b) {
+        let is_a_let_go = a.lets_go(of_a);
+        if b.lets_go(of_b) || is_a_let_go || a.hurries(of_a) || b.hurries(of_b) {
             continue;
         }
-        return Ok(Stuck { of_a, of_b });
+        return Ok(Stuck {
+            of_a: of_a.lack(),
+            of_b: of_b.lack(),
+        });
     }
     Ok(Stuck {
         of_a: None,

@@ -96,6 +96,8 @@ pub(crate) struct Life {
     pub reference: u64,
     /// Where it turned.
     pub turn: NextView,
+    /// The group of the peer's promises to which it belongs, if it began as a promise.
+    pub group: Option<usize>,
 }
 
 /// What a promise of this end becomes.

@@ -9,8 +9,10 @@
 mod blame;
 mod both_ends;
 mod end_tables;
+mod made_calls;
 mod made_logs;
 mod queue;
+mod second_references;
 mod vat;
 
 pub use blame::Blame;

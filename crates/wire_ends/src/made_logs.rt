@@ -5,14 +5,16 @@ ghost use Rattle.wire_ends.specs.Made.{HasMade};
 
 use crate::blame::{Blame, borrow_all, find_blame};
 use crate::both_ends::{Stuck, run_both};
+use crate::second_references::{EndSteps, Parted, part_references};
 use crate::vat::Vat;
 use bytes::Bytes;
 use std::alloc::{AllocError, Global};
+use std::mem;
 use std::sync::Arc;
 use vat_log::VatLog;
-use wire_cut::{End, Lack, Waiting};
+use wire_cut::{End, Lack, Overtaking, Waiting};
 use wire_plan::{WirePlan, plan_wire};
-use wire_steps::{EndStep, LogFault, TooLongAt, log_of};
+use wire_steps::{LogFault, TooLongAt, log_of};
 
 /// The vat that sent the first file.
 const VAT_OF_A: u32 = 1;
@@ -33,6 +35,8 @@ pub struct MadeLogs {
     pub blame: Option<Blame>,
     /// Of each end the message that waits, and what it lacks.
     pub waiting: [Option<Waiting>; 2],
+    /// Of each end the first two messages whose calls came in the other order, through two references.
+    pub overtaking: [Option<Overtaking>; 2],
 }
 
 /// What came of making logs.
@@ -75,8 +79,8 @@ struct Standstill {
 /// What is made up of both ends.
 #[derive(Drop)]
 struct MadeUp {
-    steps_of_a: Vec<EndStep>,
-    steps_of_b: Vec<EndStep>,
+    of_a: EndSteps,
+    of_b: EndSteps,
     stop: Standstill,
 }
 
@@ -125,32 +129,60 @@ fn run_on(
 fn made_up(a: &mut Vat<'_>, b: &mut Vat<'_>, blamed: Option<Blame>) -> Result<MadeUp, AllocError> {
     let stop = run_on(a, b, blamed)?;
     Ok(MadeUp {
-        steps_of_a: a.notes.take_steps(),
-        steps_of_b: b.notes.take_steps(),
+        of_a: a.notes.take_steps(),
+        of_b: b.notes.take_steps(),
         stop,
     })
 }
 
-/// Makes up both ends, where this message is to blame.
-fn make_up(alloc: Global, plan: &WirePlan, blamed: Option<Blame>) -> Result<MadeUp, AllocError> {
-    let mut a = Vat::new(alloc, End::A, plan);
-    let mut b = Vat::new(alloc, End::B, plan);
+/// Makes up both ends, patient or not, where this message is to blame.
+fn make_up(
+    alloc: Global,
+    plan: &WirePlan,
+    is_patient: bool,
+    blamed: Option<Blame>,
+) -> Result<MadeUp, AllocError> {
+    let mut a = Vat::new(alloc, End::A, plan, is_patient);
+    let mut b = Vat::new(alloc, End::B, plan, is_patient);
     made_up(&mut a, &mut b, blamed)
 }
 
-/// Makes up both ends by a plan, and once more where a message is to blame.
-fn make_up_all(alloc: Global, plan: &WirePlan) -> Result<MadeUp, AllocError> {
-    let made = make_up(alloc, plan, None)?;
-    match made.stop.blame {
-        None => Ok(made),
-        blamed => make_up(alloc, plan, blamed),
+/// Makes up both ends where this message is to blame as long as neither is patient.
+fn make_up_again(alloc: Global, plan: &WirePlan, blamed: Blame) -> Result<MadeUp, AllocError> {
+    let made = make_up(alloc, plan, true, None)?;
+    if made.stop.blame.is_none() {
+        return Ok(made);
     }
+    mem::drop(made);
+    make_up(alloc, plan, false, Some(blamed))
 }
 
-/// Makes up both ends around the frames of both files.
-fn make_up_frames(alloc: Global, a: &[Bytes], b: &[Bytes]) -> Result<MadeUp, AllocError> {
+/// Makes up both ends by a plan; and again where a message is to blame.
+fn make_up_all(alloc: Global, plan: &WirePlan) -> Result<MadeUp, AllocError> {
+    let made = make_up(alloc, plan, false, None)?;
+    let Some(blamed) = made.stop.blame else {
+        return Ok(made);
+    };
+    mem::drop(made);
+    make_up_again(alloc, plan, blamed)
+}
+
+/// Makes up both ends around the frames of both files. With one reference all calls to a target are made through it, also those
+/// that overtake others.
+fn make_up_frames(
+    alloc: Global,
+    a: &[Bytes],
+    b: &[Bytes],
+    one_reference: bool,
+) -> Result<(Parted, Standstill), AllocError> {
     let plan = plan_wire(alloc, a, b)?;
-    make_up_all(alloc, &plan)
+    let MadeUp { of_a, of_b, stop } = make_up_all(alloc, &plan)?;
+    let parted = if one_reference {
+        Parted::not_at_all(of_a, of_b)
+    } else {
+        part_references(alloc, of_a, of_b)?
+    };
+    Ok((parted, stop))
 }
 
 /// The message at which an end's log would be too long.
@@ -167,17 +199,24 @@ fn no_log(end: End, fault: LogFault) -> Result<Making, AllocError>
     }
 }
 
-/// Makes the logs around the frames of both files. The only error is that memory ran out.
+/// Makes the logs around the frames of both files. With one reference all calls to a target are made through it, and else those
+/// that overtake others through references of their own. The only error is that memory ran out.
 ///
 /// Of what is made up between the frames nothing is promised: the audit judges it.
-pub fn make_logs(alloc: Global, a: &[Bytes], b: &[Bytes]) -> Result<Making, AllocError>
+pub fn make_logs(
+    alloc: Global,
+    a: &[Bytes],
+    b: &[Bytes],
+    one_reference: bool,
+) -> Result<Making, AllocError>
     ensures { IfOk result (HasMade a.now b.now) }
 {
-    let MadeUp {
+    let (parted, stop) = make_up_frames(alloc, a, b, one_reference)?;
+    let Parted {
         steps_of_a,
         steps_of_b,
-        stop,
-    } = make_up_frames(alloc, a, b)?;
+        overtaking,
+    } = parted;
     let of_a = match log_of(alloc, VAT_OF_A, steps_of_a, a, b) {
         Ok(log) => log,
         Err(fault) => return no_log(End::A, fault),
@@ -192,5 +231,6 @@ pub fn make_logs(alloc: Global, a: &[Bytes], b: &[Bytes]) -> Result<Making, Allo
         is_whole: of_a.is_whole && of_b.is_whole,
         blame: stop.blame,
         waiting: stop.waiting,
+        overtaking,
     }))
 }

@@ -67,6 +67,7 @@ fn without_logs(line: WireLine, frames: [u64; 2], left: [u64; 2]) -> WireAnswer
         frames,
         left,
         waiting: [None, None],
+        overtaking: [None, None],
     }
 }
 
@@ -87,13 +88,14 @@ fn explain_frames<R: Threads + Wait + Sync, G: Gate + Sync>(
     alloc: Global,
     a: &WireFile,
     b: &WireFile,
+    one_reference: bool,
     gate: &G,
 ) -> Result<WireAnswer, AllocError>
     ensures { IfOk result (IsFoundIn a.now.frames.items b.now.frames.items) }
 {
     let frames = [a.frames.len() as u64, b.frames.len() as u64];
     let left = [a.left as u64, b.left as u64];
-    let made = match make_logs(alloc, &a.frames, &b.frames)? {
+    let made = match make_logs(alloc, &a.frames, &b.frames, one_reference)? {
         Making::Made(made) => made,
         Making::TooLong(end, message) => {
             return Ok(without_logs(WireLine::TooLong { end, message }, frames, left));
@@ -107,6 +109,7 @@ fn explain_frames<R: Threads + Wait + Sync, G: Gate + Sync>(
         is_whole: _,
         blame: _,
         waiting,
+        overtaking,
     } = made;
     Ok(WireAnswer {
         line,
@@ -114,12 +117,14 @@ fn explain_frames<R: Threads + Wait + Sync, G: Gate + Sync>(
         frames,
         left,
         waiting,
+        overtaking,
     })
 }
 
 /// Explains what the ends of one connection sent: makes the two logs that a sound pair of vats could have written around
 /// these frames, and asks the audit. The first file has what the one end sent, the second what the other end sent, each in
-/// stream framing. The gate is called as by [`audit`]: the case has two logs and one link.
+/// stream framing. With one reference all calls to a target are made through it, and else those that overtake others through
+/// references of their own. The gate is called as by [`audit`]: the case has two logs and one link.
 ///
 /// # Errors
 ///
@@ -129,6 +134,7 @@ pub fn explain_wire<R: Threads + Wait + Sync, G: Gate + Sync>(
     alloc: Global,
     a: &Bytes,
     b: &Bytes,
+    one_reference: bool,
     gate: &G,
 ) -> Result<WireAnswer, AllocError>
     ensures { IfOk result (IsAnswer a.now b.now) }
@@ -141,5 +147,5 @@ pub fn explain_wire<R: Threads + Wait + Sync, G: Gate + Sync>(
         Ok(file) => file,
         Err(line) => return Ok(without_logs(line, [0, 0], [0, 0])),
     };
-    explain_frames(rt, alloc, &of_a, &of_b, gate)
+    explain_frames(rt, alloc, &of_a, &of_b, one_reference, gate)
 }

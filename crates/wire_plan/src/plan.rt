@@ -6,8 +6,8 @@ use crate::led_back::Passing;
 use crate::message::{Aim, Entry, Kind, Planned, ReturnKind};
 use crate::named_paths::NamedPaths;
 use crate::paths::Paths;
-use crate::promise_ends::{Leading, lead_of};
-use crate::question_ties::Openings;
+use crate::promise_ends::{Lead, Leading, lead_of};
+use crate::question_ties::{AskedQuestions, Openings};
 use crate::reading::read_planned;
 use bytes::Bytes;
 use rising_table::RisingTable;
@@ -26,6 +26,8 @@ pub struct FilePlan {
     pub named: NamedPaths,
     /// What its promises become of the other end's.
     pub leading: Leading,
+    /// The frames that open its questions.
+    asked: AskedQuestions,
 }
 
 impl Drop for FilePlan {
@@ -36,6 +38,7 @@ impl Drop for FilePlan {
             ties: _,
             named: _,
             leading: _,
+            asked: _,
         } = self;
     }
 }
@@ -65,20 +68,32 @@ impl Drop for WirePlan {
 }
 
 impl FilePlan {
-    /// What an entry of a table becomes of the other end's, by the Resolves.
-    fn lead_of(&self, entry: Entry) -> Option<Aim> {
-        lead_of(&self.messages, &self.groups, entry)
+    /// What an entry of the message at this place becomes of the other end's, by the Resolves.
+    fn lead_of(&self, place: usize, entry: Entry) -> Option<Lead> {
+        lead_of(&self.messages, &self.groups, place, entry)
+    }
+
+    /// The promise that the message at this place resolves, and what it becomes of the other end's.
+    fn resolved_lead(&self, place: usize) -> Option<(u32, Lead)> {
+        let message = self.messages.get(place)?;
+        let Kind::Resolve(number, _) = message.kind else {
+            return None;
+        };
+        Some((number, self.lead_of(place, message.entry(0)?)?))
     }
 
     /// What stands at a path of the results that the Return at this place says, of the other end's.
-    fn result_lead(&self, place: usize, path: u32) -> Option<Aim> {
+    fn result_lead(&self, place: usize, path: u32) -> Option<Lead> {
         let answer = self.messages.get(place)?;
         match answer.kind {
             Kind::Return {
                 results: ReturnKind::TakenFrom(question),
                 ..
-            } => Some(Aim::Answer(question, path)),
-            _ => self.lead_of(answer.entry_at(path)?),
+            } => Some(Lead {
+                aim: Aim::Answer(question, path),
+                place,
+            }),
+            _ => self.lead_of(place, answer.entry_at(path)?),
         }
     }
 }
@@ -193,17 +208,30 @@ fn look_through(alloc: Global, messages: &[Planned]) -> Result<(Ties, NamedPaths
     Ok((ties, named))
 }
 
+/// The questions that these messages open.
+fn asked_in(alloc: Global, messages: &[Planned]) -> Result<AskedQuestions, AllocError> {
+    let mut asked = AskedQuestions::new(alloc);
+    for (place, message) in messages.iter().enumerate() {
+        if let Some(question) = message.opens() {
+            asked.opened(alloc, question, place)?;
+        }
+    }
+    Ok(asked)
+}
+
 /// The plan of one file, without what its frames have to do with the other one's.
 fn plan_file(alloc: Global, frames: &[Bytes], paths: &mut Paths) -> Result<FilePlan, AllocError> {
     let (messages, groups) = read_file(alloc, frames, paths)?;
     let (ties, named) = look_through(alloc, &messages)?;
     let leading = Leading::of(alloc, &messages, &groups)?;
+    let asked = asked_in(alloc, &messages)?;
     Ok(FilePlan {
         messages,
         groups,
         ties,
         named,
         leading,
+        asked,
     })
 }
 
@@ -232,9 +260,35 @@ fn pair(alloc: Global, asker: &mut FilePlan, answerer: &mut FilePlan) -> Result<
     Ok(())
 }
 
+/// Where a lead goes on that ends at a result of an own question: to the number of the other end's under which it is returned.
+fn returned_number(own: &FilePlan, peer: &FilePlan, lead: Lead) -> Option<Aim> {
+    let Aim::Answer(question, path) = lead.aim else {
+        return None;
+    };
+    let opening = own.asked.opening_before(question, lead.place)?;
+    let answer = peer.messages.get(own.ties.pair_of(opening)?)?;
+    match answer.entry_at(path)? {
+        Entry::Hosted(number) | Entry::Promised(number, _) => Some(Aim::Import(number)),
+        Entry::NoCap | Entry::ReceiverHosted(_) | Entry::ReceiverAnswer(_, _) => None,
+    }
+}
+
+/// What the own promises become by results of own questions, which the other end returns under a number of its own.
+fn lead_through(alloc: Global, own: &mut FilePlan, peer: &FilePlan) -> Result<(), AllocError> {
+    for place in 0..own.messages.len() {
+        let Some((number, lead)) = own.resolved_lead(place) else {
+            continue;
+        };
+        if let Some(aim) = returned_number(own, peer, lead) {
+            own.leading.lead(alloc, number, aim)?;
+        }
+    }
+    Ok(())
+}
+
 /// Where one end's file leads a result of the other end's question: what stands at a path of the Return that answers the
 /// question for which the other end's message at this place is meant.
-fn lead_of_aimed(own: &FilePlan, peer: &FilePlan, place: usize, path: u32) -> Option<Aim> {
+fn lead_of_aimed(own: &FilePlan, peer: &FilePlan, place: usize, path: u32) -> Option<Lead> {
     let opening = peer.ties.aimed_of(place)?;
     own.result_lead(peer.ties.pair_of(opening)?, path)
 }
@@ -258,8 +312,11 @@ fn pass_one(
             }
         }
         Aim::Answer(_, path) => {
-            if let Some(target) = lead_of_aimed(own, peer, place, path) {
-                passing.lead(alloc, digest, target, place)?;
+            if let Some(lead) = lead_of_aimed(own, peer, place, path) {
+                passing.lead(alloc, digest, lead.aim, place)?;
+                if let Some(number) = returned_number(own, peer, lead) {
+                    passing.lead(alloc, digest, number, place)?;
+                }
             }
         }
     }
@@ -284,6 +341,8 @@ impl WirePlan {
     fn join(&mut self, alloc: Global) -> Result<(), AllocError> {
         pair(alloc, &mut self.of_a, &mut self.of_b)?;
         pair(alloc, &mut self.of_b, &mut self.of_a)?;
+        lead_through(alloc, &mut self.of_a, &self.of_b)?;
+        lead_through(alloc, &mut self.of_b, &self.of_a)?;
         lead_back(alloc, &self.of_a, &self.of_b, &mut self.passing_of_a)?;
         lead_back(alloc, &self.of_b, &self.of_a, &mut self.passing_of_b)
     }

@@ -8,18 +8,36 @@ use std::alloc::{AllocError, Global};
 /// How many promises may become one another.
 const MAX_STEPS: usize = 64;
 
-/// What an entry of a table becomes of the other end's, by the Resolves of these messages.
-pub(crate) fn lead_of(messages: &[Planned], groups: &Groups, entry: Entry) -> Option<Aim> {
+/// What something becomes of the other end's.
+#[derive(Clone, Copy)]
+pub(crate) struct Lead {
+    /// What it becomes.
+    pub aim: Aim,
+    /// The message that names this.
+    pub place: usize,
+}
+
+/// What an entry of the message at this place becomes of the other end's, by the Resolves of these messages.
+pub(crate) fn lead_of(
+    messages: &[Planned],
+    groups: &Groups,
+    place: usize,
+    entry: Entry,
+) -> Option<Lead> {
+    let mut place = place;
     let mut entry = entry;
     for _ in 0..MAX_STEPS {
-        match entry {
+        let aim = match entry {
             Entry::NoCap | Entry::Hosted(_) => return None,
-            Entry::ReceiverHosted(number) => return Some(Aim::Import(number)),
-            Entry::ReceiverAnswer(question, path) => return Some(Aim::Answer(question, path)),
+            Entry::ReceiverHosted(number) => Aim::Import(number),
+            Entry::ReceiverAnswer(question, path) => Aim::Answer(question, path),
             Entry::Promised(_, group) => {
-                entry = messages.get(groups.resolve(group)?)?.entry(0)?;
+                place = groups.resolve(group)?;
+                entry = messages.get(place)?.entry(0)?;
+                continue;
             }
-        }
+        };
+        return Some(Lead { aim, place });
     }
     None
 }
@@ -39,7 +57,7 @@ impl Leading {
     }
 
     /// A promise of this number becomes this of the other end's.
-    fn lead(&mut self, alloc: Global, number: u32, aim: Aim) -> Result<(), AllocError> {
+    pub(crate) fn lead(&mut self, alloc: Global, number: u32, aim: Aim) -> Result<(), AllocError> {
         let key = u64::from(number);
         if let Some(aims) = self.leads.get_mut(key) {
             if !aims.as_slice().contains(&aim) {
@@ -59,10 +77,10 @@ impl Leading {
         groups: &Groups,
     ) -> Result<Leading, AllocError> {
         let mut leading = Leading::new(alloc);
-        for message in messages {
+        for (place, message) in messages.iter().enumerate() {
             if let (Kind::Resolve(number, _), Some(entry)) = (message.kind, message.entry(0)) {
-                if let Some(aim) = lead_of(messages, groups, entry) {
-                    leading.lead(alloc, number, aim)?;
+                if let Some(lead) = lead_of(messages, groups, place, entry) {
+                    leading.lead(alloc, number, lead.aim)?;
                 }
             }
         }

@@ -50,3 +50,42 @@ impl Openings {
         Some(first)
     }
 }
+
+/// The openings of one end's questions, by number and in their order.
+#[derive(Drop)]
+pub(crate) struct AskedQuestions {
+    places: RisingTable<Vec<usize>>,
+}
+
+impl AskedQuestions {
+    /// No openings.
+    pub(crate) fn new(alloc: Global) -> AskedQuestions {
+        AskedQuestions {
+            places: RisingTable::new(alloc),
+        }
+    }
+
+    /// The frame of this place, behind those before it, opens this number.
+    pub(crate) fn opened(
+        &mut self,
+        alloc: Global,
+        number: u32,
+        frame: usize,
+    ) -> Result<(), AllocError> {
+        let key = u64::from(number);
+        if let Some(places) = self.places.get_mut(key) {
+            places.push(frame)?;
+            return Ok(());
+        }
+        let mut places = Vec::new(alloc);
+        places.push(frame)?;
+        self.places.put(key, places)
+    }
+
+    /// The last frame before this place that opens this number.
+    pub(crate) fn opening_before(&self, number: u32, place: usize) -> Option<usize> {
+        let places = self.places.get(u64::from(number))?.as_slice();
+        let before = places.partition_point(|opening| *opening < place);
+        places.get(before.checked_sub(1)?).copied()
+    }
+}

@@ -42,21 +42,21 @@ fn delivered_by(steps: &[Placed<'_>], vat: u32, at: usize) -> Option<(usize, Nam
 
 /// A record that makes a call, and the reference through which it does.
 #[derive(Clone, Copy)]
-struct Making {
+struct MadeCall {
     at: usize,
     call: Name,
     through: u64,
 }
 
 /// What a step makes, if it makes a call.
-fn making_of(placed: &Placed<'_>) -> Option<Making> {
+fn making_of(placed: &Placed<'_>) -> Option<MadeCall> {
     match placed.step {
         Step::Make {
             vat,
             number,
             reference,
             ..
-        } => Some(Making {
+        } => Some(MadeCall {
             at: placed.at,
             call: Name {
                 maker: *vat,
@@ -69,7 +69,7 @@ fn making_of(placed: &Placed<'_>) -> Option<Making> {
 }
 
 /// The record that makes a call.
-fn making_in(steps: &[Placed<'_>], call: Name) -> Option<Making> {
+fn making_in(steps: &[Placed<'_>], call: Name) -> Option<MadeCall> {
     let mut made = steps.iter().filter_map(making_of);
     made.find(|making| making.call == call)
 }
@@ -78,7 +78,7 @@ fn making_in(steps: &[Placed<'_>], call: Name) -> Option<Making> {
 fn made_before(
     alloc: Global,
     steps: &[Placed<'_>],
-    early: Making,
+    early: MadeCall,
 ) -> Result<BTreeSet<u64>, AllocError> {
     let mut calls = BTreeSet::new(alloc);
     for other in steps.iter().filter_map(making_of) {
@@ -148,7 +148,7 @@ fn put_pair(
     text: &mut NoteText,
     logs: &Logs<'_>,
     steps: &[Placed<'_>],
-    early: Making,
+    early: MadeCall,
     late: (Placed<'_>, Name),
 ) {
     let (delivery, overtaken) = late;

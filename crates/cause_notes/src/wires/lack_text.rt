@@ -44,6 +44,10 @@ fn lack_sentence(lack: Lack) -> (&'static str, u32) {
             id,
         ),
         Lack::PromiseOpen(id) => ("export #, a promise in life without a Resolve", id),
+        Lack::PromiseLeads(id) => (
+            "an export # that became what its Resolve names: it was passed on while it was open",
+            id,
+        ),
         Lack::LoopbackFree(id) => ("the echo of loopback #", id),
         Lack::LeadsElsewhere(id) => (
             "a target of loopback # that leads to what isn't reached over this connection",

@@ -15,7 +15,7 @@ use report_lines::{report_sentence, why_sentence};
 use std::alloc::Global;
 use vat_log::VatLog;
 use vat_rules::Why;
-use wire_cut::End;
+use wire_cut::{End, Overtaking};
 
 /// The two files, that of the first end before that of the second.
 type WireFiles<'a> = [&'a (String, Bytes); 2];
@@ -120,6 +120,37 @@ fn put_open(alloc: Global, text: &mut NoteText, file: &(String, Bytes), log: &Va
     }
 }
 
+/// Appends the notes of messages whose calls came in the other order, if there are any of this end.
+fn put_overtaking(text: &mut NoteText, files: WireFiles<'_>, overtaking: Option<Overtaking>) {
+    let Some(overtaking) = overtaking else {
+        return;
+    };
+    let name = at_end(files, overtaking.end).0.as_str();
+    text.file("note: ", name, ": messages ");
+    text.tell(
+        "# and # came in the other order; if they were made through one reference, that is a fault\n",
+        &[overtaking.earlier, overtaking.later],
+    );
+    if overtaking.others > 0 {
+        text.file("note: ", name, ": ");
+        text.tell(
+            "# more came before one that was sent earlier\n",
+            &[overtaking.others],
+        );
+    }
+}
+
+/// Appends the notes beside a yes: of calls that came in the other order, and of what is open.
+fn put_yes(alloc: Global, text: &mut NoteText, files: WireFiles<'_>, found: &WireAnswer) {
+    let [of_a, of_b] = found.overtaking;
+    put_overtaking(text, files, of_a);
+    put_overtaking(text, files, of_b);
+    if let Some(logs) = &found.logs {
+        put_open(alloc, text, at_end(files, End::A), &logs.log_of_a);
+        put_open(alloc, text, at_end(files, End::B), &logs.log_of_b);
+    }
+}
+
 /// Appends the note of what a file is that doesn't begin with a frame, where that is found.
 fn put_bytewise(alloc: Global, text: &mut NoteText, file: &(String, Bytes)) {
     let (name, bytes) = file;
@@ -174,12 +205,7 @@ fn put_left(alloc: Global, text: &mut NoteText, file: &(String, Bytes), frames: 
 /// Appends the notes of what the line says.
 fn put_of_line(alloc: Global, text: &mut NoteText, files: WireFiles<'_>, found: &WireAnswer) {
     match found.line {
-        WireLine::Yes { .. } => {
-            if let Some(logs) = &found.logs {
-                put_open(alloc, text, at_end(files, End::A), &logs.log_of_a);
-                put_open(alloc, text, at_end(files, End::B), &logs.log_of_b);
-            }
-        }
+        WireLine::Yes { .. } => put_yes(alloc, text, files, found),
         WireLine::No { end, message, rule } => {
             put_no(alloc, text, files, found, (end, message), Some(rule))
         }

@@ -29,6 +29,8 @@ pub struct AskedWire<'a> {
     pub a: &'a str,
     /// The name of the file with what the second end sent.
     pub b: &'a str,
+    /// Whether all calls to a capability are taken to be made through one reference.
+    pub one_reference: bool,
     /// The folder for the logs, where they are asked for.
     pub folder: Option<&'a str>,
 }
@@ -100,17 +102,24 @@ fn asked_folder(
 fn found_of<R: Threads + Wait + Sync, G: Watch + Sync, H: Hears>(
     host: &Host<'_, R, G>,
     capture: &Capture,
-    folder: Option<&str>,
+    asked: &AskedWire<'_>,
     heard: &mut H,
 ) -> Result<ConnectionAnswer, AllocError>
     ensures { IfOk result
-        (λ made. AnswersCapture (option_map (λ n. n.now) folder.entry) (Ok capture.now)
+        (λ made. AnswersCapture (option_map (λ n. n.now) asked.now.folder) (Ok capture.now)
         (line (answer_text made.answer)) (answer_status made.answer) (folder_bytes made.folder)) }
 {
     host.watch.begins(2, 1);
-    let found = explain_wire(host.rt, host.alloc, &capture.a, &capture.b, host.watch)?;
+    let found = explain_wire(
+        host.rt,
+        host.alloc,
+        &capture.a,
+        &capture.b,
+        asked.one_reference,
+        host.watch,
+    )?;
     heard.hear_wire(&found);
-    let folder = asked_folder(host.alloc, folder, &found.logs)?;
+    let folder = asked_folder(host.alloc, asked.folder, &found.logs)?;
     let answer = Answer::Wire(found.line);
     mem::forget(found);
     Ok(ConnectionAnswer { answer, folder })
@@ -131,14 +140,14 @@ fn fault_answer(fault: Fault) -> ConnectionAnswer
 fn capture_answer<R: Threads + Wait + Sync, G: Watch + Sync, H: Hears>(
     host: &Host<'_, R, G>,
     capture: &Capture,
-    folder: Option<&str>,
+    asked: &AskedWire<'_>,
     heard: &mut H,
 ) -> ConnectionAnswer
-    ensures { AnswersCapture (option_map (λ n. n.now) folder.entry) (Ok capture.now)
+    ensures { AnswersCapture (option_map (λ n. n.now) asked.now.folder) (Ok capture.now)
         (line (answer_text result.answer)) (answer_status result.answer)
         (folder_bytes result.folder) }
 {
-    match found_of(host, capture, folder, heard) {
+    match found_of(host, capture, asked, heard) {
         Ok(found) => found,
         Err(AllocError) => fault_answer(Fault::OutOfMemory),
     }
@@ -156,7 +165,7 @@ fn wire_answer<R: Threads + Wait + Sync, G: Watch + Sync, S: Source, H: Hears>(
         (answer_status result.answer) (folder_bytes result.folder) source.new }
 {
     match capture_of(source, asked.a, asked.b) {
-        Ok(capture) => capture_answer(host, &capture, asked.folder, heard),
+        Ok(capture) => capture_answer(host, &capture, asked, heard),
         Err(fault) => fault_answer(Fault::from(fault)),
     }
 }

@@ -1,7 +1,7 @@
 //! How far a call came that has no Return, over all vats, and where it stands.
 
 use crate::call_steps::Does;
-use crate::open::open_case::{LogEnd, OpenCase};
+use crate::open::open_case::{EndedLog, OpenCase};
 use crate::open::open_log::{Fate, OpenLog};
 use past_records::NoteText;
 use std::alloc::AllocError;
@@ -147,7 +147,7 @@ impl Way {
 
 /// The way of a call that has no Return, from this record of a log on, which sent or received it as this question.
 pub(crate) fn way_of(
-    told: LogEnd<'_, '_>,
+    told: EndedLog<'_, '_>,
     question: TableKey,
     call: u64,
     at: usize,

@@ -1,7 +1,7 @@
 //! The notes of what is open at the end of good logs.
 
 use crate::open::call_ways::{put_way, way_of};
-use crate::open::open_case::{LogEnd, OpenCase};
+use crate::open::open_case::{EndedLog, OpenCase};
 use crate::open::open_log::Aborted;
 use crate::open::under_way::put_under_way;
 use crate::open_counts::OpenCounts;
@@ -16,7 +16,7 @@ pub(crate) const MOST: usize = 5;
 /// Appends the note of a question without a Return: its call, how far that came, and where it stands.
 fn put_question(
     text: &mut NoteText,
-    told: LogEnd<'_, '_>,
+    told: EndedLog<'_, '_>,
     question: TableKey,
     call: u64,
     at: usize,
@@ -41,7 +41,7 @@ fn put_question(
 
 /// Appends the note of what is open at the end of a log: of a question without a Return, a loopback without an echo, or a promise
 /// that the vat vowed and neither kept nor broke.
-fn put_left(text: &mut NoteText, told: LogEnd<'_, '_>, left: &Open) {
+fn put_left(text: &mut NoteText, told: EndedLog<'_, '_>, left: &Open) {
     let vat = u64::from(told.vat());
     match left {
         Open::Question { question, call, at } => put_question(text, told, *question, *call, *at),
@@ -63,7 +63,7 @@ fn put_left(text: &mut NoteText, told: LogEnd<'_, '_>, left: &Open) {
 }
 
 /// Appends the notes of what is open of a kind at the end of a log: of the first few, and how many more there are.
-fn put_kind<F: Fn(&Open) -> bool>(text: &mut NoteText, told: LogEnd<'_, '_>, kind: &str, is_of: F)
+fn put_kind<F: Fn(&Open) -> bool>(text: &mut NoteText, told: EndedLog<'_, '_>, kind: &str, is_of: F)
     requires { F.IsAlwaysCallable is_of }
 {
     let mut count = 0_usize;
@@ -87,7 +87,7 @@ fn put_more(text: &mut NoteText, vat: u32, count: usize, kind: &str) {
 }
 
 /// Appends the note of an abort, with its reason.
-fn put_abort(text: &mut NoteText, told: LogEnd<'_, '_>, abort: Aborted) {
+fn put_abort(text: &mut NoteText, told: EndedLog<'_, '_>, abort: Aborted) {
     let word = if abort.sent { "sent" } else { "received" };
     let vat = u64::from(told.vat());
     text.tell_of(
@@ -101,7 +101,7 @@ fn put_abort(text: &mut NoteText, told: LogEnd<'_, '_>, abort: Aborted) {
 }
 
 /// Appends the notes of the aborts of a log.
-fn put_aborts(text: &mut NoteText, told: LogEnd<'_, '_>) {
+fn put_aborts(text: &mut NoteText, told: EndedLog<'_, '_>) {
     let mut count = 0_usize;
     for abort in told.log.aborts.iter() {
         if told.is_told(abort.sent, abort.connection) {
@@ -115,7 +115,7 @@ fn put_aborts(text: &mut NoteText, told: LogEnd<'_, '_>) {
 }
 
 /// Appends the notes of what is open at the end of a log, and of its aborts, which may be why.
-fn put_log(text: &mut NoteText, told: LogEnd<'_, '_>) {
+fn put_log(text: &mut NoteText, told: EndedLog<'_, '_>) {
     put_aborts(text, told);
     put_kind(
         text,
@@ -147,6 +147,6 @@ fn put_log(text: &mut NoteText, told: LogEnd<'_, '_>) {
 pub fn put_good(alloc: Global, text: &mut NoteText, case: &OpenCase<'_>) {
     put_under_way(alloc, text, case);
     for log in case.logs.iter() {
-        put_log(text, LogEnd { alloc, case, log });
+        put_log(text, EndedLog { alloc, case, log });
     }
 }

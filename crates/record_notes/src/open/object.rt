@@ -1,7 +1,7 @@
 //! What is open at the end, as a JSON object (docs/FORMATS.md).
 
 use crate::open::call_ways::{Hop, Way, way_of};
-use crate::open::open_case::{LogEnd, OpenCase};
+use crate::open::open_case::{EndedLog, OpenCase};
 use crate::open::under_way::{UnderWay, all_under_way};
 use left_open::Open;
 use serde_json::{Map, Value, put};
@@ -139,7 +139,7 @@ fn under_way_objects(alloc: Global, case: &OpenCase<'_>) -> Result<Vec<Value>, A
 }
 
 /// The object of something that is open at the end of a log.
-fn left_object(told: LogEnd<'_, '_>, left: Open) -> Result<Value, AllocError> {
+fn left_object(told: EndedLog<'_, '_>, left: Open) -> Result<Value, AllocError> {
     let vat = told.vat();
     let mut object = ObjectMembers::new(told.alloc);
     match left {
@@ -188,7 +188,7 @@ fn kind_objects<F: Fn(&Open) -> bool>(
 {
     let mut list = Vec::new(alloc);
     for log in case.logs.iter() {
-        let told = LogEnd { alloc, case, log };
+        let told = EndedLog { alloc, case, log };
         for left in log.list.iter() {
             if is_of(left) && told.tells(left) {
                 push(&mut list, left_object(told, *left))?;

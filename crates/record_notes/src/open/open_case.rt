@@ -177,13 +177,13 @@ impl<'a> OpenCase<'a> {
 
 /// A log of a case, to be told of.
 #[derive(Clone, Copy)]
-pub(crate) struct LogEnd<'a, 'b> {
+pub(crate) struct EndedLog<'a, 'b> {
     pub(crate) alloc: Global,
     pub(crate) case: &'a OpenCase<'b>,
     pub(crate) log: &'a OpenLog<'b>,
 }
 
-impl LogEnd<'_, '_> {
+impl EndedLog<'_, '_> {
     /// The vat.
     pub(crate) fn vat(self) -> u32 {
         self.log.log.vat()

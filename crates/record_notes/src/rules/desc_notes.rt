@@ -26,7 +26,7 @@ impl Display for EntryText<'_> {
 
 /// An entry of the record's table, the reference beside it, and what it stands for.
 #[derive(Clone, Copy)]
-struct Entry<'a> {
+struct NotedEntry<'a> {
     place: usize,
     reference: u64,
     stands: Option<&'a View>,
@@ -111,7 +111,7 @@ fn open_end<'a>(past: &'a Past<'_>, place: usize, view: &'a View) -> Option<Borr
 }
 
 /// Notes of an entry that says senderHosted of what is still open, and says whether it does.
-fn put_open(past: &Past<'_>, text: &mut NoteText, entry: Entry<'_>, view: &View) -> bool {
+fn put_open(past: &Past<'_>, text: &mut NoteText, entry: NotedEntry<'_>, view: &View) -> bool {
     let Some(end) = open_end(past, entry.place, view) else {
         return false;
     };
@@ -153,7 +153,7 @@ pub(crate) fn put_apart(
 }
 
 /// Notes of an entry whose reference doesn't go for what it stands for; and says whether it doesn't, or memory was refused.
-fn put_if_amiss(past: &Past<'_>, text: &mut NoteText, entry: Entry<'_>) -> bool {
+fn put_if_amiss(past: &Past<'_>, text: &mut NoteText, entry: NotedEntry<'_>) -> bool {
     let Some(view) = text.granted(past.state.view_of_reference(entry.reference)) else {
         return true;
     };
@@ -185,7 +185,7 @@ fn put_amiss(past: &Past<'_>, text: &mut NoteText) -> bool {
         let (Some(reference), Some(stands)) = (references.next(), stands.get(place)) else {
             return false;
         };
-        let entry = Entry {
+        let entry = NotedEntry {
             place,
             reference: *reference,
             stands: stands.as_ref(),

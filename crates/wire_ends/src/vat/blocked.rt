@@ -19,12 +19,13 @@ impl Vat<'_> {
         }
         match message.kind {
             Kind::Return { .. } => self.lack_of_return(message),
+            Kind::Resolve(number, group) => self.lack_of_resolve(number, group, message),
             Kind::Echo(number, aim) => self.lack_of_echo(number, aim),
             _ => Ok(self.lack_of_other(place, message)),
         }
     }
 
-    /// What a message lacks that is neither a Return nor an echo.
+    /// What a message lacks that is no Return, no Resolve and no echo.
     fn lack_of_other(&mut self, place: usize, message: &Planned) -> Option<Lack> {
         match message.kind {
             Kind::Bootstrap(question) => self.numbers.lack_of_opening(question),
@@ -37,12 +38,12 @@ impl Vat<'_> {
             Kind::Finish(question, release) => {
                 self.numbers.lack_of_finish(self.files, question, release)
             }
-            Kind::Resolve(number, _) => self.numbers.lack_of_resolve(number, message),
             Kind::Release(number, count) => {
                 self.numbers.lack_of_release(number, u64::from(count))
             }
             Kind::Loopback(number, aim) => self.lack_of_loopback(number, aim),
-            Kind::Return { .. } | Kind::Echo(_, _) | Kind::Abort | Kind::Unread => None,
+            Kind::Return { .. } | Kind::Resolve(_, _) | Kind::Echo(_, _) => None,
+            Kind::Abort | Kind::Unread => None,
         }
     }
 
@@ -174,18 +175,78 @@ impl Vat<'_> {
         Ok(None)
     }
 
-    /// Whether what was told of a call's results leads to what an entry stands for, which is then told.
-    fn agrees(&mut self, call: usize, path: u32, entry: Entry) -> Result<bool, AllocError> {
-        let Some(target) = self.numbers.view_of_entry(entry) else {
+    /// Whether a view leads to an own object that gets the number of an entry, which is then told.
+    fn gets_number(&mut self, view: EndView, entry: Entry) -> Result<bool, AllocError> {
+        let Entry::Hosted(number) = entry else {
             return Ok(false);
         };
-        let NextView::To(view) = self.turns.turn_of(EndView::Field(call, path)) else {
+        let Some(EndView::Object(object)) = self.ahead().end_ahead(view) else {
             return Ok(false);
         };
-        if !self.ahead().leads_ahead(view, target) {
+        if !self.numbers.give_number(object, number)? {
             return Ok(false);
         }
-        self.tell_along(view, target)?;
+        self.tell_along(view, EndView::Object(object))?;
         Ok(true)
+    }
+
+    /// Whether a view leads to what an entry stands for, which is then told. An entry that stands for nothing yet may stand for
+    /// an own object to which the view leads, or for the view itself, which is passed on while it is open.
+    fn stands_for(&mut self, view: EndView, entry: Entry) -> Result<bool, AllocError> {
+        if let Some(target) = self.numbers.view_of_entry(entry) {
+            if self.ahead().leads_ahead(view, target) {
+                self.tell_along(view, target)?;
+                return Ok(true);
+            }
+        }
+        match entry {
+            Entry::Promised(number, group) if self.numbers.held_export(number).is_none() => {
+                self.pass_group(view, group)
+            }
+            _ => self.gets_number(view, entry),
+        }
+    }
+
+    /// Whether what was told of a call's results leads to what an entry stands for, which is then told.
+    fn agrees(&mut self, call: usize, path: u32, entry: Entry) -> Result<bool, AllocError> {
+        match self.turns.turn_of(EndView::Field(call, path)) {
+            NextView::To(view) => self.stands_for(view, entry),
+            NextView::Stays | NextView::Stops => Ok(false),
+        }
+    }
+
+    /// Whether what was passed on while it was open became what an entry stands for, which is then told.
+    fn became(&mut self, passed: EndView, entry: Entry) -> Result<bool, AllocError> {
+        if self.turns.turn_of(passed) == NextView::Stays && !self.tell(passed, true)? {
+            return Ok(false);
+        }
+        match self.turns.turn_of(passed) {
+            NextView::To(view) => self.stands_for(view, entry),
+            NextView::Stays | NextView::Stops => Ok(false),
+        }
+    }
+
+    /// Resolve: its number is a promise without one; and what that passed on became what it names.
+    fn lack_of_resolve(
+        &mut self,
+        number: u32,
+        group: Option<usize>,
+        message: &Planned,
+    ) -> Result<Option<Lack>, AllocError> {
+        let lack = self.numbers.lack_of_resolve(number, message);
+        if lack.is_some() {
+            return Ok(lack);
+        }
+        let Some(passed) = self.numbers.passed_view(group) else {
+            return Ok(None);
+        };
+        match message.entry(0) {
+            None | Some(Entry::NoCap) => Ok(None),
+            Some(entry) if self.became(passed, entry)? => {
+                self.settle_woken()?;
+                Ok(None)
+            }
+            Some(_) => Ok(Some(Lack::PromiseLeads(number))),
+        }
     }
 }

@@ -1,13 +1,14 @@
 //! What an end notes in its log, and the references that it names there.
 
 use crate::end_tables::call_number;
+use crate::second_references::EndSteps;
 use crate::vat::views::EndView;
 use cap_frame::Path;
 use rising_table::RisingTable;
 use std::alloc::{AllocError, Global};
 use std::collections::BTreeMap;
 use std::mem;
-use wire_steps::{EndStep, Steps};
+use wire_steps::Steps;
 
 /// The number of the first object that is made up. Those below are hosted under the export of the same number.
 const FIRST_MADE: u64 = 1 << 32;
@@ -29,9 +30,9 @@ pub(crate) struct EndNotes {
     pub log: Steps,
     /// How many references there are.
     pub references: u64,
-    /// How many objects were made up.
-    objects_made: u64,
-    /// The references of hosted exports by number.
+    /// The references of objects that were made up.
+    made: Vec<u64>,
+    /// The references of objects that are hosted as exports.
     hosted: RisingTable<u64>,
     /// The references of results.
     fields: BTreeMap<(u64, u32), u64>,
@@ -44,35 +45,45 @@ impl EndNotes {
             alloc,
             log: Steps::new(alloc),
             references: 0,
-            objects_made: 0,
+            made: Vec::new(alloc),
             hosted: RisingTable::new(alloc),
             fields: BTreeMap::new(alloc),
         }
     }
 
     /// Takes the steps out.
-    pub(crate) fn take_steps(&mut self) -> Vec<EndStep> {
-        mem::replace(&mut self.log, Steps::new(self.alloc)).into_steps()
+    pub(crate) fn take_steps(&mut self) -> EndSteps {
+        EndSteps {
+            steps: mem::replace(&mut self.log, Steps::new(self.alloc)).into_steps(),
+            references: self.references,
+        }
     }
 
-    /// The reference of the object that is hosted as an export.
-    pub(crate) fn hosted(&mut self, number: u32) -> Result<u64, AllocError> {
-        let key = u64::from(number);
-        if let Some(reference) = self.hosted.get(key) {
-            return Ok(*reference);
+    /// The reference of an object, if it has one.
+    fn reference_of(&self, object: u64) -> Option<u64> {
+        match object.checked_sub(FIRST_MADE) {
+            Some(place) => self.made.get(place as usize).copied(),
+            None => self.hosted.get(object).copied(),
+        }
+    }
+
+    /// The reference of an object that was made up, or is hosted as an export.
+    pub(crate) fn hosted(&mut self, object: u64) -> Result<u64, AllocError> {
+        if let Some(reference) = self.reference_of(object) {
+            return Ok(reference);
         }
         let reference = next_reference(&mut self.references);
-        self.log.host(reference, key)?;
-        self.hosted.put(key, reference)?;
+        self.log.host(reference, object)?;
+        self.hosted.put(object, reference)?;
         Ok(reference)
     }
 
     /// A new object that goes out nowhere: its reference and what that stands for.
     pub(crate) fn new_object(&mut self) -> Result<(u64, EndView), AllocError> {
         let reference = next_reference(&mut self.references);
-        let object = FIRST_MADE.saturating_add(self.objects_made);
-        self.objects_made = self.objects_made.saturating_add(1);
+        let object = FIRST_MADE.saturating_add(self.made.len() as u64);
         self.log.host(reference, object)?;
+        self.made.push(reference)?;
         Ok((reference, EndView::Object(object)))
     }
 

@@ -18,8 +18,13 @@ pub(crate) struct EndNumbers {
     pub answers: RisingTable<Question>,
     pub exports: RisingTable<Held>,
     pub imports: RisingTable<Held>,
+    /// The objects that are hosted under the numbers of others: of each number the last.
+    objects: RisingTable<u64>,
     /// The promises of the file's groups.
     pub group_promises: RisingTable<usize>,
+    /// What groups stand for that aren't promises of this end, but what it passes on while it is open: a reference and what
+    /// that stands for.
+    pub passed_groups: RisingTable<(u64, EndView)>,
 }
 
 impl EndNumbers {
@@ -30,7 +35,9 @@ impl EndNumbers {
             answers: RisingTable::new(alloc),
             exports: RisingTable::new(alloc),
             imports: RisingTable::new(alloc),
+            objects: RisingTable::new(alloc),
             group_promises: RisingTable::new(alloc),
+            passed_groups: RisingTable::new(alloc),
         }
     }
 
@@ -83,6 +90,21 @@ impl EndNumbers {
         if held.count == 0 { None } else { Some(held) }
     }
 
+    /// The object that is hosted under a number: that of this number, or another one that got it.
+    pub(crate) fn object_of(&self, number: u32) -> u64 {
+        let own = u64::from(number);
+        self.objects.get(own).copied().unwrap_or(own)
+    }
+
+    /// An object gets a number, if that isn't in life. Whether it has it then.
+    pub(crate) fn give_number(&mut self, object: u64, number: u32) -> Result<bool, AllocError> {
+        if self.held_export(number).is_some() {
+            return Ok(false);
+        }
+        self.objects.put(u64::from(number), object)?;
+        Ok(true)
+    }
+
     /// What the target of an own message stands for.
     pub(crate) fn view_of_own(&self, aim: Aim) -> Option<EndView> {
         match aim {
@@ -102,17 +124,31 @@ impl EndNumbers {
         }
     }
 
+    /// What a group stands for, if it was introduced or told before.
+    fn view_of_group(&self, group: usize) -> Option<EndView> {
+        match self.passed_groups.get(group as u64) {
+            Some((_, view)) => Some(*view),
+            None => Some(EndView::Vow(*self.group_promises.get(group as u64)?)),
+        }
+    }
+
+    /// What a number stands for that is no promise of this end, but what it passes on while it is open.
+    pub(crate) fn passed_view(&self, group: Option<usize>) -> Option<EndView> {
+        let (_, view) = self.passed_groups.get(group? as u64)?;
+        Some(*view)
+    }
+
     /// What an entry of an own table stands for where it goes out, if that is there.
     pub(crate) fn view_of_entry(&self, entry: Entry) -> Option<EndView> {
         match entry {
             Entry::NoCap => None,
             Entry::Hosted(number) => match self.held_export(number) {
                 Some(held) => Some(held.view),
-                None => Some(EndView::Object(u64::from(number))),
+                None => Some(EndView::Object(self.object_of(number))),
             },
             Entry::Promised(number, group) => match self.held_export(number) {
                 Some(held) => Some(held.view),
-                None => Some(EndView::Vow(*self.group_promises.get(group as u64)?)),
+                None => self.view_of_group(group),
             },
             Entry::ReceiverHosted(number) => {
                 let held = self.import(number)?;
@@ -150,12 +186,12 @@ impl EndNumbers {
         }
     }
 
-    /// An import comes in under this reference.
+    /// An import comes in under this reference: a promise, where it belongs to a group of the peer's.
     fn take_in(
         &mut self,
         lives: &mut Vec<Life>,
         number: u32,
-        is_promise: bool,
+        group: Option<usize>,
         reference: u64,
     ) -> Result<(), AllocError> {
         if hold(&mut self.imports, number) {
@@ -165,8 +201,9 @@ impl EndNumbers {
         lives.push(Life {
             reference,
             turn: NextView::Stays,
+            group,
         })?;
-        begin(&mut self.imports, number, is_promise, view)
+        begin(&mut self.imports, number, group.is_some(), view)
     }
 
     /// A table comes in: a new reference for each entry but none, in its order; imports are introduced.
@@ -185,8 +222,10 @@ impl EndNumbers {
             let reference = next_reference(made);
             references.push(reference)?;
             match entry {
-                Entry::Hosted(number) => self.take_in(lives, *number, false, reference)?,
-                Entry::Promised(number, _) => self.take_in(lives, *number, true, reference)?,
+                Entry::Hosted(number) => self.take_in(lives, *number, None, reference)?,
+                Entry::Promised(number, group) => {
+                    self.take_in(lives, *number, Some(*group), reference)?
+                }
                 _ => {}
             }
         }

@@ -7,6 +7,7 @@ mod end_files;
 mod end_notes;
 mod end_numbers;
 mod end_turns;
+mod holding_back;
 mod number_lacks;
 mod passed_on;
 mod receiving;
@@ -55,6 +56,10 @@ pub(crate) struct Vat<'a> {
     pub is_aborted: bool,
     /// The message that goes out without the call that it hands on.
     pub hurried: Option<usize>,
+    /// It holds promises until their Resolves come, as far as that goes.
+    pub is_patient: bool,
+    /// The message that is held back no longer.
+    pub let_go: Option<usize>,
 }
 
 impl Drop for Vat<'_> {
@@ -74,13 +79,15 @@ impl Drop for Vat<'_> {
             digests: _,
             is_aborted: _,
             hurried: _,
+            is_patient: _,
+            let_go: _,
         } = self;
     }
 }
 
 impl<'a> Vat<'a> {
-    /// An end at its beginning.
-    pub(crate) fn new(alloc: Global, end: End, plan: &'a WirePlan) -> Vat<'a> {
+    /// An end at its beginning. A patient one holds promises until their Resolves come, as far as that goes.
+    pub(crate) fn new(alloc: Global, end: End, plan: &'a WirePlan, is_patient: bool) -> Vat<'a> {
         Vat {
             alloc,
             files: EndFiles { end, plan },
@@ -96,6 +103,8 @@ impl<'a> Vat<'a> {
             digests: BTreeMap::new(alloc),
             is_aborted: false,
             hurried: None,
+            is_patient,
+            let_go: None,
         }
     }
 

@@ -17,8 +17,11 @@ impl Vat<'_> {
         })
     }
 
-    /// The promise of a group, if it was made.
+    /// The promise of a group, if it was made, or what it passes on.
     fn made_promise(&self, group: usize) -> Option<(u64, EndView)> {
+        if let Some(passed) = self.numbers.passed_groups.get(group as u64) {
+            return Some(*passed);
+        }
         let place = self.numbers.group_promises.get(group as u64)?;
         self.turns.vow_at(*place)
     }
@@ -43,6 +46,30 @@ impl Vat<'_> {
         }
         let fields = self.files.plan.paths.path(self.alloc, path)?;
         self.notes.new_field(call, path, fields)
+    }
+
+    /// A reference of what may still be open: a promise, a result or an import.
+    fn reference_to(&mut self, view: EndView) -> Result<Option<u64>, AllocError> {
+        match view {
+            EndView::Object(_) => Ok(None),
+            EndView::Vow(place) => Ok(self.turns.vow_at(place).map(|named| named.0)),
+            EndView::Import(_) => Ok(self.turns.life_at(view).map(|named| named.0)),
+            EndView::Field(call, path) => Ok(Some(self.field(call, path)?)),
+        }
+    }
+
+    /// What may still be open goes out as the promise of a group, if that stands for nothing yet. Whether it does then.
+    pub(crate) fn pass_group(&mut self, view: EndView, group: usize) -> Result<bool, AllocError> {
+        if self.made_promise(group).is_some() {
+            return Ok(false);
+        }
+        let Some(reference) = self.reference_to(view)? else {
+            return Ok(false);
+        };
+        self.numbers
+            .passed_groups
+            .put(group as u64, (reference, view))?;
+        Ok(true)
     }
 
     /// The import of a number, in its last life: the reference with which that began. An object where there was none.
@@ -72,10 +99,10 @@ impl Vat<'_> {
     pub(crate) fn named(&mut self, entry: Entry) -> Result<(u64, EndView), AllocError> {
         match entry {
             Entry::NoCap => self.notes.new_object(),
-            Entry::Hosted(number) => Ok((
-                self.notes.hosted(number)?,
-                EndView::Object(u64::from(number)),
-            )),
+            Entry::Hosted(number) => {
+                let object = self.numbers.object_of(number);
+                Ok((self.notes.hosted(object)?, EndView::Object(object)))
+            }
             Entry::Promised(_, group) => self.promised(group),
             Entry::ReceiverHosted(number) => self.imported(number),
             Entry::ReceiverAnswer(question, path) => self.asked(question, path),

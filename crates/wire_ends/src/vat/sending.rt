@@ -166,6 +166,9 @@ impl Vat<'_> {
 
     /// What the promise of a group becomes is told, at the latest before its Resolve.
     fn tell_group(&mut self, group: usize, is_broken: bool) -> Result<(), AllocError> {
+        if self.numbers.passed_view(Some(group)).is_some() {
+            return Ok(());
+        }
         if let (_, EndView::Vow(place)) = self.promised(group)? {
             if is_broken {
                 self.turns.break_promise(&mut self.notes.log, place)?;
@@ -203,7 +206,7 @@ impl Vat<'_> {
                 Entry::Hosted(number) | Entry::Promised(number, _)
                     if hold(&mut self.numbers.exports, *number) => {}
                 Entry::Hosted(number) => {
-                    let view = EndView::Object(u64::from(*number));
+                    let view = EndView::Object(self.numbers.object_of(*number));
                     begin(&mut self.numbers.exports, *number, false, view)?;
                 }
                 Entry::Promised(number, group) => {

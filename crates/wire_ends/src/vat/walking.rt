@@ -121,6 +121,20 @@ impl LookAhead<'_> {
         false
     }
 
+    /// Where a view would lead in the end if what the own file says were told now.
+    pub(crate) fn end_ahead(&self, from: EndView) -> Option<EndView> {
+        let mut view = from;
+        let mut circle = ViewWalk::new(from);
+        for _ in 0..MAX_TURNS {
+            match self.turn_ahead(view) {
+                NextView::Stays => return Some(view),
+                NextView::To(next) if !circle.closes(next) => view = next,
+                NextView::To(_) | NextView::Stops => return None,
+            }
+        }
+        None
+    }
+
     /// Whether a call waits here and leads to where the own Call with this digest goes.
     pub(crate) fn may_pass(&self, call: usize, digest: u64, target: EndView) -> bool {
         let Some(state) = self.turns.call(call) else {

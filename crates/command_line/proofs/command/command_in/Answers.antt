@@ -2,7 +2,7 @@ use Rattle.std.proofs.Common.{◌∙◌, sym}
 use Rattle.clap.specs.Words.{first_value, found_of}
 use Rattle.command_line.proofs.Matched.{besides_of, checked_as, has_subcommand, input_there, is_some_by, matched, number_as, read_as, set_as, spells_one, thing_is}
 use Rattle.command_line.proofs.Named.{checking, drawing, framing, graphing, joining, last_command, listing, migrating, of_frames, of_vat, ordering, running, salvaging, wiring}
-use Rattle.command_line.specs.Parser.{count, dot, html, input, later, most, other, path, start, workers}
+use Rattle.command_line.specs.Parser.{count, dot, html, input, later, most, one_reference, other, path, start, workers}
 use Rattle.command_line.proofs.command.command_in.Goals as goal
 
 pub unreachable-requires : goal.unreachable-requires
@@ -168,6 +168,7 @@ returns-in-wire-clause-spelled c words are =
         read_as m wiring c.in-wire.is,
         thing_is m _ c.value_of-input.ensures,
         sym (m.each other) ∙ c.value_of-in-wire.ensures,
+        set_as m one_reference _ c.is_set-in-wire.ensures,
         sym (m.each path) ∙ c.given_value.ensures,
       ),
     )

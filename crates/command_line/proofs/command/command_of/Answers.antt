@@ -3,7 +3,7 @@ use Rattle.clap.specs.Words.{kind_of}
 use Rattle.clap.specs.declared.error.ErrorKind.TheVariants.{OutOfMemory, ValueValidation}
 use Rattle.clap.proofs.TakesLemmas.{passed_up}
 use Rattle.command_line.proofs.Matched.{fails_by_memory, fails_by_value, handed_on, refused_never}
-use Rattle.command_line.proofs.Taken.{refuses_part, refuses_workers, takes_after_dashes, takes_check, takes_draw, takes_draw_page, takes_draw_part, takes_draw_workers, takes_frame_later, takes_graph_dot, takes_join, takes_migrate, takes_migrate_later, takes_one, takes_order, takes_part, takes_records, takes_salvage, takes_wire, takes_wire_out, takes_workers}
+use Rattle.command_line.proofs.Taken.{refuses_part, refuses_workers, takes_after_dashes, takes_check, takes_draw, takes_draw_page, takes_draw_part, takes_draw_workers, takes_frame_later, takes_graph_dot, takes_join, takes_migrate, takes_migrate_later, takes_one, takes_order, takes_part, takes_records, takes_salvage, takes_wire, takes_wire_one_reference, takes_wire_out, takes_workers}
 use Rattle.command_line.proofs.command.command_of.Goals as goal
 
 pub returns-in_err-command-clause-taken : goal.returns-in_err-command-clause-taken
@@ -94,6 +94,11 @@ pub returns-in_err-command-clause-taken_wire_out : goal.returns-in_err-command-c
 returns-in_err-command-clause-taken_wire_out g c first one another out spelled plain unflagged neither =
     passed_up c.from_residual.result c.in_err-command.field-0.0 (λ e. kind_of e ≡ OutOfMemory) c.from_residual.ensures.1
     (fails_by_memory (map g.S.AsStr.text c.args.words.now) (first ∷ codes "wire" ∷ one ∷ another ∷ codes "--out" ∷ out ∷ []) c.in_err-command.field-0.0 c.in_err-command.ensures.kinds spelled (takes_wire_out first one another out plain unflagged neither))
+
+pub returns-in_err-command-clause-taken_wire_one_reference : goal.returns-in_err-command-clause-taken_wire_one_reference
+returns-in_err-command-clause-taken_wire_one_reference g c first one another spelled plain unflagged =
+    passed_up c.from_residual.result c.in_err-command.field-0.0 (λ e. kind_of e ≡ OutOfMemory) c.from_residual.ensures.1
+    (fails_by_memory (map g.S.AsStr.text c.args.words.now) (first ∷ codes "wire" ∷ codes "--one-reference" ∷ one ∷ another ∷ []) c.in_err-command.field-0.0 c.in_err-command.ensures.kinds spelled (takes_wire_one_reference first one another plain unflagged))
 
 pub returns-in_err-command-clause-taken_join : goal.returns-in_err-command-clause-taken_join
 returns-in_err-command-clause-taken_join g c first one another out spelled plain unflagged neither =

@@ -180,6 +180,7 @@ impl Heard {
             frames: answer.frames,
             left: answer.left,
             waiting: answer.waiting,
+            overtaking: answer.overtaking,
         });
     }
 

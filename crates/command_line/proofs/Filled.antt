@@ -22,7 +22,7 @@ use Rattle.clap.specs.declared.parser.matches.ValueSource.TheVariants.{DefaultVa
 use Rattle.clap.specs.declared.builder.value_parser.Reading.{Reading}
 use Rattle.clap.specs.declared.builder.value_parser.ValueParser.{ValueParser}
 use Rattle.clap.specs.declared.builder.value_parser.ValueParser.TheVariants as parser
-use Rattle.command_line.specs.Parser.{count, dot, html, later, most, start, workers}
+use Rattle.command_line.specs.Parser.{count, dot, html, later, most, one_reference, start, workers}
 use Rattle.command_line.proofs.Faultless.{first_none, never, then_none}
 
 -- ---- rows that have values, which pass
@@ -31,7 +31,7 @@ use Rattle.command_line.proofs.Faultless.{first_none, never, then_none}
 abbrev pub parser_by : Text → ValueParser
 parser_by id =
     if bytes_eq workers id then parser.Unsigned 1 64 else (if bytes_eq start id || bytes_eq count id then parser.Unsigned 0 most
-    else (if bytes_eq later id || (bytes_eq dot id || bytes_eq html id) then parser.Bool else parser.String))
+    else (if bytes_eq later id || (bytes_eq one_reference id || (bytes_eq dot id || bytes_eq html id)) then parser.Bool else parser.String))
 
 abbrev pub Passes : Text → List Text → Type 0
 Passes id [] = ⊤

@@ -22,7 +22,7 @@ use Rattle.command_line.proofs.Faultless.{first_none, never, then_none}
 use Rattle.command_line.proofs.Filled.{AllBring, AreFull, Brings, default_row, first_passes, given_value, level_full, no_default, parser_by, replaced_full, row_value, values_full, values_pass}
 use Rattle.command_line.proofs.Named.{IsOneOf, Named, Reader, all_names, checking, drawing, framing, graphing, help_word, joining, listing, migrating, name_of, of_frames, of_vat, ordering, reading, running, salvaging, which, wiring, word_of}
 use Rattle.command_line.proofs.One.{HasFile, at, dashes, help, holding, main, names, sub, word_plain, words_read}
-use Rattle.command_line.specs.Parser.{auditor, count, dot, draw, flag_rule, folder_rule, frame, graph, html, input, input_rule, join, later, logs_rule, migrate, most, number_rule, other, other_rule, path, path_rule, program, records, start, wire, workers, workers_rule, writer}
+use Rattle.command_line.specs.Parser.{auditor, count, dot, draw, flag_rule, folder_rule, frame, graph, html, input, input_rule, join, later, one_reference, logs_rule, migrate, most, number_rule, other, other_rule, path, path_rule, program, records, start, wire, workers, workers_rule, writer}
 use Rattle.command_line.specs.Spelled.{IsChecked, SpellsOne}
 
 -- ---- the first word
@@ -261,7 +261,7 @@ brings drawing =
 brings migrating = (brings_case, tt, (brings_flag later refl, (refl, tt), (brings_path, tt, (brings_help, tt, tt))))
 brings graphing = (brings_case, tt, (brings_flag dot refl, (refl, tt), (brings_workers, (refl, tt), (brings_help, tt, tt))))
 brings salvaging = (brings_case, tt, (brings_path, tt, (brings_help, tt, tt)))
-brings wiring = (brings_case, tt, (brings_other, tt, (brings_folder, tt, (brings_help, tt, tt))))
+brings wiring = (brings_case, tt, (brings_other, tt, (brings_flag one_reference refl, (refl, tt), (brings_folder, tt, (brings_help, tt, tt)))))
 brings joining = (brings_logs, tt, (brings_path, tt, (brings_help, tt, tt)))
 brings framing = (brings_case, tt, (brings_flag later refl, (refl, tt), (brings_help, tt, tt)))
 brings listing = (brings_case, tt, (brings_number start refl, tt, (brings_number count refl, tt, (brings_help, tt, tt))))

@@ -103,27 +103,37 @@ fn put_bad_vats(
 
 /// Appends the note of the logs that are good by themselves.
 fn put_good_vats(text: &mut NoteText, findings: &Findings) {
-    let mut between = "note: good by themselves: vat #";
+    let mut any = false;
     let good = findings.vats().iter().filter(|finding| is_good(finding));
     for finding in good.take(MOST) {
-        text.tell(between, &[u64::from(finding.log().vat())]);
-        between = ", vat #";
+        text.words(if any {
+            ", "
+        } else {
+            "note: good by themselves: "
+        });
+        text.tell("vat #", &[u64::from(finding.log().vat())]);
+        any = true;
     }
-    if between == ", vat #" {
+    if any {
         text.words("\n");
     }
 }
 
 /// Appends the note of the connections on which all that was received was sent so.
 fn put_good_links(text: &mut NoteText, findings: &Findings) {
-    let mut between = "note: received as sent: connection #";
+    let mut any = false;
     let links = findings.links().iter();
     let good = links.filter(|link| matches!(link.outcome(), LinkOutcome::Good { .. }));
     for link in good.take(MOST) {
-        text.tell(between, &[u64::from(link.connection())]);
-        between = ", connection #";
+        text.words(if any {
+            ", "
+        } else {
+            "note: received as sent: "
+        });
+        text.tell("connection #", &[u64::from(link.connection())]);
+        any = true;
     }
-    if between == ", connection #" {
+    if any {
         text.words("\n");
     }
 }

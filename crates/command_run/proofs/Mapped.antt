@@ -38,5 +38,5 @@ module _ {W F E X : Type 0} (in_out : W → Option (List ℕ)) (out_done : W →
   carried gives (Draw name path first steps is_page many) old new c = mapped _ c
   carried gives (Migrate name later path) old new c = (c.0, c.1, mapped _ c.2)
   carried gives (Salvage name path) old new c = (c.0, c.1, mapped _ c.2)
-  carried gives (Wire one another out) old new c = mapped _ c
+  carried gives (Wire one another has_one out) old new c = mapped _ c
   carried gives (Join names path) old new c = mapped _ c

@@ -38,5 +38,5 @@ module _ {W F E X : Type 0} (to_out : Writing W) (in_file : F â†’ Option (List â
   tells gives (Order name path) old new c = told _ c
   tells gives (Migrate name later path) old new c = (c.0, c.1, told _ c.2)
   tells gives (Salvage name path) old new c = (c.0, c.1, told _ c.2)
-  tells gives (Wire one another out) old new c = told _ c
+  tells gives (Wire one another has_one out) old new c = told _ c
   tells gives (Join names path) old new c = told _ c

@@ -131,40 +131,23 @@ impl Openings {
         (self.keeps && !lasts).then(|| Vec::new(alloc))
     }
 
-    /// All bytes under a name; those of standard input are there once. Where they can't be read the reason is told.
-    pub(crate) fn read<R: LogHost>(
+    /// All bytes of standard input, which are there once. Where they can't be read the reason is told.
+    pub(crate) fn read_input<I: Read + Drop>(
         &mut self,
-        rt: &R,
-        name: &str,
+        alloc: Global,
+        input: I,
         why: &mut Option<io::Error>,
     ) -> Result<Bytes, SourceError> {
-        if name != "-" {
-            return read_file(rt.alloc(), rt.open_log(name), why);
-        }
         if self.input_was_read {
             *why = Some(read_before());
             return Err(SourceError::CannotRead);
         }
         self.input_was_read = true;
-        read_all(rt.alloc(), rt.log_input(), 0, why)
-    }
-
-    /// What hands out the bytes under a name.
-    pub(crate) fn open<R: LogHost>(
-        &mut self,
-        rt: &R,
-        name: &str,
-    ) -> FolderReader<R::LogFile, R::LogInput>
-        ensures { result.pieces ≡ record { bytes = []; is_over = false } }
-    {
-        if name == "-" {
-            return self.of_input(rt.alloc(), rt.log_input());
-        }
-        self.of_file(rt.alloc(), rt.open_log(name))
+        read_all(alloc, input, 0, why)
     }
 
     /// What hands out a file that was opened.
-    fn of_file<F: Read + OpenFile + Drop, I>(
+    pub(crate) fn of_file<F: Read + OpenFile + Drop, I>(
         &mut self,
         alloc: Global,
         opened: io::Result<F>,
@@ -186,7 +169,7 @@ impl Openings {
     }
 
     /// What hands out standard input, once.
-    fn of_input<F, I: Drop>(&mut self, alloc: Global, input: I) -> FolderReader<F, I>
+    pub(crate) fn of_input<F, I: Drop>(&mut self, alloc: Global, input: I) -> FolderReader<F, I>
         ensures { result.pieces ≡ record { bytes = []; is_over = false } }
     {
         if self.input_was_read {
@@ -227,11 +210,21 @@ impl<R: LogHost> Source for Folder<'_, R> {
     type Reader = FolderReader<R::LogFile, R::LogInput>;
 
     fn read(&mut self, name: &str) -> Result<Bytes, SourceError> {
-        self.openings.read(self.rt, name, &mut None)
+        let alloc = self.rt.alloc();
+        if name == "-" {
+            let input = self.rt.log_input();
+            return self.openings.read_input(alloc, input, &mut None);
+        }
+        read_file(alloc, self.rt.open_log(name), &mut None)
     }
 
     fn open(&mut self, name: &str) -> FolderReader<R::LogFile, R::LogInput> {
-        self.openings.open(self.rt, name)
+        let alloc = self.rt.alloc();
+        if name == "-" {
+            let input = self.rt.log_input();
+            return self.openings.of_input(alloc, input);
+        }
+        self.openings.of_file(alloc, self.rt.open_log(name))
     }
 
     fn close(

@@ -166,13 +166,24 @@ impl<R: LogHost> Source for RememberingFolder<'_, R> {
 
     fn read(&mut self, name: &str) -> Result<Bytes, SourceError> {
         self.refusal = None;
-        let read = self.openings.read(self.rt, name, &mut self.refusal);
+        let alloc = self.rt.alloc();
+        let read = if name == "-" {
+            let input = self.rt.log_input();
+            self.openings.read_input(alloc, input, &mut self.refusal)
+        } else {
+            read_file(alloc, self.rt.open_log(name), &mut self.refusal)
+        };
         let _ = self.keep(name, &read);
         read
     }
 
     fn open(&mut self, name: &str) -> FolderReader<R::LogFile, R::LogInput> {
-        self.openings.open(self.rt, name)
+        let alloc = self.rt.alloc();
+        if name == "-" {
+            let input = self.rt.log_input();
+            return self.openings.of_input(alloc, input);
+        }
+        self.openings.of_file(alloc, self.rt.open_log(name))
     }
 
     fn close(

@@ -40,7 +40,7 @@ use proved_by::ProgramVersion;
 use report_lines::Fault;
 use schema_names::SchemaNames;
 use schemas::{SchemaFault, names_of, say_bad_schema};
-use std::alloc::AllocError;
+use std::alloc::{AllocError, Global};
 use std::io::{IsTerminal, Write};
 use std::process::ExitCode;
 use std::rt::Files;
@@ -214,6 +214,19 @@ fn run_with_progress<R: Host, W: Write, N: Write + Drop>(
     )
 }
 
+/// An output of lines as JSON objects, with names where these are told.
+fn json_output<'a, W: Write>(
+    alloc: Global,
+    telling: Telling<'a>,
+    out: &'a mut W,
+) -> JsonOutput<'a, W> {
+    let lines = JsonOutput::new(alloc, out);
+    match telling.names {
+        Some(names) => lines.with_names(names),
+        None => lines,
+    }
+}
+
 /// Runs a command with lines as JSON objects, the last of which has the notes where none asks for quiet.
 fn run_in_json<R: Host, W: Write>(
     rt: &R,
@@ -225,10 +238,7 @@ fn run_in_json<R: Host, W: Write>(
     requires { HasWorkers command.now }
 {
     let alloc = rt.alloc();
-    let mut lines = JsonOutput::new(alloc, out);
-    if let Some(names) = telling.names {
-        lines = lines.with_names(names);
-    }
+    let mut lines = json_output(alloc, telling, out);
     if telling.is_quiet {
         return run_as_json(rt, alloc, command, &mut Folder::new(rt), &mut lines, made);
     }

@@ -19,7 +19,7 @@ pub struct JsonText<'a> {
     alloc: Global,
     names: Option<&'a SchemaNames>,
     text: String,
-    separator: &'static str,
+    separator: &'a str,
     depth: usize,
     notes_at: Option<usize>,
     open_at: Option<usize>,

@@ -53,7 +53,8 @@ rm -rf "$room"/copy*
 failed=0
 # (some kits' rt ci begins with what was proved on this machine before, unless it is told not to)
 anew=()
-if rt help 2>&1 | grep -q -- --anew; then anew=(--anew); fi
+# (not by grep -q: it would end before rt has printed all, which counts as a failure here)
+if rt help 2>&1 | grep -- --anew >/dev/null; then anew=(--anew); fi
 seconds_of "$told/gate.txt" bash .ci/run "${anew[@]}" || failed=1
 python3 - "$told/gate.txt" "$room/alone" "$room"/beside*.seconds <<'END'
 import re, sys

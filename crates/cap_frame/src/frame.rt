@@ -4,8 +4,8 @@ ghost use Rattle.std.specs.Prelude.{◌≡◌, ◌<◌, ◌≤◌, ◌^◌, ◌&
 ghost use Rattle.cap_frame.specs.Segments.{word_at, first_len_of, segments_of, IsOneFrame, Spells};
 
 use crate::frame_error::FrameError;
+use crate::loads::word_from;
 use crate::table::{check, count_in, first_len_in, size_in, table_len_for, words_before};
-use byteorder::{ByteOrder, LittleEndian};
 use bytes::Bytes;
 use std::marker::Model;
 
@@ -121,8 +121,7 @@ impl Frame {
             return None;
         }
         let at = self.first + 8 * index;
-        let (_, rest) = self.bytes.as_slice().split_at(at as usize);
-        Some(LittleEndian::read_u64(rest))
+        Some(word_from(self.bytes.as_slice(), at as usize))
     }
 
     /// Whether a segment whose size is found anew is there and has so many words.
@@ -152,7 +151,6 @@ impl Frame {
             return None;
         }
         let at = table_len_for(count) + 8 * (words_before(bytes, segment) + index);
-        let (_, rest) = bytes.split_at(at as usize);
-        Some(LittleEndian::read_u64(rest))
+        Some(word_from(bytes, at as usize))
     }
 }

@@ -4,7 +4,7 @@ ghost use Rattle.std.specs.Prelude.{◌≡◌, ◌<◌, ◌≤◌, ◌+◌, ◌*
 ghost use Rattle.cap_frame.specs.Segments.{segment_count, sizes_of, table_len, content, first_len_of, segments_of};
 
 use crate::frame_error::FrameError;
-use byteorder::{ByteOrder, LittleEndian};
+use crate::loads::number_from;
 
 /// The greatest number of segments that a frame may have.
 const MAX_SEGMENTS: u64 = 512;
@@ -16,7 +16,7 @@ pub fn count_in(bytes: &[u8]) -> u64
     ensures bound { result ≤ 2 ^ 32 }
     ensures bytes { EachIndex bytes.now (λ i. slice_index bytes.now i < 256) }
 {
-    u64::from(LittleEndian::read_u32(bytes)) + 1
+    u64::from(number_from(bytes, 0)) + 1
 }
 
 /// The bytes of a table for so many segments, its padding among them.
@@ -34,9 +34,7 @@ pub fn size_in(bytes: &[u8], segment: u64) -> u64
     ensures size { result ≡ slice_index (sizes_of bytes.now) segment }
     ensures bound { result < 2 ^ 32 }
 {
-    let at = 4 * (segment as usize + 1);
-    let (_, rest) = bytes.split_at(at);
-    u64::from(LittleEndian::read_u32(rest))
+    u64::from(number_from(bytes, 4 * (segment as usize + 1)))
 }
 
 /// The words of the segments before the one of this number.

@@ -1,6 +1,4 @@
-use Rattle.std.proofs.Common.{◌+◌, ◌*◌, ◌≤◌, length, ap, sym, ◌∙◌, arith}
-use Rattle.std.proofs.lemmas.List.{length-drop}
-use Rattle.byteorder.specs.Endian.{little_number}
+use Rattle.std.proofs.Common.{ap, sym, ◌∙◌, arith}
 use Rattle.cap_frame.specs.Segments.{segment_count, table_len}
 use Rattle.cap_frame.proofs.Frames.{IsFrame-of_kept, no_segment, no_word_at, word_read, word_fits}
 use Rattle.cap_frame.proofs.frame.Frame.word_of.Goals as goal
@@ -22,20 +20,12 @@ pub words_before-requires-clause-few : goal.words_before-requires-clause-few
 words_before-requires-clause-few c =
     (IsFrame-of_kept _ c.self.inside.bytes c.as_slice-bytes.ensures c.self.invariant.0).few
 
-pub split_at-requires : goal.split_at-requires
-split_at-requires c =
+pub word_from-requires : goal.word_from-requires
+word_from-requires c =
     let bytes = c.as_slice-bytes.result.now in
     let frame = IsFrame-of_kept bytes c.self.inside.bytes c.as_slice-bytes.ensures c.self.invariant.0 in
     let fits = word_fits bytes c.from-segment.result c.args.index frame (omega arith) (omega arith) in
     omega (arith, fits, c.words_before.ensures.sum, c.table_len_for.ensures, ap table_len c.count_in-count.ensures.count)
-
-pub read_u64-requires : goal.read_u64-requires
-read_u64-requires c =
-    let bytes = c.as_slice-bytes.result.now in
-    let frame = IsFrame-of_kept bytes c.self.inside.bytes c.as_slice-bytes.ensures c.self.invariant.0 in
-    let fits = word_fits bytes c.from-segment.result c.args.index frame (omega arith) (omega arith) in
-    let end : c.table_len_for.result + 8 * (c.words_before.result + c.args.index) + 8 ≤ length bytes = omega (arith, fits, c.words_before.ensures.sum, c.table_len_for.ensures, ap table_len c.count_in-count.ensures.count) in
-    rw c.split_at.ensures.back (omega (arith, end, length-drop (c.table_len_for.result + 8 * (c.words_before.result + c.args.index)) bytes))
 
 pub returns-then-segment-count : goal.returns-then-segment-count
 returns-then-segment-count c =
@@ -46,4 +36,4 @@ returns-then-segment-count c =
 
 pub returns : goal.returns
 returns c =
-    rw (← c.self.view_is) (word_read c.as_slice-bytes.result.now c.self.inside.bytes c.args.segment c.from-segment.result c.args.index c.table_len_for.result c.words_before.result c.read_u64.result c.as_slice-bytes.ensures c.from-segment.ensures (omega arith) (omega arith) (c.table_len_for.ensures ∙ ap table_len c.count_in-count.ensures.count) c.words_before.ensures.sum (c.read_u64.ensures ∙ ap (little_number 8) c.split_at.ensures.back))
+    rw (← c.self.view_is) (word_read c.as_slice-bytes.result.now c.self.inside.bytes c.args.segment c.from-segment.result c.args.index c.table_len_for.result c.words_before.result c.word_from.result c.as_slice-bytes.ensures c.from-segment.ensures (omega arith) (omega arith) (c.table_len_for.ensures ∙ ap table_len c.count_in-count.ensures.count) c.words_before.ensures.sum c.word_from.ensures)

@@ -97,7 +97,7 @@ pub fn read_bytes(
     // Running out of memory is `OutOfMemory` alone, and never a pointer's fault.
     ensures memory { result ≢ Err (Read OutOfMemory) }
 {
-    let frame = Frame::read(bytes)?;
+    let frame = Frame::read(bytes.as_slice())?;
     let mut limits = limits;
     message(alloc, &frame, &mut limits, edition)
 }

@@ -15,10 +15,6 @@ use Rattle.decoded_records.specs.Glue.Parts.{has_message}
 abbrev pub IsNotedAlone : ℕ → DecodedRecord → Type 0
 IsNotedAlone c e = (has_message e ≡ true) × (references e ≡ []) × (question_opened e ≡ None) × (c ≡ noted_call e)
 
--- this call is all that a record names, and it binds nothing
-abbrev pub IsNamedAlone : ℕ → DecodedRecord → Type 0
-IsNamedAlone c e = (new_references e ≡ []) × (new_calls e ≡ []) × (named_references e ≡ []) × (named_calls e ≡ c ∷ []) × (notes_call e ≡ true)
-
 -- the reference that a record without a message binds, with its view, if it binds one
 abbrev pub own_bindings : DecodedRecord → List (ℕ × View)
 own_bindings (Host r object) = (r, Object object) ∷ []

@@ -3,10 +3,10 @@
 ghost use Rattle.std.specs.Prelude.{◌≡◌, not, Decides, IfOk, IfSome};
 ghost use Rattle.std.specs.List.{list_all};
 ghost use Rattle.decoded_records.specs.Bindings.{Refers, is_bound, is_bound_call, is_distinct, new_references, new_calls, named_references, named_calls, notes_call};
-ghost use Rattle.vat_view.specs.Glue.Plain.{IsNotedAlone, IsNamedAlone};
+ghost use Rattle.vat_view.specs.Glue.Plain.{IsNotedAlone};
 
 use crate::preconditions::reference_set::ReferenceSet;
-use crate::preconditions::uses::all_three;
+use crate::preconditions::uses::{all_three, both};
 use crate::state::VatState;
 use decoded_records::DecodedRecord;
 use rpc_view::RpcMessage;
@@ -140,12 +140,27 @@ fn noted_alone(event: &DecodedRecord) -> Option<u64>
     }
 }
 
-/// The call that a record names, where that is all it names: that of DELIVER or FAULT.
-fn named_alone(event: &DecodedRecord) -> Option<u64>
-    ensures { IfSome result (λ call. IsNamedAlone call event.now) }
+/// Whether a record refers as it should that binds and names one number or two; None of a record of another kind.
+fn refers_by_kind(state: &VatState, event: &DecodedRecord) -> Option<bool>
+    ensures { IfSome result (λ refers. Decides refers (Refers state.now event.now)) }
 {
     match event {
-        DecodedRecord::Deliver { call, .. } | DecodedRecord::Fault { call } => Some(*call),
+        DecodedRecord::Host { reference, .. } | DecodedRecord::Vow { reference } => {
+            Some(!state.is_bound(*reference))
+        }
+        DecodedRecord::Make {
+            call,
+            reference,
+            ..
+        } => Some(both(!state.is_bound_call(*call), state.is_bound(*reference))),
+        DecodedRecord::Field {
+            reference,
+            call,
+            ..
+        } => Some(both(!state.is_bound(*reference), state.is_bound_call(*call))),
+        DecodedRecord::Deliver { call, .. } | DecodedRecord::Fault { call } => {
+            Some(state.is_bound_call(*call))
+        }
         _ => None,
     }
 }
@@ -163,8 +178,8 @@ impl VatState {
         if let Some(call) = noted_alone(event) {
             return Ok(call == 0);
         }
-        if let Some(call) = named_alone(event) {
-            return Ok(self.is_bound_call(call));
+        if let Some(refers) = refers_by_kind(self, event) {
+            return Ok(refers);
         }
         let distinct = is_distinct(self.allocator(), event.new_references())?;
         let binds = all_three(

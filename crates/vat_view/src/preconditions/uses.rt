@@ -20,7 +20,7 @@ pub(crate) fn all_three(first: bool, second: bool, third: bool) -> bool
 }
 
 /// Whether two tests both hold; a function of its own for the same reason.
-fn both(first: bool, second: bool) -> bool
+pub(crate) fn both(first: bool, second: bool) -> bool
     ensures { result ≡ (first && second) }
 {
     first && second

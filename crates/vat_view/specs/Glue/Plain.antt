@@ -7,7 +7,6 @@ use Rattle.vat_view.specs.Types.{DecodedRecord, Host, Vow, Field, Wire, View, Ob
 use Rattle.decoded_records.specs.Questions.{question_opened, noted_call}
 use Rattle.decoded_records.specs.Lives.{descriptors}
 use Rattle.decoded_records.specs.Views.{references}
-use Rattle.decoded_records.specs.Bindings.{new_references, new_calls, named_references, named_calls, notes_call}
 use Rattle.vat_view.specs.Glue.Tables.{view_by, bound_from}
 use Rattle.decoded_records.specs.Glue.Parts.{has_message}
 

@@ -39,6 +39,7 @@ impl<'a> Frame<'a> {
     /// specification ("Serialization Over a Stream"). Else the first fault: [`FrameError::Short`] with fewer than 4
     /// bytes, [`FrameError::TooManySegments`], `Short` where the sizes, the padding or the segments don't fit,
     /// [`FrameError::Trailing`], [`FrameError::NoRoot`]. The padding may hold anything. It takes no memory.
+    #[inline]
     pub fn read(bytes: &'a [u8]) -> Result<Frame<'a>, FrameError>
         // Which segments, or which fault.
         ensures exact { result ≡ segments_of bytes.now }
@@ -77,6 +78,7 @@ impl<'a> Frame<'a> {
     }
 
     /// How many segments there are, 1 to 512. Each has fewer than 2^32 words.
+    #[inline]
     pub fn segments(&self) -> u32
         ensures count { result ≡ length self.now }
         ensures bound { result ≤ 512 }
@@ -86,7 +88,7 @@ impl<'a> Frame<'a> {
     }
 
     /// Whether the segment of this number, counted from 0, is there and has so many words.
-    #[inline]
+    #[inline(always)]
     pub fn has_words(&self, segment: u32, count: u64) -> bool
         ensures value { result
             ≡ (nat_lt segment (length self.now)
@@ -101,7 +103,7 @@ impl<'a> Frame<'a> {
     }
 
     /// The word at a place of a segment, both counted from 0, or None where there is none.
-    #[inline]
+    #[inline(always)]
     pub fn word(&self, segment: u32, index: u64) -> Option<u64>
         ensures { result ≡ word_at self.now segment index }
     {
@@ -113,7 +115,7 @@ impl<'a> Frame<'a> {
     }
 
     /// The word at a place of the first segment.
-    #[inline]
+    #[inline(always)]
     fn first_word(&self, index: u64) -> Option<u64>
         ensures { result ≡ word_at self.now 0 index }
     {

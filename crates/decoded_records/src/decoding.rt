@@ -16,6 +16,7 @@ use std::alloc::Global;
 use vat_log::Body;
 
 /// The message of a frame's bytes, which stay where they are.
+#[inline]
 fn message_in(
     alloc: Global,
     bytes: &Bytes,
@@ -80,6 +81,7 @@ impl DecodedRecord {
     /// # Errors
     ///
     /// Why the frame isn't read, or that memory ran out.
+    #[inline]
     pub fn read(
         alloc: Global,
         body: &Body,

@@ -11,6 +11,7 @@ use std::alloc::AllocError;
 use vat_view::{DecodedRecord, VatState};
 
 /// Whether a Finish beside which no reference is noted is good.
+#[inline]
 fn is_good_finish(
     edition: Edition,
     state: &VatState,
@@ -33,6 +34,7 @@ fn is_good_finish(
 }
 
 /// Whether a Release beside which no reference is noted is good.
+#[inline]
 fn is_good_release(
     edition: Edition,
     state: &VatState,
@@ -56,6 +58,7 @@ fn is_good_release(
 
 /// Whether a record is good, where a few look-ups tell it: one that binds a reference or a call, and a Finish or a Release. False
 /// tells nothing.
+#[inline]
 pub(crate) fn is_good_plainly(
     edition: Edition,
     state: &VatState,

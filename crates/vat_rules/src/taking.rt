@@ -30,6 +30,7 @@ pub(crate) enum Refusal {
 }
 
 /// Applies a good record. Where memory runs out, the state is as it was.
+#[inline(always)]
 pub(crate) fn apply_good(state: &mut VatState, event: &DecodedRecord) -> Result<(), AllocError>
     requires { IsSound state.old event.now }
     ensures ok { OnOk result (state.new ≡ event.now ∷ state.old) }
@@ -62,6 +63,7 @@ fn apply_if_good_by_facts(
 
 /// Judges a record by an edition, and applies it if it is good; else the first rule that it breaks, and the state is as it
 /// was. So it is where memory runs out.
+#[inline]
 pub(crate) fn apply_if_good(
     alloc: Global,
     edition: Edition,
@@ -81,6 +83,7 @@ pub(crate) fn apply_if_good(
 }
 
 /// The facts of a record, by the state that it was applied to last and what its numbers stood for before.
+#[inline]
 fn facts_of(
     alloc: Global,
     state: &VatState,

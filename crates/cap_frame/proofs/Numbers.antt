@@ -1,10 +1,15 @@
 -- Numbers that stand one after another, read by their places.
-use Rattle.std.proofs.Common.{◌≡◌, ℕ, zero, suc, ◌+◌, ◌*◌, ◌<◌, List, [], ◌∷◌, length, get_or, take, drop, refl, sym, ap, ◌∙◌, arith}
-use Rattle.std.specs.Prelude.{sum}
+use Rattle.std.proofs.Common.{◌≡◌, ℕ, zero, suc, ◌+◌, ◌-◌, ◌*◌, ◌<◌, List, [], ◌∷◌, length, get_or, take, drop, refl, sym, ap, ◌∙◌, arith}
+use Rattle.std.specs.Prelude.{sum, slice_range}
 use Rattle.std.proofs.lemmas.List.{drop-drop}
 use Rattle.std.proofs.lemmas.List.Sums.{sum_by-cons}
 use Rattle.byteorder.specs.Endian.{little_number}
+use Rattle.byteorder.specs.Numbers.{little_from-take}
 use Rattle.cap_frame.specs.Segments.{numbers, cut_segments}
+
+-- a number is the same in the cut that is as long
+pub number_cut : (width at : ℕ) (bytes : List ℕ) → little_number width (slice_range bytes at (at + width)) ≡ little_number width (drop at bytes)
+number_cut width at bytes = little_from-take 0 width (at + width - at) (drop at bytes) (omega arith)
 
 pub length-numbers : (width n : ℕ) (bytes : List ℕ) → length (numbers width n bytes) ≡ n
 unfolding numbers

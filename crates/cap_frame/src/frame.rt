@@ -4,52 +4,53 @@ ghost use Rattle.std.specs.Prelude.{◌≡◌, ◌<◌, ◌≤◌, ◌^◌, ◌&
 ghost use Rattle.cap_frame.specs.Segments.{word_at, first_len_of, segments_of, IsOneFrame, Spells};
 
 use crate::frame_error::FrameError;
+use crate::loads::word_from;
 use crate::table::{check, count_in, first_len_in, size_in, table_len_for, words_before};
-use byteorder::{ByteOrder, LittleEndian};
-use bytes::Bytes;
 use std::marker::Model;
 
-/// A frame: its segments, each a list of words of 8 bytes. Contracts see it as those lists. It keeps the bytes, and where
-/// the first segment lies in them, since most frames have one alone; for another segment each call finds its place anew.
+/// A frame: its segments, each a list of words of 8 bytes. Contracts see it as those lists. Its bytes are lent, and it keeps
+/// where the first segment lies in them, since most frames have one alone; for another segment each call finds its place
+/// anew.
 #[derive(Debug, Drop)]
-pub struct Frame {
-    bytes: Bytes,
+pub struct Frame<'a> {
+    bytes: &'a [u8],
     /// How many bytes stand before the first segment.
     first: u64,
     /// How many words the first segment has.
     size: u64,
 }
 
-impl Model for Frame {
+impl<'a> Model for Frame<'a> {
     ghost use Rattle.std.specs.Prelude.{◌≡◌, ◌<◌, ◌^◌, List, ℕ, Ok, slice_index};
     ghost use Rattle.cap_frame.specs.Segments.{content, segments_of, segment_count, sizes_of, table_len};
 
     ghost Value = { List (List ℕ) };
 
-    ghost view = { λ frame. content frame.bytes };
+    ghost view = { λ frame. content frame.bytes.now };
 
-    ghost invariant = { λ frame. (segments_of frame.bytes ≡ Ok (content frame.bytes))
-        × (frame.first ≡ table_len (segment_count frame.bytes))
-        × (frame.size ≡ slice_index (sizes_of frame.bytes) 0)
+    ghost invariant = { λ frame. (segments_of frame.bytes.now ≡ Ok (content frame.bytes.now))
+        × (frame.first ≡ table_len (segment_count frame.bytes.now))
+        × (frame.size ≡ slice_index (sizes_of frame.bytes.now) 0)
         × (frame.first < 2 ^ 32) × (frame.size < 2 ^ 32) };
 }
 
-impl Frame {
+impl<'a> Frame<'a> {
     /// The frame that the bytes spell, all of the bytes, by the stream framing of the Cap'n Proto encoding
     /// specification ("Serialization Over a Stream"). Else the first fault: [`FrameError::Short`] with fewer than 4
     /// bytes, [`FrameError::TooManySegments`], `Short` where the sizes, the padding or the segments don't fit,
     /// [`FrameError::Trailing`], [`FrameError::NoRoot`]. The padding may hold anything. It takes no memory.
-    pub fn read(bytes: Bytes) -> Result<Frame, FrameError>
+    #[inline]
+    pub fn read(bytes: &'a [u8]) -> Result<Frame<'a>, FrameError>
         // Which segments, or which fault.
-        ensures exact { result ≡ segments_of bytes }
+        ensures exact { result ≡ segments_of bytes.now }
         // What is read is spelled so.
-        ensures found { IfOk result (λ segments. Spells bytes segments) }
+        ensures found { IfOk result (λ segments. Spells bytes.now segments) }
         // What is spelled so is read, whatever the padding.
-        ensures only { (segments : List (List ℕ)) → Spells bytes segments → result ≡ Ok segments }
+        ensures only { (segments : List (List ℕ)) → Spells bytes.now segments → result ≡ Ok segments }
     {
-        check(bytes.as_slice())?;
-        let first = table_len_for(count_in(bytes.as_slice()));
-        let size = size_in(bytes.as_slice(), 0);
+        check(bytes)?;
+        let first = table_len_for(count_in(bytes));
+        let size = size_in(bytes, 0);
         Ok(Frame { bytes, first, size })
     }
 
@@ -77,16 +78,17 @@ impl Frame {
     }
 
     /// How many segments there are, 1 to 512. Each has fewer than 2^32 words.
+    #[inline]
     pub fn segments(&self) -> u32
         ensures count { result ≡ length self.now }
         ensures bound { result ≤ 512 }
         ensures sized { (segment : ℕ) → length (slice_index_or self.now segment []) < 2 ^ 32 }
     {
-        count_in(self.bytes.as_slice()) as u32
+        count_in(self.bytes) as u32
     }
 
     /// Whether the segment of this number, counted from 0, is there and has so many words.
-    #[inline]
+    #[inline(always)]
     pub fn has_words(&self, segment: u32, count: u64) -> bool
         ensures value { result
             ≡ (nat_lt segment (length self.now)
@@ -101,7 +103,7 @@ impl Frame {
     }
 
     /// The word at a place of a segment, both counted from 0, or None where there is none.
-    #[inline]
+    #[inline(always)]
     pub fn word(&self, segment: u32, index: u64) -> Option<u64>
         ensures { result ≡ word_at self.now segment index }
     {
@@ -113,7 +115,7 @@ impl Frame {
     }
 
     /// The word at a place of the first segment.
-    #[inline]
+    #[inline(always)]
     fn first_word(&self, index: u64) -> Option<u64>
         ensures { result ≡ word_at self.now 0 index }
     {
@@ -121,8 +123,7 @@ impl Frame {
             return None;
         }
         let at = self.first + 8 * index;
-        let (_, rest) = self.bytes.as_slice().split_at(at as usize);
-        Some(LittleEndian::read_u64(rest))
+        Some(word_from(self.bytes, at as usize))
     }
 
     /// Whether a segment whose size is found anew is there and has so many words.
@@ -134,7 +135,7 @@ impl Frame {
             && nat_le count (length (slice_index_or self.now segment []))) }
         ensures short { IsTrue result → count < 2 ^ 32 }
     {
-        let bytes = self.bytes.as_slice();
+        let bytes = self.bytes;
         let segment = u64::from(segment);
         segment < count_in(bytes) && count <= size_in(bytes, segment)
     }
@@ -145,14 +146,13 @@ impl Frame {
     fn word_of(&self, segment: u32, index: u64) -> Option<u64>
         ensures { result ≡ word_at self.now segment index }
     {
-        let bytes = self.bytes.as_slice();
+        let bytes = self.bytes;
         let count = count_in(bytes);
         let segment = u64::from(segment);
         if segment >= count || index >= size_in(bytes, segment) {
             return None;
         }
         let at = table_len_for(count) + 8 * (words_before(bytes, segment) + index);
-        let (_, rest) = bytes.split_at(at as usize);
-        Some(LittleEndian::read_u64(rest))
+        Some(word_from(bytes, at as usize))
     }
 }

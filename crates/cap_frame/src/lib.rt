@@ -7,6 +7,7 @@
 
 mod frame;
 mod frame_error;
+mod loads;
 mod path;
 mod table;
 

@@ -51,6 +51,7 @@ impl Debug for Path {
 }
 
 /// How few numbers are kept; None where they are many.
+#[inline]
 fn few(fields: &[u16]) -> Option<Kept>
     ensures { IfSome result (λ kept. numbers_of kept ≡ fields.now) }
 {
@@ -78,6 +79,7 @@ fn many(alloc: Global, fields: &[u16], field: u16) -> Result<Kept, AllocError>
 
 impl Path {
     /// The path of these numbers. The only error is that memory ran out; a path of at most four numbers takes none.
+    #[inline]
     pub fn new(fields: Vec<u16>) -> Result<Path, AllocError>
         ensures { IfOk result (λ path. path ≡ fields.items) }
     {
@@ -90,6 +92,7 @@ impl Path {
 
     /// The path of the numbers that are lent. The only error is that memory ran out; a path of at most four numbers takes
     /// none.
+    #[inline]
     pub fn from_slice(alloc: Global, fields: &[u16]) -> Result<Path, AllocError>
         ensures { IfOk result (λ path. path ≡ fields.now) }
     {
@@ -101,6 +104,7 @@ impl Path {
 
     /// The path that leads on from this one by one more number. The only error is that memory ran out; a path of at most
     /// four numbers takes none.
+    #[inline]
     pub fn longer(&self, alloc: Global, field: u16) -> Result<Path, AllocError>
         ensures { IfOk result (λ path. path ≡ self.now ++ field ∷ []) }
     {
@@ -115,6 +119,7 @@ impl Path {
     }
 
     /// The numbers, the outermost struct's first.
+    #[inline]
     pub fn as_slice(&self) -> &[u16]
         ensures { result.now ≡ self.now }
     {
@@ -130,6 +135,7 @@ impl Path {
 
     /// A second path with the same numbers, which takes no memory. The only error is that memory ran out, where a path has more
     /// copies than can be counted.
+    #[inline]
     pub fn copy(&self) -> Result<Path, AllocError>
         ensures { IfOk result (λ path. path ≡ self.now) }
     {

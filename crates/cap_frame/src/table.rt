@@ -4,22 +4,24 @@ ghost use Rattle.std.specs.Prelude.{◌≡◌, ◌<◌, ◌≤◌, ◌+◌, ◌*
 ghost use Rattle.cap_frame.specs.Segments.{segment_count, sizes_of, table_len, content, first_len_of, segments_of};
 
 use crate::frame_error::FrameError;
-use byteorder::{ByteOrder, LittleEndian};
+use crate::loads::number_from;
 
 /// The greatest number of segments that a frame may have.
 const MAX_SEGMENTS: u64 = 512;
 
 /// How many segments the bytes speak of.
+#[inline(always)]
 pub fn count_in(bytes: &[u8]) -> u64
     requires { 4 ≤ length bytes.now }
     ensures count { result ≡ segment_count bytes.now }
     ensures bound { result ≤ 2 ^ 32 }
     ensures bytes { EachIndex bytes.now (λ i. slice_index bytes.now i < 256) }
 {
-    u64::from(LittleEndian::read_u32(bytes)) + 1
+    u64::from(number_from(bytes, 0)) + 1
 }
 
 /// The bytes of a table for so many segments, its padding among them.
+#[inline(always)]
 pub fn table_len_for(count: u64) -> u64
     requires { count ≤ 2 ^ 32 }
     ensures { result ≡ table_len count }
@@ -28,15 +30,14 @@ pub fn table_len_for(count: u64) -> u64
 }
 
 /// The size in words of the segment of this number, counted from 0.
+#[inline(always)]
 pub fn size_in(bytes: &[u8], segment: u64) -> u64
     requires known { segment < segment_count bytes.now }
     requires table { table_len (segment_count bytes.now) ≤ length bytes.now }
     ensures size { result ≡ slice_index (sizes_of bytes.now) segment }
     ensures bound { result < 2 ^ 32 }
 {
-    let at = 4 * (segment as usize + 1);
-    let (_, rest) = bytes.split_at(at);
-    u64::from(LittleEndian::read_u32(rest))
+    u64::from(number_from(bytes, 4 * (segment as usize + 1)))
 }
 
 /// The words of the segments before the one of this number.
@@ -56,6 +57,7 @@ pub fn words_before(bytes: &[u8], segment: u64) -> u64
 
 /// How many bytes the frame that stands first takes, or the first fault, whatever stands after it.
 #[tactic(auto, using(crate::proofs::Frames::sum_all), unfolding(crate::specs::Segments::first_len_of))]
+#[inline]
 pub fn first_len_in(bytes: &[u8]) -> Result<u64, FrameError>
     ensures exact { result ≡ first_len_of bytes.now }
     ensures table { OnOk result (table_len (segment_count bytes.now) ≤ length bytes.now) }
@@ -83,6 +85,7 @@ pub fn first_len_in(bytes: &[u8]) -> Result<u64, FrameError>
 
 /// Finds the first fault of the bytes, if they aren't a frame.
 #[tactic(auto, unfolding(crate::specs::Segments::segments_of))]
+#[inline]
 pub fn check(bytes: &[u8]) -> Result<(), FrameError>
     ensures exact { MatchResult result (λ _. segments_of bytes.now ≡ Ok (content bytes.now))
         (λ fault. segments_of bytes.now ≡ Err fault) }

@@ -9,6 +9,7 @@ use crate::place::StructAt;
 use cap_frame::Frame;
 
 /// A word of the section, counted from 0.
+#[inline(always)]
 fn word_at(frame: &Frame, place: &StructAt, index: u32) -> u64
     ensures { result ≡ data_at frame.now place.now index }
 {
@@ -23,6 +24,7 @@ fn word_at(frame: &Frame, place: &StructAt, index: u32) -> u64
 /// The number of two bytes, the lowest first, at a byte of the data section, counted from 0, which is a multiple of 2.
 /// What a shorter struct lacks is 0. A field with another default is stored as the exclusive or with it, which is the
 /// caller's to undo (encoding specification, "Default Values").
+#[inline(always)]
 pub fn u16_at(frame: &Frame, place: &StructAt, byte: u32) -> u16
     requires { byte % 2 ≡ 0 }
     ensures { result ≡ u16_in byte (sections_at frame.now place.now).word }
@@ -32,6 +34,7 @@ pub fn u16_at(frame: &Frame, place: &StructAt, byte: u32) -> u16
 
 /// The number of four bytes, the lowest first, at a byte of the data section, counted from 0, which is a multiple of 4.
 /// What a shorter struct lacks is 0; another default is the caller's to undo, as in [`u16_at`].
+#[inline(always)]
 pub fn u32_at(frame: &Frame, place: &StructAt, byte: u32) -> u32
     requires { byte % 4 ≡ 0 }
     ensures { result ≡ u32_in byte (sections_at frame.now place.now).word }
@@ -41,6 +44,7 @@ pub fn u32_at(frame: &Frame, place: &StructAt, byte: u32) -> u32
 
 /// The number of eight bytes, the lowest first, at a byte of the data section, counted from 0, which is a multiple of
 /// 8. What a shorter struct lacks is 0; another default is the caller's to undo, as in [`u16_at`].
+#[inline(always)]
 pub fn u64_at(frame: &Frame, place: &StructAt, byte: u32) -> u64
     requires { byte % 8 ≡ 0 }
     ensures { result ≡ u64_in byte (sections_at frame.now place.now).word }
@@ -50,6 +54,7 @@ pub fn u64_at(frame: &Frame, place: &StructAt, byte: u32) -> u64
 
 /// Whether a bit of the data section is set, counted from 0, the lowest of a byte first. What a shorter struct lacks is
 /// false; another default is the caller's to undo, as in [`u16_at`].
+#[inline(always)]
 pub fn bit_at(frame: &Frame, place: &StructAt, bit: u32) -> bool
     ensures { result ≡ bit_in bit (sections_at frame.now place.now).word }
 {

@@ -6,6 +6,7 @@ ghost use Rattle.cap_reader.specs.Pointers.{words_of, has_words, extent as exten
 use cap_frame::Frame;
 
 /// The word at a place, 0 where there is none.
+#[inline(always)]
 pub fn word_or_zero(frame: &Frame, segment: u32, at: u64) -> u64
     ensures { result ≡ slice_index (words_of frame.now segment) at }
 {
@@ -13,6 +14,7 @@ pub fn word_or_zero(frame: &Frame, segment: u32, at: u64) -> u64
 }
 
 /// Whether the segment is there and has so many words.
+#[inline(always)]
 pub fn reaches(frame: &Frame, segment: u32, count: u64) -> bool
     ensures value { result ≡ has_words frame.now segment count }
     ensures short { IsTrue result → count < 2 ^ 32 }
@@ -22,6 +24,7 @@ pub fn reaches(frame: &Frame, segment: u32, count: u64) -> bool
 
 /// The start, where that many words from it on lie in the segment.
 #[tactic(auto, unfolding(crate::specs::Pointers::extent))]
+#[inline(always)]
 pub fn extent(frame: &Frame, segment: u32, start: Option<u64>, size: u64) -> Option<u32>
     ensures value { result ≡ extent_in frame.now segment start size }
     ensures short { IfSome result (λ at. at + size < 2 ^ 32) }

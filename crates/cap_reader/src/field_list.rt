@@ -22,6 +22,7 @@ impl Model for Fields {
 
 impl Fields {
     /// The list of these. It takes no memory.
+    #[inline(always)]
     pub fn new(items: Vec<(Path, u32)>) -> Fields
         ensures { result ≡ items.items }
     {
@@ -29,6 +30,7 @@ impl Fields {
     }
 
     /// The paths with their indices, in their order.
+    #[inline(always)]
     pub fn as_slice(&self) -> &[(Path, u32)]
         ensures { result.now ≡ self.now }
     {

@@ -15,6 +15,7 @@ pub struct StructAt {
 
 impl StructAt {
     /// Where the pointer of this number stands, None where the struct is too short to have it.
+    #[inline(always)]
     pub(crate) fn pointer(&self, n: u16) -> Option<u64>
         ensures value { MatchOption result (self.now.pointer_count ≤ n)
             (λ at. (n < self.now.pointer_count) × (at ≡ self.now.start + self.now.data_words + n)) }

@@ -43,6 +43,7 @@ const BACKWARDS: u32 = 1 << 29;
 const SIZES: u64 = 1 << 16;
 
 /// Bits 2 to 31.
+#[inline(always)]
 pub fn offset_of(word: u64) -> u32
     ensures value { result ≡ offset_bits word }
     ensures fits { result < 2 ^ 30 }
@@ -51,6 +52,7 @@ pub fn offset_of(word: u64) -> u32
 }
 
 /// The size of a data section, in words.
+#[inline(always)]
 pub fn data_of(word: u64) -> u16
     ensures { result ≡ data_bits word }
 {
@@ -58,6 +60,7 @@ pub fn data_of(word: u64) -> u16
 }
 
 /// The size of a pointer section, in words.
+#[inline(always)]
 pub fn pointers_of(word: u64) -> u16
     ensures { result ≡ pointer_bits word }
 {
@@ -65,6 +68,7 @@ pub fn pointers_of(word: u64) -> u16
 }
 
 /// The element size of a list, which 3 bits say.
+#[inline(always)]
 pub fn element_size_of(word: u64) -> u8
     ensures { result ≡ (word / 2 ^ 32) % 8 }
 {
@@ -72,6 +76,7 @@ pub fn element_size_of(word: u64) -> u8
 }
 
 /// How many elements a list has, and of a composite list how many words.
+#[inline(always)]
 pub fn count_of(word: u64) -> u32
     ensures { result ≡ (word / 2 ^ 35) % 2 ^ 29 }
 {
@@ -79,6 +84,7 @@ pub fn count_of(word: u64) -> u32
 }
 
 /// Bits 32 to 63.
+#[inline(always)]
 fn high_of(word: u64) -> u32
     ensures { result ≡ high_bits word }
 {
@@ -90,6 +96,7 @@ impl Pointer {
 
     /// What a word says as a pointer.
     #[tactic(auto, unfolding(crate::specs::Pointers::pointer_of))]
+    #[inline]
     pub fn of(word: u64) -> Pointer
         ensures { result ≡ pointer_of word }
     {
@@ -122,6 +129,7 @@ impl Pointer {
 
 /// Where what a pointer at a place points to begins, None before the segment.
 #[tactic(auto, unfolding(crate::specs::Pointers::start_from))]
+#[inline(always)]
 pub fn start_of(at: u64, offset: u32) -> Option<u64>
     requires { at < 2 ^ 40 }
     ensures { result ≡ start_from at offset }

@@ -31,6 +31,7 @@ struct Spot {
 }
 
 /// The struct at a place where so many structs may stand within one another, after paying for the visit.
+#[inline(always)]
 fn visit(spot: Spot, depth: u32, limits: &mut Limits) -> Result<StructAt, ReadError>
     ensures value { (segments : List (List ℕ)) → Runs
         (λ place. Some (sections_at segments place)) result limits.new.words
@@ -60,6 +61,7 @@ fn visit(spot: Spot, depth: u32, limits: &mut Limits) -> Result<StructAt, ReadEr
 
 /// The struct to which a struct pointer leads.
 #[tactic(auto, unfolding(crate::specs::Reading::pay_for))]
+#[inline]
 pub fn enter(
     frame: &Frame,
     segment: u32,
@@ -129,6 +131,7 @@ fn struct_behind(
 /// The struct at the pointer at a place, None where it is null. Most pointers to structs are null or lead into their own
 /// segment, which their word tells at once.
 #[tactic(auto, using(crate::proofs::Near::null_word, crate::proofs::Near::struct_word), unfolding(crate::specs::Tree::tree_behind, crate::specs::Reading::pay_for))]
+#[inline]
 fn struct_at(
     frame: &Frame,
     segment: u32,
@@ -156,6 +159,7 @@ fn struct_at(
 
 /// The list of structs to which a composite list pointer leads, whose content has so many words behind its tag.
 #[tactic(auto, unfolding(crate::specs::Tree::elements_behind))]
+#[inline]
 pub fn composite(
     frame: &Frame,
     segment: u32,
@@ -227,6 +231,7 @@ fn list_behind(
 /// The list of structs at the pointer at a place, None where it is null. Most pointers to lists of structs are null or
 /// lead into their own segment, which their word tells at once.
 #[tactic(auto, using(crate::proofs::Near::null_word, crate::proofs::Near::composite_word), unfolding(crate::specs::Tree::tree_behind, crate::specs::Tree::list_there))]
+#[inline]
 fn list_at(frame: &Frame, segment: u32, at: u64, depth: u32) -> Result<Option<ListAt>, ReadError>
     requires { at < 2 ^ 40 }
     ensures { Gives (λ found. option_map (elements_at frame.now) found) result
@@ -251,6 +256,7 @@ fn list_at(frame: &Frame, segment: u32, at: u64, depth: u32) -> Result<Option<Li
 ///
 /// Each of [`ReadError`] but `NoZero` and `OutOfMemory`, in the order that is told there. The words left are as they
 /// were.
+#[inline]
 pub fn root(frame: &Frame, limits: &mut Limits) -> Result<StructAt, ReadError>
     ensures value { Runs (sections_at frame.now) result limits.new.words
         (run (root_in (root_tree limits.old.depth frame.now)) limits.old.words) }
@@ -322,6 +328,7 @@ pub fn list_field(
 
 impl ListAt {
     /// How many elements there are.
+    #[inline(always)]
     pub fn len(&self) -> u32
         ensures { result ≡ list_len self.now }
     {
@@ -333,6 +340,7 @@ impl ListAt {
     /// # Errors
     ///
     /// `TooDeep` or else `TooMuch`, and no other. The words left are as they were.
+    #[inline]
     pub fn element(&self, i: u32, limits: &mut Limits) -> Result<StructAt, ReadError>
         requires { i < list_len self.now }
         // In any frame, so in the list's own.

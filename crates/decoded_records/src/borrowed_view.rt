@@ -26,6 +26,7 @@ pub enum BorrowedView<'a> {
 
 impl<'a> BorrowedView<'a> {
     /// This view, lent.
+    #[inline]
     pub fn of(view: &'a View) -> BorrowedView<'a>
         ensures { as_view result ≡ view.now }
     {
@@ -42,6 +43,7 @@ impl<'a> BorrowedView<'a> {
     /// # Errors
     ///
     /// Out of memory.
+    #[inline]
     pub fn to_view(self, alloc: Global) -> Result<View, AllocError>
         ensures { IfOk result (λ view. view ≡ as_view self.entry) }
     {
@@ -54,6 +56,7 @@ impl<'a> BorrowedView<'a> {
     }
 
     /// Whether another view is the same.
+    #[inline]
     pub fn is_same(self, other: BorrowedView<'_>) -> bool
         ensures { IsTrue result ↔ (as_view self.entry ≡ as_view other.entry) }
     {
@@ -67,6 +70,7 @@ impl<'a> BorrowedView<'a> {
     }
 
     /// The path of a field; the empty one of every other view.
+    #[inline]
     pub fn path(self) -> &'a [u16]
         ensures { result.now ≡ field_path (as_view self.entry) }
     {

@@ -9,9 +9,26 @@ ghost use Rattle.decoded_records.specs.Types.{RpcMessage as Message};
 ghost use Rattle.decoded_records.specs.Decoding.{decoded_by};
 
 use crate::decoded::DecodedRecord;
-use rpc_view::{Edition, Limits, ViewError, read_bytes};
+use bytes::Bytes;
+use cap_frame::Frame;
+use rpc_view::{Edition, Limits, RpcMessage, ViewError, read_message};
 use std::alloc::Global;
 use vat_log::Body;
+
+/// The message of a frame's bytes, which stay where they are.
+#[inline]
+fn message_in(
+    alloc: Global,
+    bytes: &Bytes,
+    limits: Limits,
+    edition: Edition,
+) -> Result<RpcMessage, ViewError>
+    ensures { GivesInMemory (λ message. message) result
+        (message_of_bytes edition bytes.now limits) }
+{
+    let frame = Frame::read(bytes.as_slice())?;
+    read_message(alloc, &frame, limits, edition)
+}
 
 /// A record that has no frame, as it is judged.
 fn own(body: &Body) -> Result<DecodedRecord, ViewError>
@@ -64,6 +81,7 @@ impl DecodedRecord {
     /// # Errors
     ///
     /// Why the frame isn't read, or that memory ran out.
+    #[inline]
     pub fn read(
         alloc: Global,
         body: &Body,
@@ -84,7 +102,7 @@ impl DecodedRecord {
                 connection: *connection,
                 call: *call,
                 references: references.copy()?,
-                message: read_bytes(alloc, frame.clone()?, limits, edition)?,
+                message: message_in(alloc, frame, limits, edition)?,
             }),
             Body::Receive {
                 connection,
@@ -96,7 +114,7 @@ impl DecodedRecord {
                 connection: *connection,
                 call: *call,
                 references: references.copy()?,
-                message: read_bytes(alloc, frame.clone()?, limits, edition)?,
+                message: message_in(alloc, frame, limits, edition)?,
             }),
             _ => own(body),
         }

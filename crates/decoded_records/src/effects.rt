@@ -20,6 +20,7 @@ use std::alloc::{AllocError, Global};
 use std::slice;
 
 /// The question that a record opens.
+#[inline]
 pub fn question_opened(event: &DecodedRecord) -> Option<TableKey>
     ensures { result ≡ question_opened event.now }
 {
@@ -39,6 +40,7 @@ pub fn question_opened(event: &DecodedRecord) -> Option<TableKey>
 }
 
 /// The question that a record returns.
+#[inline]
 pub fn question_returned(event: &DecodedRecord) -> Option<TableKey>
     ensures { result ≡ question_returned event.now }
 {
@@ -55,6 +57,7 @@ pub fn question_returned(event: &DecodedRecord) -> Option<TableKey>
 
 /// The question that a record returns lightly: by a Return that says that no Finish is needed (rpc.capnp,
 /// `Return.noFinishNeeded`).
+#[inline]
 pub fn question_returned_lightly(event: &DecodedRecord) -> Option<TableKey>
     ensures { result ≡ question_returned_lightly event.now }
 {
@@ -74,6 +77,7 @@ pub fn question_returned_lightly(event: &DecodedRecord) -> Option<TableKey>
 }
 
 /// The question that a record finishes.
+#[inline]
 pub fn question_finished(event: &DecodedRecord) -> Option<TableKey>
     ensures { result ≡ question_finished event.now }
 {
@@ -92,6 +96,7 @@ pub fn question_finished(event: &DecodedRecord) -> Option<TableKey>
 }
 
 /// The question whose results a record gives back.
+#[inline]
 pub fn question_released(event: &DecodedRecord) -> Option<TableKey>
     ensures { result ≡ question_released event.now }
 {
@@ -111,6 +116,7 @@ pub fn question_released(event: &DecodedRecord) -> Option<TableKey>
 
 /// The question whose results a record takes: a Return with takeFromOtherQuestion names one of its own sender's
 /// questions.
+#[inline]
 pub fn question_taken(event: &DecodedRecord) -> Option<TableKey>
     ensures { result ≡ question_taken event.now }
 {
@@ -129,6 +135,7 @@ pub fn question_taken(event: &DecodedRecord) -> Option<TableKey>
 }
 
 /// Whether a record is a Call whose results are to be sent elsewhere: sendResultsTo is yourself.
+#[inline]
 pub fn asks_elsewhere(event: &DecodedRecord) -> bool
     ensures { result ≡ asks_elsewhere event.now }
 {
@@ -142,6 +149,7 @@ pub fn asks_elsewhere(event: &DecodedRecord) -> bool
 }
 
 /// The promise that a record resolves.
+#[inline]
 pub fn promise_resolved(event: &DecodedRecord) -> Option<TableKey>
     ensures { result ≡ promise_resolved event.now }
 {
@@ -160,6 +168,7 @@ pub fn promise_resolved(event: &DecodedRecord) -> Option<TableKey>
 }
 
 /// The call noted beside a record, 0 where none is.
+#[inline]
 pub fn noted_call(event: &DecodedRecord) -> u64
     ensures { result ≡ noted_call event.now }
 {
@@ -170,6 +179,7 @@ pub fn noted_call(event: &DecodedRecord) -> u64
 }
 
 /// Whether a record has a message.
+#[inline]
 pub fn has_message(event: &DecodedRecord) -> bool
     ensures { result ≡ has_message event.now }
 {
@@ -177,6 +187,7 @@ pub fn has_message(event: &DecodedRecord) -> bool
 }
 
 /// The descriptors of a message, by place, counted from 0; a Resolve's stands at place 0.
+#[inline]
 pub fn descriptors_of(message: &RpcMessage) -> &[Descriptor]
     ensures { result.now ≡ descriptors_of message.now }
 {
@@ -195,6 +206,7 @@ pub fn descriptors_of(message: &RpcMessage) -> &[Descriptor]
 }
 
 /// The descriptors of a record.
+#[inline]
 pub fn descriptors(event: &DecodedRecord) -> &[Descriptor]
     ensures { result.now ≡ descriptors event.now }
 {
@@ -205,6 +217,7 @@ pub fn descriptors(event: &DecodedRecord) -> &[Descriptor]
 }
 
 /// The number that a descriptor of a record introduces.
+#[inline]
 pub fn number_introduced(event: &DecodedRecord, descriptor: &Descriptor) -> Option<TableKey>
     ensures { result ≡ number_introduced event.now descriptor.now }
 {
@@ -238,6 +251,7 @@ fn several_introductions(alloc: Global, event: &DecodedRecord) -> Result<TableKe
 
 /// The numbers that a record introduces, in the order of their places; those of a late Return aren't counted. The only
 /// error is that memory ran out.
+#[inline]
 pub fn introductions(
     alloc: Global,
     late: bool,
@@ -261,6 +275,7 @@ pub fn introductions(
 }
 
 /// The references noted beside a record.
+#[inline]
 pub fn references(event: &DecodedRecord) -> &[u64]
     ensures { result.now ≡ references event.now }
 {
@@ -271,6 +286,7 @@ pub fn references(event: &DecodedRecord) -> &[u64]
 }
 
 /// Whether a descriptor isn't none.
+#[inline]
 pub fn is_cap(descriptor: &Descriptor) -> bool
     ensures { result ≡ is_cap descriptor.now }
 {
@@ -278,6 +294,7 @@ pub fn is_cap(descriptor: &Descriptor) -> bool
 }
 
 /// Whether a descriptor is a senderPromise.
+#[inline]
 pub fn is_promise(descriptor: &Descriptor) -> bool
     ensures { result ≡ is_promised (Some descriptor.now) }
 {
@@ -286,6 +303,7 @@ pub fn is_promise(descriptor: &Descriptor) -> bool
 
 /// What a descriptor at a place of a record introduces, with its origin, where so many references were noted before
 /// it.
+#[inline]
 pub fn origin_by(
     number: usize,
     event: &DecodedRecord,
@@ -332,6 +350,7 @@ fn many_origins(
 
 /// What a record of this number introduces, with the origins; a late Return's introductions aren't counted. Most records
 /// have one descriptor at most, and then it takes no memory. The only error is that memory ran out.
+#[inline]
 pub fn origins(
     alloc: Global,
     late: bool,
@@ -356,6 +375,7 @@ pub fn origins(
 }
 
 /// The references that a record newly binds.
+#[inline]
 pub fn new_references(event: &DecodedRecord) -> &[u64]
     ensures { result.now ≡ new_references event.now }
 {
@@ -373,6 +393,7 @@ pub fn new_references(event: &DecodedRecord) -> &[u64]
 }
 
 /// The number that a record echoes.
+#[inline]
 pub fn receiver_loopback(event: &DecodedRecord) -> Option<TableKey>
     ensures { result ≡ receiver_loopback event.now }
 {

@@ -15,6 +15,7 @@ use rpc_view::{Descriptor, Loopback, RpcMessage, Target};
 
 impl DecodedRecord {
     /// The question that it opens: a Bootstrap's or a Call's.
+    #[inline]
     pub fn question_opened(&self) -> Option<TableKey>
         ensures { result ≡ question_opened self.now }
     {
@@ -22,6 +23,7 @@ impl DecodedRecord {
     }
 
     /// The question that it returns.
+    #[inline]
     pub fn question_returned(&self) -> Option<TableKey>
         ensures { result ≡ question_returned self.now }
     {
@@ -29,6 +31,7 @@ impl DecodedRecord {
     }
 
     /// The question that it returns by a Return that says that no Finish is needed (rpc.capnp, `Return.noFinishNeeded`).
+    #[inline]
     pub fn question_returned_lightly(&self) -> Option<TableKey>
         ensures { result ≡ question_returned_lightly self.now }
     {
@@ -36,6 +39,7 @@ impl DecodedRecord {
     }
 
     /// The question that it finishes.
+    #[inline]
     pub fn question_finished(&self) -> Option<TableKey>
         ensures { result ≡ question_finished self.now }
     {
@@ -43,6 +47,7 @@ impl DecodedRecord {
     }
 
     /// The question whose results it takes: one of its own sender's.
+    #[inline]
     pub fn question_taken(&self) -> Option<TableKey>
         ensures { result ≡ question_taken self.now }
     {
@@ -50,6 +55,7 @@ impl DecodedRecord {
     }
 
     /// The number under which it asks for an echo: one of its sender's.
+    #[inline]
     pub fn sender_loopback(&self) -> Option<TableKey>
         ensures { result ≡ sender_loopback self.now }
     {
@@ -69,6 +75,7 @@ impl DecodedRecord {
     }
 
     /// The number that it echoes: one of its receiver's.
+    #[inline]
     pub fn receiver_loopback(&self) -> Option<TableKey>
         ensures { result ≡ receiver_loopback self.now }
     {
@@ -76,6 +83,7 @@ impl DecodedRecord {
     }
 
     /// The promise that it resolves: one of its sender's exports.
+    #[inline]
     pub fn promise_resolved(&self) -> Option<TableKey>
         ensures { result ≡ promise_resolved self.now }
     {
@@ -84,6 +92,7 @@ impl DecodedRecord {
 
     /// The number that one of its descriptors introduces: senderHosted and senderPromise name one of the sender's
     /// exports.
+    #[inline]
     pub fn number_introduced(&self, descriptor: &Descriptor) -> Option<TableKey>
         ensures { result ≡ number_introduced self.now descriptor.now }
     {
@@ -91,6 +100,7 @@ impl DecodedRecord {
     }
 
     /// Whether it is a Call whose results are to be sent elsewhere: sendResultsTo is yourself.
+    #[inline]
     pub fn asks_elsewhere(&self) -> bool
         ensures { result ≡ asks_elsewhere self.now }
     {
@@ -98,6 +108,7 @@ impl DecodedRecord {
     }
 
     /// The call noted beside it, 0 where none is.
+    #[inline]
     pub fn noted_call(&self) -> u64
         ensures { result ≡ noted_call self.now }
     {
@@ -105,6 +116,7 @@ impl DecodedRecord {
     }
 
     /// Its descriptors, by place, counted from 0; a Resolve's stands at place 0.
+    #[inline]
     pub fn descriptors(&self) -> &[Descriptor]
         ensures { result.now ≡ descriptors self.now }
     {
@@ -112,6 +124,7 @@ impl DecodedRecord {
     }
 
     /// The references noted beside it.
+    #[inline]
     pub fn references(&self) -> &[u64]
         ensures { result.now ≡ references self.now }
     {
@@ -119,6 +132,7 @@ impl DecodedRecord {
     }
 
     /// The references that it newly binds: of HOST, VOW, FIELD and RECV.
+    #[inline]
     pub fn new_references(&self) -> &[u64]
         ensures { result.now ≡ new_references self.now }
     {
@@ -126,6 +140,7 @@ impl DecodedRecord {
     }
 
     /// The call that it newly binds.
+    #[inline]
     pub fn new_call(&self) -> Option<u64>
         ensures { option_to_list result ≡ new_calls self.now }
     {
@@ -147,6 +162,7 @@ impl DecodedRecord {
     }
 
     /// The question that its target names: one of the sender's.
+    #[inline]
     pub fn question_targeted(&self) -> Option<TableKey>
         ensures { result ≡ question_targeted self.now }
     {
@@ -169,6 +185,7 @@ impl DecodedRecord {
     }
 
     /// The question that one of its descriptors names: one of the sender's.
+    #[inline]
     pub fn question_described(&self, descriptor: &Descriptor) -> Option<TableKey>
         ensures { result ≡ question_described self.now descriptor.now }
     {
@@ -186,6 +203,7 @@ impl DecodedRecord {
     }
 
     /// The number that its target names: one of the receiver's exports.
+    #[inline]
     pub fn number_targeted(&self) -> Option<TableKey>
         ensures { result ≡ number_targeted self.now }
     {
@@ -208,6 +226,7 @@ impl DecodedRecord {
     }
 
     /// The number that one of its descriptors uses: receiverHosted names one of the receiver's exports.
+    #[inline]
     pub fn number_described(&self, descriptor: &Descriptor) -> Option<TableKey>
         ensures { result ≡ number_described self.now descriptor.now }
     {
@@ -225,6 +244,7 @@ impl DecodedRecord {
     }
 
     /// The number that it releases: one of the receiver's exports.
+    #[inline]
     pub fn number_released(&self) -> Option<TableKey>
         ensures { result ≡ number_released self.now }
     {

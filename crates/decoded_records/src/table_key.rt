@@ -19,6 +19,7 @@ impl TableKey {
     /// A number in a message that this vat sent, or else received, where the message's sender gave the number out:
     /// rpc.capnp's QuestionId in a Bootstrap, Call, Finish, promisedAnswer or receiverAnswer, its ExportId in a Resolve,
     /// senderHosted or senderPromise, and the embargo number of a senderLoopback.
+    #[inline(always)]
     pub fn of_sender(sent: bool, connection: u32, number: u32) -> TableKey
         ensures { result ≡ id connection sent number }
     {
@@ -32,6 +33,7 @@ impl TableKey {
     /// A number in a message that this vat sent, or else received, where the message's receiver gave the number out:
     /// rpc.capnp's AnswerId in a Return, its ImportId in a Release, importedCap or receiverHosted, and the embargo
     /// number of a receiverLoopback.
+    #[inline(always)]
     pub fn of_receiver(sent: bool, connection: u32, number: u32) -> TableKey
         ensures { result ≡ id connection (not sent) number }
     {

@@ -36,6 +36,7 @@ impl Model for TableKeys {
 
 impl TableKeys {
     /// No numbers. It takes no memory.
+    #[inline]
     pub fn none() -> TableKeys
         ensures { result ≡ [] }
     {
@@ -45,6 +46,7 @@ impl TableKeys {
     }
 
     /// This one alone. It takes no memory.
+    #[inline]
     pub fn one(number: TableKey) -> TableKeys
         ensures { result ≡ number ∷ [] }
     {
@@ -54,6 +56,7 @@ impl TableKeys {
     }
 
     /// The list of these. The only error is that memory ran out.
+    #[inline]
     pub fn new(alloc: Global, items: Vec<TableKey>) -> Result<TableKeys, AllocError>
         ensures { IfOk result (λ ids. ids ≡ items.items) }
     {
@@ -69,6 +72,7 @@ impl TableKeys {
     }
 
     /// The numbers, in their order.
+    #[inline]
     pub fn as_slice(&self) -> &[TableKey]
         ensures { result.now ≡ self.now }
     {

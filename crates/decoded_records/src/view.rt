@@ -22,6 +22,7 @@ pub enum View {
 }
 
 /// Whether two paths are one.
+#[inline]
 fn same_path(a: &Path, b: &Path) -> bool
     ensures { IsTrue result ↔ (a.now ≡ b.now) }
 {
@@ -30,6 +31,7 @@ fn same_path(a: &Path, b: &Path) -> bool
 
 impl View {
     /// Whether another view is the same.
+    #[inline]
     pub fn is_same(&self, other: &View) -> bool
         ensures { IsTrue result ↔ (self.now ≡ other.now) }
     {
@@ -43,6 +45,7 @@ impl View {
     }
 
     /// A second view that is the same. The only error is that memory ran out.
+    #[inline]
     pub fn copy(&self) -> Result<View, AllocError>
         ensures { IfOk result (λ copied. copied ≡ self.now) }
     {

@@ -117,7 +117,7 @@ pub fn read_reason(
 ) -> Result<Option<Reason>, AllocError>
     ensures { IfOk result (λ found. found ≡ reason_of_bytes bytes limits) }
 {
-    let Ok(frame) = Frame::read(bytes) else {
+    let Ok(frame) = Frame::read(bytes.as_slice()) else {
         return Ok(None);
     };
     let mut limits = limits;

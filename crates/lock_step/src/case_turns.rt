@@ -49,6 +49,7 @@ impl Model for CaseTurns {
 
 impl CaseTurns {
     /// A case with these links, before any turn. The only error is that memory ran out.
+    #[inline]
     pub fn new(alloc: Global, links: &[Link]) -> Result<CaseTurns, AllocError>
         ensures { IfOk result (λ case. case ≡ Some (record { links = links.now; in_order = []; all = []; is_stuck = false })) }
     {
@@ -63,6 +64,7 @@ impl CaseTurns {
     }
 
     /// Takes a record, unless memory was refused before. Where it is refused now, no more is said of the parts.
+    #[inline]
     fn take_all(&mut self, vat: u32, body: &Body) -> Result<(), AllocError>
         ensures ok { OnOk result (self.new ≡ option_map (case_with_turn (vat, body.now)) self.old) }
         ensures err { OnErr result (self.new ≡ None) }
@@ -83,6 +85,7 @@ impl CaseTurns {
 
     /// Where the run of good logs breaks the order of calls, by the order in which the vats took their turns, as
     /// [`CallOrder::fault`] says. It holds once all records of the logs are taken in order.
+    #[inline]
     pub fn fault(&self) -> Option<(u32, u32)>
         ensures { IfSome self.now (λ taken. (logs : List Log) → AreAll logs taken.in_order
             → IsFaultBy logs (order_of taken.in_order) result) }
@@ -91,6 +94,7 @@ impl CaseTurns {
     }
 
     /// What is found of a link, if these were all records, as [`LinkStates::outcome`] says.
+    #[inline]
     pub fn outcome(&self, link: &Link) -> Option<LinkOutcome>
         ensures some { IfSome self.now (λ taken. link_on taken.links link.now.connection ≡ Some link.now
             → is_some result ≡ true) }
@@ -100,6 +104,7 @@ impl CaseTurns {
     }
 
     /// How many records were taken, those that only passed among them.
+    #[inline]
     pub fn records(&self) -> u64
         ensures { IfSome self.now (λ taken. result ≡ length taken.all) }
     {
@@ -107,6 +112,7 @@ impl CaseTurns {
     }
 
     /// How many of them deliver a call.
+    #[inline]
     pub fn delivered(&self) -> u64
         ensures { IfSome self.now (λ taken. result ≡ count_turns passes_delivery taken.all) }
     {
@@ -114,6 +120,7 @@ impl CaseTurns {
     }
 
     /// How many frames are under way: how many more were sent than received.
+    #[inline]
     pub fn under_way(&self) -> u64
         ensures { IfSome self.now (λ taken. result ≡ count_turns sends taken.all - count_turns receives taken.all) }
     {
@@ -127,14 +134,17 @@ impl Turns for CaseTurns {
 
     ghost taken = { λ case. option_map turned case };
 
+    #[inline]
     fn may_come(&self, vat: u32, body: &Body) -> bool {
         self.is_stuck || self.turns.may_follow(vat, body)
     }
 
+    #[inline]
     fn is_crowded(&self) -> bool {
         self.under_way() > CROWD
     }
 
+    #[inline]
     fn give_up(&mut self) {
         self.is_stuck = true;
     }
@@ -145,6 +155,7 @@ impl Turns for CaseTurns {
     ///
     /// Out of memory, now or at an earlier record: once one is refused, so is each after it. A vat's record behind
     /// 4,294,967,295 others is refused too.
+    #[inline]
     fn take(&mut self, vat: u32, body: &Body) -> Result<(), AllocError> {
         self.take_all(vat, body)
     }

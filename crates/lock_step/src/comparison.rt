@@ -16,6 +16,7 @@ pub(crate) struct Comparison {
 
 impl Comparison {
     /// Of two empty lists. It takes no memory.
+    #[inline]
     pub(crate) fn new(alloc: Global) -> Comparison
         ensures difference { result.difference ≡ None }
         ensures waiting { result.waiting ≡ [] }
@@ -28,6 +29,7 @@ impl Comparison {
 
     /// One list grows by a frame: it had `count` frames, and the other has `others`. The only error is that memory ran out, and
     /// then nothing changes.
+    #[inline]
     pub(crate) fn take(&mut self, count: u64, others: u64, frame: &[u8]) -> Result<(), AllocError>
         ensures ok { OnOk result ((own other : List (List ℕ)) → length own ≡ count → length other ≡ others
             → AreCompared own other self.old.difference self.old.waiting

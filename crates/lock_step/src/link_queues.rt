@@ -35,6 +35,7 @@ impl Model for LinkQueues {
 
 impl LinkQueues {
     /// Before any frame. It takes no memory.
+    #[inline]
     pub fn new(alloc: Global) -> LinkQueues
         ensures { result ≡ nothing_passed }
     {
@@ -49,6 +50,7 @@ impl LinkQueues {
     /// # Errors
     ///
     /// Out of memory, and then nothing changes. A frame of 2^32 bytes or more that is to wait is answered so too.
+    #[inline]
     pub fn send(&mut self, end: LinkEnd, frame: &Bytes) -> Result<(), AllocError>
         ensures ok { OnOk result (self.new ≡ with_sent_by end frame.now self.old) }
         ensures err { OnErr result (self.new ≡ self.old) }
@@ -67,6 +69,7 @@ impl LinkQueues {
     /// # Errors
     ///
     /// Out of memory, and then nothing changes. A frame of 2^32 bytes or more that is to wait is answered so too.
+    #[inline]
     pub fn receive(&mut self, end: LinkEnd, frame: &Bytes) -> Result<(), AllocError>
         ensures ok { OnOk result (self.new ≡ with_received_by end frame.now self.old) }
         ensures err { OnErr result (self.new ≡ self.old) }
@@ -80,6 +83,7 @@ impl LinkQueues {
     }
 
     /// How many frames both ends together sent.
+    #[inline]
     pub fn sent_count(&self) -> u64
         ensures { result ≡ length self.now.to_first.sent + length self.now.to_second.sent }
     {

@@ -30,6 +30,7 @@ const RECORDS: usize = 4096;
 const AMPLE: usize = 131_072;
 
 /// The next record of a log; or none, where it didn't come whole and more isn't to be waited for; or why there is none.
+#[inline]
 fn next_of<P: Pieces>(
     alloc: Global,
     stream: &mut LogStream<P>,
@@ -53,6 +54,7 @@ fn next_of<P: Pieces>(
 }
 
 /// A record that was read is judged, and stands behind those that are ahead.
+#[inline]
 fn keep(
     alloc: Global,
     entry: Record,
@@ -99,6 +101,7 @@ impl<P: Pieces> Model for LogLane<P> {
 
 impl<P: Pieces> LogLane<P> {
     /// The lane of a log of which only the header was read.
+    #[inline]
     pub fn new(alloc: Global, stream: LogStream<P>) -> LogLane<P>
         requires { stream.log.records ≡ [] }
         ensures { result ≡ Some (record { read = stream; ahead = []; ending = None }) }
@@ -117,6 +120,7 @@ impl<P: Pieces> LogLane<P> {
     }
 
     /// Lets the records go that were taken.
+    #[inline]
     fn let_taken_go(&mut self)
         ensures { self.new ≡ self.old }
     {
@@ -162,6 +166,7 @@ impl<P: Pieces> LogLane<P> {
     }
 
     /// Reads ahead what came whole, but for what is too much at once.
+    #[inline]
     fn read_what_came(&mut self, alloc: Global)
         ensures more { (lane : ReadAhead) → self.old ≡ Some lane
             → IfSome self.new (λ longer. GoesOn (as_lane lane) (as_lane longer)) }
@@ -175,6 +180,7 @@ impl<P: Pieces> LogLane<P> {
     }
 
     /// Sees whether the last reading gave so much that the next need not be waited for.
+    #[inline]
     fn see_whether_ample(&mut self)
         ensures { self.new ≡ self.old }
     {
@@ -182,6 +188,7 @@ impl<P: Pieces> LogLane<P> {
     }
 
     /// Whether so many records are ahead; or some, and more would be waited for, or their bytes are so many that no more are read.
+    #[inline]
     fn has_enough(&self, enough: usize) -> bool
         ensures { IfSome self.now (λ lane. result ≡ true → lane.ahead ≢ []) }
     {
@@ -190,6 +197,7 @@ impl<P: Pieces> LogLane<P> {
     }
 
     /// From where the log comes.
+    #[inline]
     pub fn pieces(&self) -> &P
         ensures { IfSome self.now (λ lane. (P.came result.now ≡ lane.read.bytes) × (P.is_over result.now ≡ lane.read.is_over)) }
     {
@@ -197,6 +205,7 @@ impl<P: Pieces> LogLane<P> {
     }
 
     /// What is left of a log that was read whole, which can be asked for once; or why it wasn't, if that is known.
+    #[inline]
     pub fn take_log(&mut self, alloc: Global) -> Result<SlimLog, Option<ReadFault>>
         ensures lane { self.new ≡ self.old }
         ensures whole { IfOk result (λ log. (lane : ReadAhead) × (self.old ≡ Some lane)
@@ -228,24 +237,29 @@ impl<P: Pieces> turn_taking::CaseLane for LogLane<P> {
 
     ghost so_far = { λ lane. option_map as_lane lane };
 
+    #[inline]
     fn vat(&self) -> u32 {
         self.stream.vat()
     }
 
+    #[inline]
     fn first(&self) -> Option<&Record> {
         self.ahead.first()
     }
 
+    #[inline]
     fn leave(&mut self) {
         self.ahead.leave();
     }
 
+    #[inline]
     fn is_refused(&self) -> bool {
         self.is_refused
     }
 
     /// Reads what one reading gives, and on until a record is there. Where one is, nothing is read behind 2^20 bytes of frames,
     /// nor where the last reading gave so little that the next may have to wait. Those that were taken are let go.
+    #[inline]
     fn fill(&mut self, alloc: Global, enough: usize) {
         if self.has_enough(enough) {
             return;

@@ -9,6 +9,7 @@ use std::marker::Model;
 use vat_log::{Body, Record};
 
 /// How many bytes the frame of a record has, if it has one.
+#[inline]
 fn frame_length(stored: &Record) -> usize {
     match stored.body() {
         Body::Send { frame, .. } | Body::Receive { frame, .. } => frame.len(),
@@ -17,6 +18,7 @@ fn frame_length(stored: &Record) -> usize {
 }
 
 /// Lets the first so many records go. How many bytes the frames of the others have, where all have so many.
+#[inline]
 fn let_go(records: &mut VecDeque<Record>, count: usize, bytes: usize) -> usize
     ensures { records.new.items ≡ drop count records.old.items }
 {
@@ -55,6 +57,7 @@ impl Model for RecordsAhead {
 
 impl RecordsAhead {
     /// None.
+    #[inline]
     pub(crate) fn new(alloc: Global) -> RecordsAhead
         ensures { result ≡ [] }
     {
@@ -66,6 +69,7 @@ impl RecordsAhead {
     }
 
     /// How many there are.
+    #[inline]
     pub(crate) fn len(&self) -> usize
         ensures { result ≡ length self.now }
     {
@@ -73,11 +77,13 @@ impl RecordsAhead {
     }
 
     /// How many bytes their frames have, and those of the records that were taken since the last were let go.
+    #[inline]
     pub(crate) fn bytes(&self) -> usize {
         self.bytes
     }
 
     /// The first.
+    #[inline]
     pub(crate) fn first(&self) -> Option<&Record>
         ensures { option_copied result ≡ slice_get self.now 0 }
     {
@@ -85,6 +91,7 @@ impl RecordsAhead {
     }
 
     /// The first is taken.
+    #[inline]
     pub(crate) fn leave(&mut self)
         ensures { self.new ≡ drop 1 self.old }
     {
@@ -94,6 +101,7 @@ impl RecordsAhead {
     }
 
     /// Those that were taken are let go.
+    #[inline]
     pub(crate) fn let_taken_go(&mut self)
         ensures { self.new ≡ self.old }
     {
@@ -102,6 +110,7 @@ impl RecordsAhead {
     }
 
     /// One more behind them.
+    #[inline]
     pub(crate) fn push(&mut self, entry: Record) -> Result<(), AllocError>
         ensures { OnOk result (self.new ≡ self.old ++ entry ∷ []) }
     {

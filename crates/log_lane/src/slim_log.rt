@@ -32,6 +32,7 @@ impl Model for SlimLog {
 impl SlimLog {
     /// The log of a finding within the default limits, with the connections that its records used: they must have been told
     /// just these records.
+    #[inline]
     pub fn new(finding: SlimFinding, used: UsedConnections) -> SlimLog
         requires used { used ≡ finding.log.records }
         requires within { finding.limits ≡ default_limits }
@@ -41,6 +42,7 @@ impl SlimLog {
     }
 
     /// What its audit found.
+    #[inline]
     pub fn finding(&self) -> &SlimFinding
         ensures found { result.now ≡ self.now }
         ensures within { result.now.limits ≡ default_limits }
@@ -49,6 +51,7 @@ impl SlimLog {
     }
 
     /// The connections that its records used, each once.
+    #[inline]
     fn connections(&self) -> &BTreeSet<u32>
         ensures { AreUsed self.now.log.records result.now.keys }
     {
@@ -59,10 +62,12 @@ impl SlimLog {
 impl CaseLog for SlimLog {
     ghost log = { λ found. found.log };
 
+    #[inline]
     fn vat(&self) -> u32 {
         self.finding.vat()
     }
 
+    #[inline]
     fn least_unlinked(&self, found: Option<u32>, links: &[Link]) -> Option<u32> {
         least_unlinked_of(found, self.connections(), self.vat(), links)
     }

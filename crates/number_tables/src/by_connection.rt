@@ -13,6 +13,7 @@ use rising_table::RisingTable;
 use std::alloc::{AllocError, Global};
 
 /// Which of the tables has this number.
+#[inline(always)]
 fn side(number: TableKey) -> u64
     ensures { result ≡ side_of number }
 {
@@ -34,6 +35,7 @@ pub(crate) struct ByConnection<V> {
 
 impl<V: Drop> ByConnection<V> {
     /// Before any number has a value.
+    #[inline]
     pub(crate) fn new(alloc: Global) -> ByConnection<V>
         ensures { (i : TableKey) → value_at result i ≡ None }
     {
@@ -44,11 +46,13 @@ impl<V: Drop> ByConnection<V> {
     }
 
     /// Where its memory comes from.
+    #[inline]
     pub(crate) fn allocator(&self) -> Global {
         self.alloc
     }
 
     /// The value of this number, if it has one.
+    #[inline(always)]
     pub(crate) fn get(&self, number: TableKey) -> Option<&V>
         ensures { option_copied result ≡ value_at self.now number }
     {
@@ -59,6 +63,7 @@ impl<V: Drop> ByConnection<V> {
     }
 
     /// The value of this number, to be changed, if it has one.
+    #[inline]
     pub(crate) fn get_mut(&mut self, number: TableKey) -> Option<&mut V>
         ensures* writes_back { sem 𝓛 (lends_value_at V.row self.entry number result) }
         ensures value { option_copied_mut result ≡ value_at self.old number }
@@ -71,6 +76,7 @@ impl<V: Drop> ByConnection<V> {
 
     /// A table without values for this side, if it has none yet. What the tables say stays as it is, where memory is
     /// refused too.
+    #[inline]
     fn begin_side(&mut self, side: u64) -> Result<(), AllocError>
         ensures { (i : TableKey) → value_at self.new i ≡ value_at self.old i }
     {
@@ -81,6 +87,7 @@ impl<V: Drop> ByConnection<V> {
     }
 
     /// This number has this value from now on, the first of its side. Where memory is refused, nothing changes.
+    #[inline]
     fn put_first(&mut self, number: TableKey, value: V) -> Result<(), AllocError>
         requires { LacksSide self.old (side_of number) }
         ensures ok { OnOk result
@@ -94,6 +101,7 @@ impl<V: Drop> ByConnection<V> {
     }
 
     /// This number has this value from now on. Where memory is refused, nothing changes.
+    #[inline]
     pub(crate) fn put(&mut self, number: TableKey, value: V) -> Result<(), AllocError>
         ensures ok { OnOk result
             ((i : TableKey) → value_at self.new i

@@ -12,6 +12,7 @@ use std::alloc::{AllocError, Global};
 
 /// This life's number is held once more, and the life begins here where the number wasn't held. Where it can't be, which
 /// is answered as memory that is refused, nothing changes.
+#[inline]
 fn raise_life(life: &mut NumberLife, origin: Origin) -> Result<(), AllocError>
     ensures count { OnOk result (life.new.count ≡ life.old.count + 1) }
     ensures origin { OnOk result (begun_at life.new ≡ kept_origin (Some life.old) origin) }
@@ -33,6 +34,7 @@ pub struct ExportsImports {
 
 impl ExportsImports {
     /// Before any number is held.
+    #[inline]
     pub fn new(alloc: Global) -> ExportsImports
         ensures { (i : TableKey) → held_count_at result i ≡ 0 }
     {
@@ -42,11 +44,13 @@ impl ExportsImports {
     }
 
     /// Where its memory comes from.
+    #[inline]
     pub fn allocator(&self) -> Global {
         self.entries.allocator()
     }
 
     /// How often this number is held.
+    #[inline]
     pub fn count_of(&self, number: TableKey) -> u64
         ensures { result ≡ held_count_at self.now number }
     {
@@ -57,6 +61,7 @@ impl ExportsImports {
     }
 
     /// Where the life of this number began, if it is held.
+    #[inline]
     pub fn origin_of(&self, number: TableKey) -> Option<Origin>
         ensures { result ≡ held_origin self.now number }
     {
@@ -68,6 +73,7 @@ impl ExportsImports {
 
     /// This number is held once more, and its life begins here where it wasn't held. Where memory is refused, nothing
     /// changes; a count of 2^64, which takes as many introductions, is answered so too.
+    #[inline]
     fn raise(&mut self, number: TableKey, origin: Origin) -> Result<(), AllocError>
         ensures counts { OnOk result
             ((i : TableKey) → held_count_at self.new i
@@ -85,6 +91,7 @@ impl ExportsImports {
     }
 
     /// This number is held so much less often, down to 0.
+    #[inline]
     pub fn lower(&mut self, number: TableKey, by: u64)
         ensures counts { (i : TableKey) → held_count_at self.new i
             ≡ held_count_at self.old i - (if same_id i number then by else 0) }
@@ -96,6 +103,7 @@ impl ExportsImports {
     }
 
     /// Each number is held less often by as often as it is one of these, down to 0.
+    #[inline]
     pub fn lower_each(&mut self, numbers: &[TableKey])
         ensures counts { (i : TableKey) → held_count_at self.new i
             ≡ held_count_at self.old i - count_by (same_id i) numbers.now }
@@ -107,6 +115,7 @@ impl ExportsImports {
     }
 
     /// Each number is held less often by as often as it is one of these, down to 0.
+    #[inline]
     pub fn lower_raised(&mut self, raised: &[(TableKey, Origin)])
         ensures counts { (i : TableKey) → held_count_at self.new i
             ≡ held_count_at self.old i - count_by (λ x. same_id i x.0) raised.now }
@@ -119,6 +128,7 @@ impl ExportsImports {
 
     /// Each number is held more often by as often as it is one of these, and its life begins with the first where it
     /// wasn't held. Where memory is refused, no count changes, and no origin of a number that is held.
+    #[inline]
     pub fn raise_each(&mut self, introduced: &[(TableKey, Origin)]) -> Result<(), AllocError>
         ensures counts { OnOk result
             ((i : TableKey) → held_count_at self.new i

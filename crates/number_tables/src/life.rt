@@ -26,6 +26,7 @@ pub(crate) struct NumberLife {
 impl NumberLife {
     /// A number that is held so often, and whose life began so. A record's number or a place of 2^32 or more, which no
     /// log reaches, is answered as out of memory is.
+    #[inline]
     pub(crate) fn new(count: u64, origin: Origin) -> Result<NumberLife, AllocError>
         ensures count { IfOk result (λ life. life.count ≡ count) }
         ensures origin { IfOk result (λ life. begun_at life ≡ origin) }
@@ -45,6 +46,7 @@ impl NumberLife {
     }
 
     /// Where its life began.
+    #[inline]
     pub(crate) fn origin(self) -> Origin
         ensures { result ≡ begun_at self }
     {
@@ -62,6 +64,7 @@ impl NumberLife {
     }
 
     /// The same number, held so much less often, down to 0.
+    #[inline]
     pub(crate) fn less(self, by: u64) -> NumberLife
         ensures count { result.count ≡ self.count - by }
         ensures origin { begun_at result ≡ begun_at self }

@@ -45,6 +45,7 @@ impl Drop for QuestionState {
 
 impl QuestionState {
     /// What is known of a question right after its opening, which introduced these numbers.
+    #[inline]
     pub fn opened(call: u64, tail: bool, asked: TableKeys) -> QuestionState
         ensures { result ≡ just_opened call tail asked }
     {
@@ -62,6 +63,7 @@ impl QuestionState {
     }
 
     /// Whether both its Return and its Finish have passed, so that it stands for its call no longer.
+    #[inline]
     pub(crate) fn is_over(&self) -> bool
         ensures { result ≡ (self.now.returned && self.now.finished) }
     {

@@ -8,6 +8,7 @@ use decoded_records::{DecodedRecord, TableKey};
 use rpc_view::RpcMessage;
 
 /// Whether a question is free: over, or behind a Return that says that no Finish is needed.
+#[inline]
 pub fn is_free(questions: &Questions, question: TableKey) -> bool
     ensures { result ≡ free_in (question_at questions.now question) }
 {
@@ -18,6 +19,7 @@ pub fn is_free(questions: &Questions, question: TableKey) -> bool
 }
 
 /// Whether a question is opened and not finished.
+#[inline]
 pub fn is_unfinished(questions: &Questions, question: TableKey) -> bool
     ensures { result ≡ unfinished_in (question_at questions.now question) }
 {
@@ -28,6 +30,7 @@ pub fn is_unfinished(questions: &Questions, question: TableKey) -> bool
 }
 
 /// Whether a question is finished.
+#[inline]
 pub fn is_finished(questions: &Questions, question: TableKey) -> bool
     ensures { result ≡ finished_in (question_at questions.now question) }
 {
@@ -38,6 +41,7 @@ pub fn is_finished(questions: &Questions, question: TableKey) -> bool
 }
 
 /// Whether a question is opened and not returned.
+#[inline]
 pub fn is_unreturned(questions: &Questions, question: TableKey) -> bool
     ensures { result ≡ unreturned_in (question_at questions.now question) }
 {
@@ -48,6 +52,7 @@ pub fn is_unreturned(questions: &Questions, question: TableKey) -> bool
 }
 
 /// Whether a question's last opening is a Call whose results are to be sent elsewhere.
+#[inline]
 pub fn is_tail(questions: &Questions, question: TableKey) -> bool
     ensures { result ≡ tail_in (question_at questions.now question) }
 {
@@ -58,6 +63,7 @@ pub fn is_tail(questions: &Questions, question: TableKey) -> bool
 }
 
 /// Whether a question's results were taken.
+#[inline]
 pub fn is_taken(questions: &Questions, question: TableKey) -> bool
     ensures { result ≡ taken_in (question_at questions.now question) }
 {
@@ -68,6 +74,7 @@ pub fn is_taken(questions: &Questions, question: TableKey) -> bool
 }
 
 /// The call of a question's last opening.
+#[inline]
 pub fn opening_call(questions: &Questions, question: TableKey) -> Option<u64>
     ensures { result ≡ opening_call_in (question_at questions.now question) }
 {
@@ -78,6 +85,7 @@ pub fn opening_call(questions: &Questions, question: TableKey) -> Option<u64>
 }
 
 /// The call of a question that isn't over.
+#[inline]
 pub fn call_of(questions: &Questions, question: TableKey) -> Option<u64>
     ensures { result ≡ call_by (question_at questions.now question) }
 {
@@ -88,6 +96,7 @@ pub fn call_of(questions: &Questions, question: TableKey) -> Option<u64>
 }
 
 /// Whether a record is a late Return.
+#[inline]
 pub fn is_late(questions: &Questions, event: &DecodedRecord) -> bool
     ensures { result ≡ late_by (question_at questions.now) event.now }
 {

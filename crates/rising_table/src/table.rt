@@ -33,6 +33,7 @@ impl<V> Model for RisingTable<V> {
 }
 
 /// The place of a number in a row that has all numbers from its first one up to this.
+#[inline(always)]
 fn place_by_count<V>(row: &[(u64, V)], key: u64) -> Option<usize>
     ensures { IfSome result (IsAt row.now key) }
 {
@@ -43,6 +44,7 @@ fn place_by_count<V>(row: &[(u64, V)], key: u64) -> Option<usize>
 }
 
 /// Whether a number is above all of a row.
+#[inline(always)]
 fn is_above<V>(row: &[(u64, V)], key: u64) -> bool
     requires { AreRising row.now }
     ensures { IsTrue result → IsGapFor row.now key (length row.now) }
@@ -54,6 +56,7 @@ fn is_above<V>(row: &[(u64, V)], key: u64) -> bool
 }
 
 /// Whether a number is below all of a row.
+#[inline(always)]
 fn is_below<V>(row: &[(u64, V)], key: u64) -> bool
     requires { AreRising row.now }
     ensures { IsTrue result → IsGapFor row.now key 0 }
@@ -91,6 +94,7 @@ fn near_the_end<V>(row: &[(u64, V)], key: u64) -> Option<Result<usize, usize>>
 
 /// Where a number is in a row, or where it would go, looked for from the row's end: above all, or among the last, or
 /// anywhere.
+#[inline]
 fn search_from_end<V>(row: &[(u64, V)], key: u64) -> Result<usize, usize>
     requires { AreRising row.now }
     ensures found { IfOk result (IsAt row.now key) }
@@ -107,6 +111,7 @@ fn search_from_end<V>(row: &[(u64, V)], key: u64) -> Result<usize, usize>
 
 /// Where a number is in a row, or where it would go. Mostly it is where it would be if none were left out before it. One
 /// below all of the row is in the tree, as those of a connection are whose first number came late.
+#[inline]
 fn search<V>(row: &[(u64, V)], key: u64) -> Result<usize, usize>
     requires { AreRising row.now }
     ensures found { IfOk result (IsAt row.now key) }
@@ -121,6 +126,7 @@ fn search<V>(row: &[(u64, V)], key: u64) -> Result<usize, usize>
 
 impl<V: Drop> RisingTable<V> {
     /// Before there is any. It takes no memory.
+    #[inline]
     pub fn new(alloc: Global) -> RisingTable<V>
         ensures { result ≡ [] }
     {
@@ -131,6 +137,7 @@ impl<V: Drop> RisingTable<V> {
     }
 
     /// How many entries there are.
+    #[inline]
     pub fn len(&self) -> usize
         ensures { result ≡ length self.now }
     {
@@ -138,6 +145,7 @@ impl<V: Drop> RisingTable<V> {
     }
 
     /// The value of this number, if it has one.
+    #[inline(always)]
     pub fn get(&self, key: u64) -> Option<&V>
         ensures { option_copied result ≡ entry_at self.now key }
     {
@@ -148,6 +156,7 @@ impl<V: Drop> RisingTable<V> {
     }
 
     /// Whether this number has a value.
+    #[inline(always)]
     pub fn has(&self, key: u64) -> bool
         ensures { result ≡ is_some (entry_at self.now key) }
     {
@@ -159,6 +168,7 @@ impl<V: Drop> RisingTable<V> {
     /// # Errors
     ///
     /// Out of memory, and then nothing changes.
+    #[inline]
     pub fn put(&mut self, key: u64, value: V) -> Result<(), AllocError>
         ensures ok { OnOk result
             ((q : ℕ) → entry_at self.new q
@@ -178,6 +188,7 @@ impl<V: Drop> RisingTable<V> {
 
     /// This number has this value from now on in the place of its last one, which is handed back. Where it has none,
     /// nothing changes. It takes no memory.
+    #[inline]
     pub fn replace(&mut self, key: u64, value: V) -> Option<V>
         ensures last { result ≡ entry_at self.old key }
         ensures values { MatchOption result (self.new ≡ self.old)
@@ -198,6 +209,7 @@ impl<V: Drop> RisingTable<V> {
     }
 
     /// The value of this number, to be changed, if it has one.
+    #[inline]
     pub fn get_mut(&mut self, key: u64) -> Option<&mut V>
         ensures* writes_back { sem 𝓛 (lends_value V.row self.entry key result) }
         ensures value { option_copied_mut result ≡ entry_at self.old key }
@@ -209,6 +221,7 @@ impl<V: Drop> RisingTable<V> {
     }
 
     /// This number has no value from now on.
+    #[inline]
     pub fn remove(&mut self, key: u64)
         ensures { (q : ℕ) → entry_at self.new q ≡ (if key == q then None else entry_at self.old q) }
     {

@@ -28,6 +28,7 @@ use std::alloc::Global;
 
 /// The Bootstrap behind a Message's pointer.
 #[tactic(auto, using(crate::proofs::Running::run_then), unfolding(crate::specs::Message::bootstrap_in, cap_reader::specs::Reading::pay_for, cap_reader::specs::Reading::and_then))]
+#[inline]
 pub fn bootstrap(
     frame: &Frame,
     message: &Option<StructAt>,
@@ -44,6 +45,7 @@ pub fn bootstrap(
 
 /// What the pointers of a Call hold, whose first word was read.
 #[tactic(auto, using(crate::proofs::Running::run_then), unfolding(crate::specs::Message::called_in, cap_reader::specs::Reading::pay_for, cap_reader::specs::Reading::and_then))]
+#[inline]
 fn read_call_parts(
     alloc: Global,
     frame: &Frame,
@@ -68,6 +70,7 @@ fn read_call_parts(
 }
 
 /// Whether a field of the later edition is set in a message that is read by the first one.
+#[inline(always)]
 fn is_beyond(edition: Edition, field: bool) -> bool
     ensures { result ≡ is_beyond edition field }
 {
@@ -79,6 +82,7 @@ fn is_beyond(edition: Edition, field: bool) -> bool
 
 /// The Call behind a Message's pointer.
 #[tactic(auto, using(crate::proofs::Running::run_then), unfolding(crate::specs::Message::call_in, crate::specs::Message::unless_refused, cap_reader::specs::Reading::pay_for, cap_reader::specs::Reading::and_then))]
+#[inline]
 pub fn call(
     alloc: Global,
     frame: &Frame,
@@ -106,6 +110,7 @@ pub fn call(
 
 /// What a Return of this tag says of its call: results, or what stands in their place.
 #[tactic(auto, using(crate::proofs::Running::run_then), unfolding(crate::specs::Message::outcome_in, cap_reader::specs::Reading::pay_for, cap_reader::specs::Reading::and_then))]
+#[inline]
 fn outcome(
     alloc: Global,
     frame: &Frame,
@@ -132,6 +137,7 @@ fn outcome(
 
 /// What the pointer of a Return holds, whose first word was read.
 #[tactic(auto, using(crate::proofs::Running::run_then), unfolding(crate::specs::Message::returned_in, cap_reader::specs::Reading::pay_for, cap_reader::specs::Reading::and_then))]
+#[inline]
 fn read_return_parts(
     alloc: Global,
     frame: &Frame,
@@ -154,6 +160,7 @@ fn read_return_parts(
 
 /// The Return behind a Message's pointer.
 #[tactic(auto, using(crate::proofs::Running::run_then), unfolding(crate::specs::Message::return_in, crate::specs::Message::unless_refused, cap_reader::specs::Reading::pay_for, cap_reader::specs::Reading::and_then))]
+#[inline]
 pub fn answer(
     alloc: Global,
     frame: &Frame,
@@ -181,6 +188,7 @@ pub fn answer(
 
 /// The Finish behind a Message's pointer.
 #[tactic(auto, using(crate::proofs::Running::run_then), unfolding(crate::specs::Message::finish_in, cap_reader::specs::Reading::pay_for, cap_reader::specs::Reading::and_then))]
+#[inline]
 pub fn finish(
     frame: &Frame,
     message: &Option<StructAt>,
@@ -199,6 +207,7 @@ pub fn finish(
 
 /// The Resolve behind a Message's pointer.
 #[tactic(auto, using(crate::proofs::Running::run_then), unfolding(crate::specs::Message::resolve_in, cap_reader::specs::Reading::pay_for, cap_reader::specs::Reading::and_then))]
+#[inline]
 pub fn resolve(
     alloc: Global,
     frame: &Frame,
@@ -223,6 +232,7 @@ pub fn resolve(
 
 /// The Release behind a Message's pointer.
 #[tactic(auto, using(crate::proofs::Running::run_then), unfolding(crate::specs::Message::release_in, cap_reader::specs::Reading::pay_for, cap_reader::specs::Reading::and_then))]
+#[inline]
 pub fn release(
     frame: &Frame,
     message: &Option<StructAt>,
@@ -241,6 +251,7 @@ pub fn release(
 
 /// What the pointer of a Disembargo holds.
 #[tactic(auto, using(crate::proofs::Running::run_then), unfolding(crate::specs::Message::disembargoed_in, cap_reader::specs::Reading::pay_for, cap_reader::specs::Reading::and_then))]
+#[inline]
 fn read_disembargo_parts(
     alloc: Global,
     frame: &Frame,
@@ -261,6 +272,7 @@ fn read_disembargo_parts(
 
 /// The Disembargo behind a Message's pointer.
 #[tactic(auto, using(crate::proofs::Running::run_then), unfolding(crate::specs::Message::disembargo_in, cap_reader::specs::Reading::pay_for, cap_reader::specs::Reading::and_then))]
+#[inline]
 pub fn disembargo(
     alloc: Global,
     frame: &Frame,

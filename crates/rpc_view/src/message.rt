@@ -49,6 +49,7 @@ impl Model for Descriptors {
 
 impl Descriptors {
     /// The table of these descriptors. It takes no memory.
+    #[inline(always)]
     pub fn new(items: Vec<Descriptor>) -> Descriptors
         ensures { result ≡ items.items }
     {
@@ -56,6 +57,7 @@ impl Descriptors {
     }
 
     /// The descriptors, in the order of their places.
+    #[inline(always)]
     pub fn as_slice(&self) -> &[Descriptor]
         ensures { result.now ≡ self.now }
     {

@@ -15,6 +15,7 @@ use std::alloc::Global;
 
 /// The payload at a pointer of a struct.
 #[tactic(auto, using(crate::proofs::Running::run_then), unfolding(crate::specs::Message::payload_in, cap_reader::specs::Reading::pay_for, cap_reader::specs::Reading::and_then))]
+#[inline]
 pub fn payload(
     alloc: Global,
     frame: &Frame,

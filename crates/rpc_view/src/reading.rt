@@ -25,6 +25,7 @@ use std::alloc::Global;
 
 /// The message at the root pointer of a frame.
 #[tactic(auto, using(crate::proofs::Running::run_then), unfolding(crate::specs::Message::message_in, crate::specs::Message::body_in, cap_reader::specs::Reading::pay_for, cap_reader::specs::Reading::and_then))]
+#[inline]
 fn message(
     alloc: Global,
     frame: &Frame,
@@ -59,6 +60,7 @@ fn message(
 /// faults the one is answered that comes first in the order `BadTag`, `Level`, `LaterField`; then what its pointers
 /// hold, a capability table before the content, and each entry of a table, and each operation of a transform, with what
 /// it holds before the next one.
+#[inline]
 pub fn read_message(
     alloc: Global,
     frame: &Frame,
@@ -97,7 +99,7 @@ pub fn read_bytes(
     // Running out of memory is `OutOfMemory` alone, and never a pointer's fault.
     ensures memory { result ≢ Err (Read OutOfMemory) }
 {
-    let frame = Frame::read(bytes)?;
+    let frame = Frame::read(bytes.as_slice())?;
     let mut limits = limits;
     message(alloc, &frame, &mut limits, edition)
 }

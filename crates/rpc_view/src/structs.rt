@@ -16,6 +16,7 @@ use cap_reader::{
 use std::alloc::Global;
 
 /// The root struct of a frame.
+#[inline]
 pub fn root_struct(frame: &Frame, limits: &mut Limits) -> Result<Option<StructAt>, ViewError>
     ensures { RunsInMemory (sections_of frame.now) result limits.new.words
         (run (struct_in_tree (root_tree limits.old.depth frame.now)) limits.old.words) }
@@ -60,6 +61,7 @@ pub fn list_in(
 }
 
 /// The struct of an element of a list, counted from 0.
+#[inline]
 pub fn element_in(
     frame: &Frame,
     list: &ListAt,
@@ -75,6 +77,7 @@ pub fn element_in(
 
 /// The capabilities at and below a pointer of a struct.
 #[tactic(auto, unfolding(crate::specs::Reading::part, cap_reader::specs::Fields::fields_in, cap_reader::specs::Reading::pay_for))]
+#[inline]
 pub fn fields_of(
     alloc: Global,
     frame: &Frame,
@@ -92,6 +95,7 @@ pub fn fields_of(
 }
 
 /// The number of two bytes at a byte of the data section.
+#[inline(always)]
 pub fn u16_of(frame: &Frame, place: &Option<StructAt>, byte: u32) -> u16
     requires { byte % 2 ≡ 0 }
     ensures { result ≡ u16_in byte (sections_of frame.now place.now).word }
@@ -103,6 +107,7 @@ pub fn u16_of(frame: &Frame, place: &Option<StructAt>, byte: u32) -> u16
 }
 
 /// The number of four bytes at a byte of the data section.
+#[inline(always)]
 pub fn u32_of(frame: &Frame, place: &Option<StructAt>, byte: u32) -> u32
     requires { byte % 4 ≡ 0 }
     ensures { result ≡ u32_in byte (sections_of frame.now place.now).word }
@@ -114,6 +119,7 @@ pub fn u32_of(frame: &Frame, place: &Option<StructAt>, byte: u32) -> u32
 }
 
 /// The number of eight bytes at a byte of the data section.
+#[inline(always)]
 pub fn u64_of(frame: &Frame, place: &Option<StructAt>, byte: u32) -> u64
     requires { byte % 8 ≡ 0 }
     ensures { result ≡ u64_in byte (sections_of frame.now place.now).word }
@@ -125,6 +131,7 @@ pub fn u64_of(frame: &Frame, place: &Option<StructAt>, byte: u32) -> u64
 }
 
 /// Whether a bit of the data section is set.
+#[inline(always)]
 pub fn bit_of(frame: &Frame, place: &Option<StructAt>, bit: u32) -> bool
     ensures { result ≡ bit_in bit (sections_of frame.now place.now).word }
 {
@@ -135,6 +142,7 @@ pub fn bit_of(frame: &Frame, place: &Option<StructAt>, bit: u32) -> bool
 }
 
 /// The first word of the data section, in which most fields lie.
+#[inline(always)]
 pub fn first_word(frame: &Frame, place: &Option<StructAt>) -> u64
     ensures { result ≡ (sections_of frame.now place.now).word 0 }
 {
@@ -142,6 +150,7 @@ pub fn first_word(frame: &Frame, place: &Option<StructAt>) -> u64
 }
 
 /// The number of two bytes at a byte of a word.
+#[inline(always)]
 pub fn u16_within(word: u64, byte: u32) -> u16
     requires aligned { byte % 2 ≡ 0 }
     requires within { byte < 8 }
@@ -151,6 +160,7 @@ pub fn u16_within(word: u64, byte: u32) -> u16
 }
 
 /// The number of four bytes at a byte of a word.
+#[inline(always)]
 pub fn u32_within(word: u64, byte: u32) -> u32
     requires aligned { byte % 4 ≡ 0 }
     requires within { byte < 8 }
@@ -160,6 +170,7 @@ pub fn u32_within(word: u64, byte: u32) -> u32
 }
 
 /// Whether a bit of a word is set.
+#[inline(always)]
 pub fn bit_within(word: u64, bit: u32) -> bool
     requires { bit < 64 }
     ensures { result ≡ bit_in bit (λ _. word) }

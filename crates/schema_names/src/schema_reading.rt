@@ -38,7 +38,7 @@ fn names(alloc: Global, frame: &Frame, limits: &mut Limits) -> Result<SchemaName
 pub fn read_names(alloc: Global, bytes: Bytes, limits: Limits) -> Result<SchemaNames, SchemaError>
     ensures { GivesSchemaInMemory result (names_of_bytes bytes limits) }
 {
-    let frame = Frame::read(bytes)?;
+    let frame = Frame::read(bytes.as_slice())?;
     let mut limits = limits;
     names(alloc, &frame, &mut limits)
 }

@@ -14,6 +14,7 @@ pub(crate) struct VatCounts {
 
 impl VatCounts {
     /// Before any came up. It takes no memory.
+    #[inline]
     pub(crate) fn new(alloc: Global) -> VatCounts
         ensures { AreEmptyCounts result }
     {
@@ -23,6 +24,7 @@ impl VatCounts {
     }
 
     /// How often this vat came up.
+    #[inline]
     pub(crate) fn of(&self, vat: u32) -> u64
         ensures { result ≡ count_of self.now vat }
     {
@@ -30,6 +32,7 @@ impl VatCounts {
     }
 
     /// This vat came up once more, and its count isn't full. The only error is that memory ran out, and then no count changes.
+    #[inline]
     pub(crate) fn raise(&mut self, vat: u32) -> Result<(), AllocError>
         requires { count_of self.old vat + 1 < 2 ^ 64 }
         ensures ok { OnOk result (IsRaised vat self.old self.new) }
@@ -57,6 +60,7 @@ impl VatCounts {
     }
 
     /// This vat, which came up, came up once less. It takes no memory.
+    #[inline]
     pub(crate) fn lower(&mut self, vat: u32)
         requires { 0 < count_of self.old vat }
         ensures { IsRaised vat self.new self.old }

@@ -49,6 +49,7 @@ impl Debug for References {
 
 impl References {
     /// The list of these. It takes no memory.
+    #[inline]
     pub fn new(items: Vec<u64>) -> References
         ensures { result ≡ items.items }
     {
@@ -61,6 +62,7 @@ impl References {
     }
 
     /// This one alone. It takes no memory.
+    #[inline]
     pub(crate) fn one(reference: u64) -> References
         ensures { result ≡ reference ∷ [] }
     {
@@ -70,6 +72,7 @@ impl References {
     }
 
     /// The references, in their order.
+    #[inline]
     pub fn as_slice(&self) -> &[u64]
         ensures { result.now ≡ self.now }
     {
@@ -80,6 +83,7 @@ impl References {
     }
 
     /// A second list of the same references. The only error is that memory ran out.
+    #[inline]
     pub fn copy(&self) -> Result<References, AllocError>
         ensures { IfOk result (λ copied. copied ≡ self.now) }
     {
@@ -141,6 +145,7 @@ fn copied_results(items: &Vec<(u64, Path)>) -> Result<Vec<(u64, Path)>, AllocErr
 
 impl ResultReferences {
     /// The list of these. It takes no memory.
+    #[inline]
     pub fn new(mut items: Vec<(u64, Path)>) -> ResultReferences
         ensures { result ≡ items.items }
     {
@@ -155,6 +160,7 @@ impl ResultReferences {
     }
 
     /// This one alone. It takes no memory.
+    #[inline]
     pub(crate) fn one(answered: (u64, Path)) -> ResultReferences
         ensures { result ≡ answered ∷ [] }
     {
@@ -164,6 +170,7 @@ impl ResultReferences {
     }
 
     /// The results, each a reference with its path, in their order.
+    #[inline]
     pub fn as_slice(&self) -> &[(u64, Path)]
         ensures { result.now ≡ self.now }
     {
@@ -174,6 +181,7 @@ impl ResultReferences {
     }
 
     /// A second list of the same results. The only error is that memory ran out.
+    #[inline]
     pub fn copy(&self) -> Result<ResultReferences, AllocError>
         ensures { IfOk result (λ copied. copied ≡ self.now) }
     {
@@ -331,6 +339,7 @@ impl Drop for Body {
 }
 
 /// What a MAKE says.
+#[inline]
 pub(crate) fn make_body(call: u64, reference: u64, interface: u64, method: u16) -> Body
     ensures { result ≡ Body.Make call reference interface method }
 {
@@ -343,6 +352,7 @@ pub(crate) fn make_body(call: u64, reference: u64, interface: u64, method: u16) 
 }
 
 /// What a FIELD says.
+#[inline]
 pub(crate) fn field_body(reference: u64, call: u64, path: Path) -> Body
     ensures { result ≡ Body.Field reference call path }
 {

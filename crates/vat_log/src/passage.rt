@@ -39,6 +39,7 @@ impl Passage {
     }
 
     /// What a SEND with this frame says.
+    #[inline]
     pub(crate) fn as_send(self) -> Body
         ensures { result ≡ Body.Send self.connection self.call self.references self.frame }
     {
@@ -51,6 +52,7 @@ impl Passage {
     }
 
     /// What a RECV with this frame says.
+    #[inline]
     pub(crate) fn as_receive(self) -> Body
         ensures { result ≡ Body.Receive self.connection self.call self.references self.frame }
     {

@@ -129,6 +129,7 @@ impl Record {
     }
 
     /// What the record says.
+    #[inline(always)]
     pub fn body(&self) -> &Body
         ensures value { result.now ≡ self.now }
         ensures fits { Fits self.now }

@@ -22,6 +22,7 @@ use vat_view::{DecodedRecord, VatState};
 
 /// Whether a record delivers a call.
 #[tactic(auto, unfolding(crate::specs::Telling::is_delivery))]
+#[inline]
 pub(crate) fn is_delivery(event: &DecodedRecord) -> bool
     ensures { result ≡ is_delivery event.now }
 {
@@ -54,6 +55,7 @@ fn story_of(gathered: Gathered) -> Story
 
 /// The edition of rpc.capnp by which a log with this header is judged: its version says it.
 #[tactic(auto, using(crate::proofs::Editions::later_if, crate::proofs::Editions::first_if))]
+#[inline]
 pub fn edition_of_header(header: LogHeader) -> Edition
     ensures { result ≡ edition_of_version header.version }
 {

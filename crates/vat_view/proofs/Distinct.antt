@@ -7,11 +7,11 @@ use Rattle.std.proofs.lemmas.Bool.{false≢true, eqb-true, eq-eqb}
 use Rattle.std.proofs.lemmas.Bool.Decides.{eqb_tells}
 use Rattle.std.proofs.lemmas.List.{take-append-drop}
 use Rattle.std.proofs.lemmas.List.Folds.{list_any-append}
-use Rattle.vat_view.specs.Types.{RpcMessage, Bootstrap, Call, DecodedRecord, Wire}
+use Rattle.vat_view.specs.Types.{RpcMessage, Bootstrap, Call, DecodedRecord, Host, Vow, Make, Field, Deliver, Fault, Wire}
 use Rattle.decoded_records.specs.Past.{Past}
 use Rattle.decoded_records.specs.Questions.{question_opened}
 use Rattle.decoded_records.specs.Bindings.{Refers, contains, is_bound, is_bound_call, is_distinct, new_references, new_calls, named_references, named_calls, notes_call}
-use Rattle.vat_view.specs.Glue.Plain.{IsNotedAlone, IsNamedAlone}
+use Rattle.vat_view.specs.Glue.Plain.{IsNotedAlone}
 
 both : (a b : Bool) → (a && b) ≡ true → (a ≡ true) × (b ≡ true)
 both true true e = (refl, refl)
@@ -144,13 +144,36 @@ refers_alone before (Wire s k d rs m) c b h is =
     subst (λ l. Decides b (Refers before (Wire s k d l m))) (sym h.1) (alone before s k d rs m b h.2 (is ∙ ap (λ n. n == 0) h.3))
 refers_alone before _ c b h is = absurd (false≢true h.0)
 
--- a record that names one call and nothing else is as it should be where that is bound
+-- records that bind and name one number or two are as they should be where the new ones are unused and the others bound
 and_true : (b : Bool) → b ≡ (b && true)
 and_true true = refl
 and_true false = refl
 
-pub refers_named : (before : Past) (e : DecodedRecord) (c : ℕ) (b : Bool) → IsNamedAlone c e → b ≡ is_bound_call before c → Decides b (Refers before e)
-refers_named before e c b h is =
-    refers_from before e true true true true b true true b b (ap (λ l. is_distinct l) (sym h.0)) (ap (λ l. list_all (λ r. not (is_bound before r)) l) (sym h.0))
-    (ap (λ l. list_all (λ d. not (is_bound_call before d)) l) (sym h.1)) (ap (λ l. list_all (is_bound before) l) (sym h.2))
-    (is ∙ and_true (is_bound_call before c) ∙ ap (λ l. list_all (is_bound_call before) l) (sym h.3)) (sym h.4) refl (and_true b) refl
+and_both : (b : Bool) → b ≡ ((b && true) && true)
+and_both b = and_true b ∙ and_true (b && true)
+
+pub refers_host : (before : Past) (r object : ℕ) (b : Bool) → b ≡ not (is_bound before r) → Decides b (Refers before (Host r object))
+refers_host before r object b is =
+    refers_from before _ true b true true true true b true b refl (is ∙ and_true (not (is_bound before r))) refl refl refl refl (and_true b) refl (and_true b)
+
+pub refers_vow : (before : Past) (r : ℕ) (b : Bool) → b ≡ not (is_bound before r) → Decides b (Refers before (Vow r))
+refers_vow before r b is =
+    refers_from before _ true b true true true true b true b refl (is ∙ and_true (not (is_bound before r))) refl refl refl refl (and_true b) refl (and_true b)
+
+pub refers_make : (before : Past) (call r interface method : ℕ) (free bound b : Bool) → free ≡ not (is_bound_call before call) → bound ≡ is_bound before r →
+    b ≡ (free && bound) → Decides b (Refers before (Make call r interface method))
+refers_make before call r interface method free bound b unused is so =
+    refers_from before _ true true free bound true true free bound b refl refl (unused ∙ and_true (not (is_bound_call before call))) (is ∙ and_true (is_bound before r)) refl refl refl (and_both bound) so
+
+pub refers_field : (before : Past) (r call : ℕ) (path : List ℕ) (free bound b : Bool) → free ≡ not (is_bound before r) → bound ≡ is_bound_call before call →
+    b ≡ (free && bound) → Decides b (Refers before (Field r call path))
+refers_field before r call path free bound b unused is so =
+    refers_from before _ true free true true bound true free bound b refl (unused ∙ and_true (not (is_bound before r))) refl refl (is ∙ and_true (is_bound_call before call)) refl (and_true free) (and_true bound) so
+
+pub refers_deliver : (before : Past) (call object : ℕ) (b : Bool) → b ≡ is_bound_call before call → Decides b (Refers before (Deliver call object))
+refers_deliver before call object b is =
+    refers_from before _ true true true true b true true b b refl refl refl refl (is ∙ and_true (is_bound_call before call)) refl refl (and_true b) refl
+
+pub refers_fault : (before : Past) (call : ℕ) (b : Bool) → b ≡ is_bound_call before call → Decides b (Refers before (Fault call))
+refers_fault before call b is =
+    refers_from before _ true true true true b true true b b refl refl refl refl (is ∙ and_true (is_bound_call before call)) refl refl (and_true b) refl

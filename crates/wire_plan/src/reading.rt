@@ -223,7 +223,7 @@ pub(crate) fn read_planned(
         groups,
     };
     let words = bytes.len() as u64 / 8;
-    let Ok(frame) = Frame::read(bytes.slice(0..bytes.len())?) else {
+    let Ok(frame) = Frame::read(bytes.as_slice()) else {
         return Ok(reading.bare(Kind::Unread));
     };
     match read_message(alloc, &frame, Limits::default(), Edition::Later) {

@@ -15,6 +15,7 @@ use bytes::Bytes;
 use std::alloc::Global;
 
 #[tactic(auto, unfolding(crate::specs::Reading::passage_at))]
+#[inline]
 fn passage_of(
     alloc: Global,
     version: LogVersion,
@@ -39,6 +40,7 @@ fn passage_of(
 }
 
 #[tactic(auto, unfolding(crate::specs::Reading::host_at))]
+#[inline]
 fn host_of(bytes: &[u8], at: usize) -> Result<(Body, usize), LogError>
     requires { at ≤ length bytes.now }
     ensures gives { GivesInMemory (λ x. (x.0, x.1)) result (host_at bytes.now at) }
@@ -50,6 +52,7 @@ fn host_of(bytes: &[u8], at: usize) -> Result<(Body, usize), LogError>
 }
 
 #[tactic(auto, unfolding(crate::specs::Reading::vow_at))]
+#[inline]
 fn vow_of(bytes: &[u8], at: usize) -> Result<(Body, usize), LogError>
     requires { at ≤ length bytes.now }
     ensures gives { GivesInMemory (λ x. (x.0, x.1)) result (vow_at bytes.now at) }
@@ -60,6 +63,7 @@ fn vow_of(bytes: &[u8], at: usize) -> Result<(Body, usize), LogError>
 }
 
 #[tactic(auto, unfolding(crate::specs::Reading::fulfil_at))]
+#[inline]
 fn fulfil_of(bytes: &[u8], at: usize) -> Result<(Body, usize), LogError>
     requires { at ≤ length bytes.now }
     ensures gives { GivesInMemory (λ x. (x.0, x.1)) result (fulfil_at bytes.now at) }
@@ -71,6 +75,7 @@ fn fulfil_of(bytes: &[u8], at: usize) -> Result<(Body, usize), LogError>
 }
 
 #[tactic(auto, unfolding(crate::specs::Reading::break_at))]
+#[inline]
 fn break_of(bytes: &[u8], at: usize) -> Result<(Body, usize), LogError>
     requires { at ≤ length bytes.now }
     ensures gives { GivesInMemory (λ x. (x.0, x.1)) result (break_at bytes.now at) }
@@ -81,6 +86,7 @@ fn break_of(bytes: &[u8], at: usize) -> Result<(Body, usize), LogError>
 }
 
 #[tactic(auto, unfolding(crate::specs::Reading::make_at))]
+#[inline]
 fn make_of(bytes: &[u8], at: usize) -> Result<(Body, usize), LogError>
     requires { at ≤ length bytes.now }
     ensures gives { GivesInMemory (λ x. (x.0, x.1)) result (make_at bytes.now at) }
@@ -94,6 +100,7 @@ fn make_of(bytes: &[u8], at: usize) -> Result<(Body, usize), LogError>
 }
 
 #[tactic(auto, unfolding(crate::specs::Reading::field_at))]
+#[inline]
 fn field_of(
     alloc: Global,
     version: LogVersion,
@@ -111,6 +118,7 @@ fn field_of(
 }
 
 #[tactic(auto, unfolding(crate::specs::Reading::deliver_at))]
+#[inline]
 fn deliver_of(bytes: &[u8], at: usize) -> Result<(Body, usize), LogError>
     requires { at ≤ length bytes.now }
     ensures gives { GivesInMemory (λ x. (x.0, x.1)) result (deliver_at bytes.now at) }
@@ -122,6 +130,7 @@ fn deliver_of(bytes: &[u8], at: usize) -> Result<(Body, usize), LogError>
 }
 
 #[tactic(auto, unfolding(crate::specs::Reading::answer_at))]
+#[inline]
 fn answer_of(
     alloc: Global,
     version: LogVersion,
@@ -138,6 +147,7 @@ fn answer_of(
 }
 
 #[tactic(auto, unfolding(crate::specs::Reading::fault_at))]
+#[inline]
 fn fault_of(bytes: &[u8], at: usize) -> Result<(Body, usize), LogError>
     requires { at ≤ length bytes.now }
     ensures gives { GivesInMemory (λ x. (x.0, x.1)) result (fault_at bytes.now at) }
@@ -148,6 +158,7 @@ fn fault_of(bytes: &[u8], at: usize) -> Result<(Body, usize), LogError>
 }
 
 #[tactic(auto, unfolding(crate::specs::Reading::send_at))]
+#[inline]
 fn send_of(
     alloc: Global,
     version: LogVersion,
@@ -163,6 +174,7 @@ fn send_of(
 }
 
 #[tactic(auto, unfolding(crate::specs::Reading::receive_at))]
+#[inline]
 fn receive_of(
     alloc: Global,
     version: LogVersion,
@@ -178,6 +190,7 @@ fn receive_of(
 }
 
 #[tactic(auto, unfolding(crate::specs::Reading::answer_by_at))]
+#[inline]
 fn answer_by_of(bytes: &[u8], at: usize) -> Result<(Body, usize), LogError>
     requires { at ≤ length bytes.now }
     ensures gives { GivesInMemory (λ x. (x.0, x.1)) result (answer_by_at bytes.now at) }
@@ -189,6 +202,7 @@ fn answer_by_of(bytes: &[u8], at: usize) -> Result<(Body, usize), LogError>
 }
 
 /// The fields of a record of this kind.
+#[inline]
 pub(crate) fn body_of(
     alloc: Global,
     version: LogVersion,

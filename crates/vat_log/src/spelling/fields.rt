@@ -15,6 +15,7 @@ use cap_frame::Path;
 use std::alloc::Global;
 
 #[tactic(auto, unfolding(crate::specs::Reading::number_at))]
+#[inline(always)]
 pub(crate) fn u16_at(bytes: &[u8], at: usize) -> Result<(u16, usize), LogError>
     requires { at ≤ length bytes.now }
     ensures gives { GivesInMemory (λ x. (x.0, x.1)) result (number_at w16 bytes.now at) }
@@ -28,6 +29,7 @@ pub(crate) fn u16_at(bytes: &[u8], at: usize) -> Result<(u16, usize), LogError>
 }
 
 #[tactic(auto, unfolding(crate::specs::Reading::number_at))]
+#[inline(always)]
 pub(crate) fn u32_at(bytes: &[u8], at: usize) -> Result<(u32, usize), LogError>
     requires { at ≤ length bytes.now }
     ensures gives { GivesInMemory (λ x. (x.0, x.1)) result (number_at w32 bytes.now at) }
@@ -43,6 +45,7 @@ pub(crate) fn u32_at(bytes: &[u8], at: usize) -> Result<(u32, usize), LogError>
 }
 
 #[tactic(auto, unfolding(crate::specs::Reading::number_at))]
+#[inline(always)]
 pub(crate) fn u64_at(bytes: &[u8], at: usize) -> Result<(u64, usize), LogError>
     requires { at ≤ length bytes.now }
     ensures gives { GivesInMemory (λ x. (x.0, x.1)) result (number_at w64 bytes.now at) }
@@ -60,6 +63,7 @@ pub(crate) fn u64_at(bytes: &[u8], at: usize) -> Result<(u64, usize), LogError>
 
 /// A reference, or a call that has to be one.
 #[tactic(auto, unfolding(crate::specs::Reading::nonzero_at))]
+#[inline(always)]
 pub(crate) fn nonzero_of(bytes: &[u8], at: usize) -> Result<(u64, usize), LogError>
     requires { at ≤ length bytes.now }
     ensures gives { GivesInMemory (λ x. (x.0, x.1)) result (nonzero_at bytes.now at) }
@@ -73,6 +77,7 @@ pub(crate) fn nonzero_of(bytes: &[u8], at: usize) -> Result<(u64, usize), LogErr
 }
 
 /// A number of the width that a count has in this version.
+#[inline]
 fn wide_count_at(version: LogVersion, bytes: &[u8], at: usize) -> Result<(u32, usize), LogError>
     requires { at ≤ length bytes.now }
     ensures gives { GivesInMemory (λ x. (x.0, x.1)) result
@@ -90,6 +95,7 @@ fn wide_count_at(version: LogVersion, bytes: &[u8], at: usize) -> Result<(u32, u
 
 /// How many a list has.
 #[tactic(auto, unfolding(crate::specs::Reading::count_at))]
+#[inline]
 fn count_of(version: LogVersion, bytes: &[u8], at: usize) -> Result<(usize, usize), LogError>
     requires { at ≤ length bytes.now }
     ensures gives { GivesInMemory (λ x. (x.0, x.1)) result (count_at version bytes.now at) }
@@ -103,6 +109,7 @@ fn count_of(version: LogVersion, bytes: &[u8], at: usize) -> Result<(usize, usiz
     Ok((count, after))
 }
 
+#[inline]
 fn many_references(
     alloc: Global,
     count: usize,
@@ -125,6 +132,7 @@ fn many_references(
 }
 
 #[tactic(auto, unfolding(crate::specs::Reading::list_at))]
+#[inline]
 pub(crate) fn references_of(
     alloc: Global,
     version: LogVersion,
@@ -145,6 +153,7 @@ pub(crate) fn references_of(
     Ok((References::new(references), after))
 }
 
+#[inline]
 fn many_path_fields(
     alloc: Global,
     count: usize,
@@ -167,6 +176,7 @@ fn many_path_fields(
 }
 
 #[tactic(auto, unfolding(crate::specs::Reading::list_at))]
+#[inline]
 pub(crate) fn path_of(
     alloc: Global,
     version: LogVersion,
@@ -187,6 +197,7 @@ pub(crate) fn path_of(
 }
 
 #[tactic(auto, unfolding(crate::specs::Reading::answered_at))]
+#[inline]
 fn answered_of(
     alloc: Global,
     version: LogVersion,
@@ -202,6 +213,7 @@ fn answered_of(
     Ok(((reference, path), after))
 }
 
+#[inline]
 fn many_results(
     alloc: Global,
     version: LogVersion,
@@ -225,6 +237,7 @@ fn many_results(
 }
 
 #[tactic(auto, unfolding(crate::specs::Reading::list_at))]
+#[inline]
 pub(crate) fn results_of(
     alloc: Global,
     version: LogVersion,
@@ -247,6 +260,7 @@ pub(crate) fn results_of(
 
 /// A frame, cut out of the log's bytes without copying.
 #[tactic(auto, unfolding(crate::specs::Reading::frame_at))]
+#[inline]
 pub(crate) fn frame_of(bytes: &Bytes, at: usize) -> Result<(Bytes, usize), LogError>
     requires { at ≤ length bytes.now }
     ensures gives { GivesInMemory (λ x. (x.0, x.1)) result (frame_at bytes.now at) }

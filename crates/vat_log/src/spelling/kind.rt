@@ -24,6 +24,7 @@ pub(crate) enum RecordKind {
 
 /// The kind that a byte stands for.
 #[tactic(auto, unfolding(crate::specs::Reading::kind_with))]
+#[inline]
 fn kind_of(byte: u8) -> Option<RecordKind>
     ensures { result ≡ kind_with byte }
 {
@@ -46,6 +47,7 @@ fn kind_of(byte: u8) -> Option<RecordKind>
 
 /// The kind of the record that begins at this place.
 #[tactic(auto, unfolding(crate::specs::Reading::kind_at))]
+#[inline]
 pub(crate) fn read_kind(bytes: &[u8], at: usize) -> Result<RecordKind, LogError>
     requires { at < length bytes.now }
     ensures { GivesInMemory (λ kind. kind) result (kind_at bytes.now at) }

@@ -17,6 +17,7 @@ use std::alloc::{AllocError, Global};
 use vat_view::{DecodedRecord, TableKey, VatState, View};
 
 /// What a question stands for: its call, as the field at the empty path.
+#[inline]
 fn view_of_question(
     alloc: Global,
     state: &VatState,
@@ -31,6 +32,7 @@ fn view_of_question(
 }
 
 /// What a question stands for, if a record names one.
+#[inline]
 fn view_of_named(
     alloc: Global,
     state: &VatState,
@@ -46,6 +48,7 @@ fn view_of_named(
 }
 
 /// What an export or import number stands for, if a record names one.
+#[inline]
 fn view_of_number(state: &VatState, number: Option<TableKey>) -> Result<Option<View>, AllocError>
     ensures { IfOk result
         (λ v. v ≡ option_and_then (λ i. view_of_number i state.now) number) }
@@ -57,6 +60,7 @@ fn view_of_number(state: &VatState, number: Option<TableKey>) -> Result<Option<V
 }
 
 /// What the question stands for that a record returns or finishes.
+#[inline]
 fn question_view(
     alloc: Global,
     state: &VatState,
@@ -69,6 +73,7 @@ fn question_view(
 }
 
 /// What the question stands for whose results a record takes.
+#[inline]
 fn taken_view(
     alloc: Global,
     state: &VatState,
@@ -80,6 +85,7 @@ fn taken_view(
 }
 
 /// What the descriptors of a record stand for that may be applied next. Most records have one at most.
+#[inline]
 fn views_of_descriptors(
     alloc: Global,
     state: &VatState,
@@ -140,6 +146,7 @@ fn number_in_role(
 }
 
 /// What the numbers of a record stand for that may be applied next, apart from its references.
+#[inline]
 pub(crate) fn facts_before(
     alloc: Global,
     state: &VatState,
@@ -157,6 +164,7 @@ pub(crate) fn facts_before(
 }
 
 /// What references stand for, each of several.
+#[inline]
 fn views_of_each(
     alloc: Global,
     state: &VatState,
@@ -172,6 +180,7 @@ fn views_of_each(
 }
 
 /// What references stand for. Most records have one.
+#[inline]
 fn views_of(alloc: Global, state: &VatState, references: &[u64]) -> Result<ViewList, AllocError>
     ensures { IfOk result (λ views. views ≡ map (view_of_reference state.now) references.now) }
 {
@@ -182,6 +191,7 @@ fn views_of(alloc: Global, state: &VatState, references: &[u64]) -> Result<ViewL
 }
 
 /// What the references of a call's results stand for.
+#[inline]
 fn views_of_results(
     alloc: Global,
     state: &VatState,
@@ -201,6 +211,7 @@ fn views_of_results(
 }
 
 /// What the references stand for that a record binds or names, in its order.
+#[inline]
 pub(crate) fn views_of_references(
     alloc: Global,
     state: &VatState,

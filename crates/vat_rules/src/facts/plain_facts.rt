@@ -36,6 +36,7 @@ impl Model for PlainFacts {
 
 impl PlainFacts {
     /// Of a record with these numbers.
+    #[inline]
     pub(crate) fn new(
         number: Option<(Role, View)>,
         taken: Option<View>,
@@ -53,6 +54,7 @@ impl PlainFacts {
     }
 
     /// Of a record that has no numbers apart from its references. It takes no memory.
+    #[inline]
     pub(crate) fn nothing(alloc: Global) -> PlainFacts
         ensures { result ≡ facts_by None None [] false }
     {
@@ -65,6 +67,7 @@ impl PlainFacts {
     }
 
     /// What the number in this role stands for.
+    #[inline]
     pub(crate) fn in_role(&self, wanted: Role) -> Option<&View>
         ensures { option_copied result ≡ in_role wanted self.now }
     {
@@ -75,6 +78,7 @@ impl PlainFacts {
     }
 
     /// What the promise stands for that it resolves.
+    #[inline]
     pub(crate) fn promise(&self) -> Option<&View>
         ensures { option_copied result ≡ self.now.promise }
     {
@@ -82,6 +86,7 @@ impl PlainFacts {
     }
 
     /// What its target stands for.
+    #[inline]
     pub(crate) fn target(&self) -> Option<&View>
         ensures { option_copied result ≡ self.now.target }
     {
@@ -89,6 +94,7 @@ impl PlainFacts {
     }
 
     /// What the question stands for whose results it takes.
+    #[inline]
     pub(crate) fn taken(&self) -> Option<&View>
         ensures { option_copied result ≡ self.now.taken }
     {
@@ -96,6 +102,7 @@ impl PlainFacts {
     }
 
     /// What its descriptors stand for, by place.
+    #[inline]
     pub(crate) fn caps(&self) -> &[Option<View>]
         ensures { result.now ≡ self.now.caps }
     {
@@ -103,6 +110,7 @@ impl PlainFacts {
     }
 
     /// Whether it is a Return that is late.
+    #[inline]
     pub(crate) fn is_late(&self) -> bool
         ensures { result ≡ self.now.late }
     {

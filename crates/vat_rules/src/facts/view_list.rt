@@ -33,6 +33,7 @@ impl Model for ViewList {
 
 impl ViewList {
     /// All of these. It takes no memory.
+    #[inline]
     pub(crate) fn new(mut items: Vec<Option<View>>) -> ViewList
         ensures { result ≡ items.items }
     {
@@ -47,6 +48,7 @@ impl ViewList {
     }
 
     /// This one alone. It takes no memory.
+    #[inline]
     pub(crate) fn one(view: Option<View>) -> ViewList
         ensures { result ≡ view ∷ [] }
     {
@@ -56,6 +58,7 @@ impl ViewList {
     }
 
     /// What they stand for, in their order.
+    #[inline]
     pub(crate) fn as_slice(&self) -> &[Option<View>]
         ensures { result.now ≡ self.now }
     {
@@ -66,6 +69,7 @@ impl ViewList {
     }
 
     /// Whether there are none.
+    #[inline]
     pub(crate) fn is_empty(&self) -> bool
         ensures { IsTrue result ↔ (self.now ≡ []) }
     {
@@ -76,6 +80,7 @@ impl ViewList {
     }
 
     /// What the one number stands for, or else the list of what all of them do.
+    #[inline]
     pub(crate) fn alone(self) -> Result<Option<View>, Vec<Option<View>>>
         ensures one { IfOk result (λ view. self ≡ view ∷ []) }
         ensures other { IfErr result (λ items. items.items ≡ self) }

@@ -8,6 +8,7 @@ use rpc_view::Edition;
 use vat_view::{VatState, View};
 
 /// Whether there are both views, and the one leads to the other.
+#[inline]
 pub(crate) fn leads_to(state: &VatState, from: Option<&View>, to: Option<&View>) -> bool
     ensures { Decides result
         (LeadsTo state.now (option_copied from.entry) (option_copied to.entry)) }
@@ -19,6 +20,7 @@ pub(crate) fn leads_to(state: &VatState, from: Option<&View>, to: Option<&View>)
 }
 
 /// Whether there are both views, and the one leads to the other by 1 or more turns.
+#[inline]
 pub(crate) fn leads_on_to(state: &VatState, from: Option<&View>, to: Option<&View>) -> bool
     ensures { Decides result
         (LeadsOnTo state.now (option_copied from.entry) (option_copied to.entry)) }
@@ -30,6 +32,7 @@ pub(crate) fn leads_on_to(state: &VatState, from: Option<&View>, to: Option<&Vie
 }
 
 /// Whether there are both views, and both are one.
+#[inline]
 fn are_one(state: &VatState, from: Option<&View>, to: Option<&View>) -> bool
     ensures { Decides result
         (AreOneThere state.now (option_copied from.entry) (option_copied to.entry)) }
@@ -41,6 +44,7 @@ fn are_one(state: &VatState, from: Option<&View>, to: Option<&View>) -> bool
 }
 
 /// Whether there are both views, and the one became the other.
+#[inline]
 pub(crate) fn became(state: &VatState, from: Option<&View>, to: Option<&View>) -> bool
     ensures { Decides result
         (BecameThere state.now (option_copied from.entry) (option_copied to.entry)) }
@@ -52,6 +56,7 @@ pub(crate) fn became(state: &VatState, from: Option<&View>, to: Option<&View>) -
 }
 
 /// Whether the one view goes for the other, as the edition has it: it leads there, or both are one.
+#[inline]
 pub(crate) fn goes_for(
     edition: Edition,
     state: &VatState,
@@ -68,6 +73,7 @@ pub(crate) fn goes_for(
 }
 
 /// Whether the one view went on to the other, which is given by a number of the sender's own or not, as the edition has it.
+#[inline]
 pub(crate) fn went_on(
     edition: Edition,
     own: bool,

@@ -18,6 +18,7 @@ use std::alloc::{AllocError, Global};
 use vat_view::{BorrowedView, DecodedRecord, VatState, View, ends_are_one};
 
 /// Whether a record sends a frame.
+#[inline]
 fn is_sent(event: &DecodedRecord) -> bool
     ensures { result ≡ is_sent event.now }
 {
@@ -25,6 +26,7 @@ fn is_sent(event: &DecodedRecord) -> bool
 }
 
 /// Whether a record receives a frame.
+#[inline]
 fn is_received(event: &DecodedRecord) -> bool
     ensures { result ≡ is_received event.now }
 {
@@ -32,6 +34,7 @@ fn is_received(event: &DecodedRecord) -> bool
 }
 
 /// Whether a record notes no reference if it is a Return that says that no Finish is needed.
+#[inline]
 fn is_light_without_caps(event: &DecodedRecord) -> bool
     ensures { Decides result (is_light_return event.now ≡ true → references event.now ≡ []) }
 {
@@ -46,6 +49,7 @@ fn is_light_without_caps(event: &DecodedRecord) -> bool
 }
 
 /// Whether there is a descriptor and it isn't none.
+#[inline]
 pub(crate) fn is_cap_at(descriptor: Option<&Descriptor>) -> bool
     ensures { result ≡ is_cap_at (option_copied descriptor.entry) }
 {
@@ -56,6 +60,7 @@ pub(crate) fn is_cap_at(descriptor: Option<&Descriptor>) -> bool
 }
 
 /// Whether there is a descriptor and it names a number of its sender's own.
+#[inline]
 pub(crate) fn is_own_number(descriptor: Option<&Descriptor>) -> bool
     ensures { result ≡ is_own_number (option_copied descriptor.entry) }
 {
@@ -66,6 +71,7 @@ pub(crate) fn is_own_number(descriptor: Option<&Descriptor>) -> bool
 }
 
 /// Whether there is a descriptor and it is senderHosted.
+#[inline]
 fn is_hosted(descriptor: Option<&Descriptor>) -> bool
     ensures { result ≡ is_hosted (option_copied descriptor.entry) }
 {
@@ -73,6 +79,7 @@ fn is_hosted(descriptor: Option<&Descriptor>) -> bool
 }
 
 /// Whether a view is an own object, or an import that came as senderHosted.
+#[inline]
 fn is_hosted_end(state: &VatState, end: BorrowedView<'_>) -> bool
     ensures { result ≡ is_hosted_end state.now (as_view end.entry) }
 {
@@ -84,6 +91,7 @@ fn is_hosted_end(state: &VatState, end: BorrowedView<'_>) -> bool
 }
 
 /// Whether the end of a view, if it has one, is an own object or an import that came as senderHosted.
+#[inline]
 fn ends_hosted(state: &VatState, view: Option<&View>) -> bool
     ensures { Decides result (EndsIn state.now (option_copied view.entry)
         (λ end. IsTrue (is_hosted_end state.now end))) }
@@ -99,6 +107,7 @@ fn ends_hosted(state: &VatState, view: Option<&View>) -> bool
 }
 
 /// The view of these at a place, if one is there.
+#[inline]
 pub(crate) fn view_at(views: &[Option<View>], place: usize) -> Option<&View>
     ensures { option_copied result ≡ view_at place views.now }
 {
@@ -110,6 +119,7 @@ pub(crate) fn view_at(views: &[Option<View>], place: usize) -> Option<&View>
 
 /// Whether a noted reference goes for what the descriptor at this place stands for, one of these, and leads to one that is
 /// hosted where that says so.
+#[inline]
 fn notes_view(
     edition: Edition,
     state: &VatState,
@@ -132,6 +142,7 @@ fn notes_view(
 }
 
 /// The places of a record's descriptors that aren't none.
+#[inline]
 fn places(alloc: Global, event: &DecodedRecord) -> Result<Vec<usize>, AllocError>
     ensures { IfOk result (λ v. v.items ≡ places event.now) }
 {
@@ -146,6 +157,7 @@ fn places(alloc: Global, event: &DecodedRecord) -> Result<Vec<usize>, AllocError
 }
 
 /// Each reference with the place that stands as far on.
+#[inline]
 fn views_in_pairs(
     alloc: Global,
     references: &[u64],
@@ -161,6 +173,7 @@ fn views_in_pairs(
 }
 
 /// The references that a record notes, each with the place of its descriptor.
+#[inline]
 fn placed_references(alloc: Global, event: &DecodedRecord) -> Result<Vec<(u64, usize)>, AllocError>
     ensures { IfOk result (λ v. v.items ≡ placed_references event.now) }
 {
@@ -174,6 +187,7 @@ fn placed_references(alloc: Global, event: &DecodedRecord) -> Result<Vec<(u64, u
 }
 
 /// Whether each of these references goes for what the descriptor at its place stands for.
+#[inline]
 fn notes_views(
     edition: Edition,
     state: &VatState,
@@ -194,6 +208,7 @@ fn notes_views(
 }
 
 /// The reference that a record notes for the one descriptor that it has, if it is so.
+#[inline]
 fn only_noted(event: &DecodedRecord) -> Option<u64>
     ensures { MatchOption result ⊤
         (λ reference. placed_references event.now ≡ (reference, 0) ∷ []) }
@@ -211,6 +226,7 @@ fn only_noted(event: &DecodedRecord) -> Option<u64>
 }
 
 /// Whether each reference that a record notes goes for what the descriptor at its place stands for.
+#[inline]
 fn notes_each_view(
     alloc: Global,
     edition: Edition,
@@ -267,6 +283,7 @@ pub(crate) fn describes(
 }
 
 /// Whether a received record notes one reference for each descriptor that isn't none, and none beside a late Return.
+#[inline]
 pub(crate) fn binds_each(state: &VatState, event: &DecodedRecord) -> bool
     ensures { Decides result (BindsEach state.now event.now) }
 {

@@ -18,6 +18,7 @@ use std::alloc::AllocError;
 use vat_view::{BorrowedView, DecodedRecord, Number, VatState, View};
 
 /// Whether a reference stands for an own promise that was neither kept nor broken.
+#[inline]
 fn is_unkept(state: &VatState, reference: u64) -> Result<bool, AllocError>
     ensures { IfOk result (λ b.
         Decides b (IsUnkept state.now (view_of_reference state.now reference))) }
@@ -29,6 +30,7 @@ fn is_unkept(state: &VatState, reference: u64) -> Result<bool, AllocError>
 }
 
 /// Whether a promise that a record keeps or breaks has been neither kept nor broken.
+#[inline]
 pub(crate) fn keeps_vow(state: &VatState, event: &DecodedRecord) -> Result<bool, AllocError>
     ensures { IfOk result (λ b. Decides b (KeepsVow state.now event.now)) }
 {
@@ -41,6 +43,7 @@ pub(crate) fn keeps_vow(state: &VatState, event: &DecodedRecord) -> Result<bool,
 }
 
 /// Whether an export or import number is in life, began as a senderPromise and has had no Resolve.
+#[inline]
 fn is_unresolved(state: &VatState, connection: u32, number: Number) -> bool
     ensures { result ≡ is_unresolved (id_of connection number) state.now }
 {
@@ -52,6 +55,7 @@ fn is_unresolved(state: &VatState, connection: u32, number: Number) -> bool
 }
 
 /// Whether an import number is out of life.
+#[inline]
 fn is_gone(state: &VatState, connection: u32, number: u32) -> bool
     ensures { result ≡ not (is_in_life (id connection false number) state.now) }
 {
@@ -59,6 +63,7 @@ fn is_gone(state: &VatState, connection: u32, number: u32) -> bool
 }
 
 /// Whether a view became another one.
+#[inline]
 fn became_another(state: &VatState, from: Option<&View>, to: Option<&View>) -> bool
     ensures { Decides result (BecameThere state.now (option_copied from.entry) (option_copied to.entry)
         × (option_copied from.entry ≢ option_copied to.entry)) }
@@ -73,6 +78,7 @@ fn became_another(state: &VatState, from: Option<&View>, to: Option<&View>) -> b
 
 /// Whether what a promise stood for may be resolved to this, which is given by a number of the sender's own or not, as the
 /// edition has it.
+#[inline]
 fn is_resolved_to(
     edition: Edition,
     own: bool,
@@ -90,6 +96,7 @@ fn is_resolved_to(
 }
 
 /// Whether the promise of a sent Resolve may be resolved to what its descriptor stands for, if it has one that isn't none.
+#[inline]
 fn resolves_to(
     edition: Edition,
     state: &VatState,

@@ -35,6 +35,7 @@ fn refused_at(at: u64, refusal: Refusal) -> SlimOutcome
 
 /// Reads a log's next record and judges it by an edition; where it is good, puts it behind those before it; else why it
 /// isn't.
+#[inline]
 fn put_next(
     alloc: Global,
     edition: Edition,
@@ -60,6 +61,7 @@ fn put_next(
 
 /// The next record of a log whose records are all good so far: its number and why, where it isn't good, and then nothing is
 /// kept of those before it.
+#[inline]
 fn take_next(
     alloc: Global,
     edition: Edition,
@@ -82,6 +84,7 @@ fn take_next(
 }
 
 /// The first record that isn't good, if there is one, of a log that has one record more.
+#[inline]
 fn take_unless_refused(
     alloc: Global,
     edition: Edition,
@@ -183,6 +186,7 @@ impl VatAudit {
     /// # Errors
     ///
     /// Out of memory, and then the audit is as it was.
+    #[inline]
     pub fn take(&mut self, alloc: Global, body: &Body) -> Result<(), AllocError>
         ensures ok { OnOk result (self.new ≡ with_record body.now self.old) }
         ensures err { OnErr result (self.new ≡ self.old) }

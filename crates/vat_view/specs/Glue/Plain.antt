@@ -7,17 +7,12 @@ use Rattle.vat_view.specs.Types.{DecodedRecord, Host, Vow, Field, Wire, View, Ob
 use Rattle.decoded_records.specs.Questions.{question_opened, noted_call}
 use Rattle.decoded_records.specs.Lives.{descriptors}
 use Rattle.decoded_records.specs.Views.{references}
-use Rattle.decoded_records.specs.Bindings.{new_references, new_calls, named_references, named_calls, notes_call}
 use Rattle.vat_view.specs.Glue.Tables.{view_by, bound_from}
 use Rattle.decoded_records.specs.Glue.Parts.{has_message}
 
 -- this call is noted beside a message that opens no question, and no reference is
 abbrev pub IsNotedAlone : ℕ → DecodedRecord → Type 0
 IsNotedAlone c e = (has_message e ≡ true) × (references e ≡ []) × (question_opened e ≡ None) × (c ≡ noted_call e)
-
--- this call is all that a record names, and it binds nothing
-abbrev pub IsNamedAlone : ℕ → DecodedRecord → Type 0
-IsNamedAlone c e = (new_references e ≡ []) × (new_calls e ≡ []) × (named_references e ≡ []) × (named_calls e ≡ c ∷ []) × (notes_call e ≡ true)
 
 -- the reference that a record without a message binds, with its view, if it binds one
 abbrev pub own_bindings : DecodedRecord → List (ℕ × View)

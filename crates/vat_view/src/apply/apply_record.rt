@@ -51,6 +51,7 @@ fn apply_beginning(
 
 /// Tells all tables of one record that begins no call, and has this number in the log. What it tells of calls is read
 /// before the other tables change. Where memory is refused, the tables are of the records before.
+#[inline(always)]
 fn apply_following(
     number: usize,
     questions: &mut Questions,
@@ -82,6 +83,7 @@ fn apply_following(
 
 /// Tells all tables of one record, which has this number in the log. Where memory is refused, the tables are of the
 /// records before.
+#[inline(always)]
 pub(crate) fn apply_record(
     number: usize,
     questions: &mut Questions,

@@ -16,6 +16,7 @@ use rpc_view::{Outcome, RpcMessage};
 use std::alloc::AllocError;
 
 /// A call that comes to the vat.
+#[inline]
 fn arriving_call(goal: Option<View>, interface: u64, method: u16) -> CallState
     ensures { result ≡ arriving_call goal interface method }
 {
@@ -34,6 +35,7 @@ fn arriving_call(goal: Option<View>, interface: u64, method: u16) -> CallState
 }
 
 /// The call of a Bootstrap, which is served where that was received.
+#[inline]
 fn bootstrap_call(received: bool) -> CallState
     ensures { result ≡ bootstrap_call received }
 {
@@ -47,6 +49,7 @@ fn bootstrap_call(received: bool) -> CallState
 }
 
 /// Whether a record begins a call: MAKE, a Bootstrap, and a received Call do.
+#[inline(always)]
 pub(crate) fn begins_call(event: &DecodedRecord) -> bool
     ensures { result ≡ begins_call event.now }
 {
@@ -106,6 +109,7 @@ pub(crate) fn call_begun(
 }
 
 /// The change of a call, if there is one.
+#[inline]
 fn moved(step: CallChange, call: Option<u64>) -> Option<(u64, CallChange)>
     ensures { result ≡ moved step call }
 {
@@ -116,6 +120,7 @@ fn moved(step: CallChange, call: Option<u64>) -> Option<(u64, CallChange)>
 }
 
 /// What a sent record tells of a call that was begun before.
+#[inline]
 fn sent_step(questions: &Questions, event: &DecodedRecord) -> Option<(u64, CallChange)>
     ensures { result ≡ sent_step (λ q. opening_call_in (question_at questions.now q)) event.now }
 {
@@ -187,6 +192,7 @@ fn received_step(questions: &Questions, event: &DecodedRecord) -> Option<(u64, C
 }
 
 /// What a record tells of a call that was begun before.
+#[inline(always)]
 pub(crate) fn step_of(questions: &Questions, event: &DecodedRecord) -> Option<(u64, CallChange)>
     ensures { result ≡ step_by (question_at questions.now) event.now }
 {

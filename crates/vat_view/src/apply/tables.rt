@@ -25,6 +25,7 @@ use rpc_view::RpcMessage;
 use std::alloc::{AllocError, Global};
 
 /// Takes from the counts what a Release gives back.
+#[inline]
 pub(crate) fn release(lives: &mut ExportsImports, event: &DecodedRecord)
     ensures counts { (i : TableKey) → held_count_at lives.new i
         ≡ held_count_at lives.old i - count_released i event.now }
@@ -43,6 +44,7 @@ pub(crate) fn release(lives: &mut ExportsImports, event: &DecodedRecord)
 }
 
 /// Notes what a record does to the question that it returns or finishes.
+#[inline]
 fn note_return_or_finish(questions: &mut Questions, event: &DecodedRecord, introduced: TableKeys)
     ensures { (q : TableKey) → question_at questions.new q
         ≡ ended_by event.now introduced q (question_at questions.old q) }
@@ -57,6 +59,7 @@ fn note_return_or_finish(questions: &mut Questions, event: &DecodedRecord, intro
 }
 
 /// Notes that a record takes the results of a question, where it does.
+#[inline]
 fn note_taking(questions: &mut Questions, event: &DecodedRecord)
     ensures { (q : TableKey) → question_at questions.new q
         ≡ changed_if (names q (question_taken event.now)) with_taken (question_at questions.old q) }
@@ -67,6 +70,7 @@ fn note_taking(questions: &mut Questions, event: &DecodedRecord)
 }
 
 /// Notes what a record does to the question that it returns or finishes, and to the one whose results it takes.
+#[inline]
 pub(crate) fn note_on_question(
     questions: &mut Questions,
     event: &DecodedRecord,
@@ -81,6 +85,7 @@ pub(crate) fn note_on_question(
 
 /// A record opened this question and introduced these numbers. Where memory is refused, nothing changes but the
 /// origins of numbers that aren't held.
+#[inline]
 pub(crate) fn apply_opening(
     questions: &mut Questions,
     lives: &mut ExportsImports,
@@ -117,6 +122,7 @@ pub(crate) fn apply_opening(
 
 /// A record that opens no question gives back what it does, and is noted at its question with the numbers that it
 /// introduced.
+#[inline]
 fn give_back_and_note(
     questions: &mut Questions,
     lives: &mut ExportsImports,
@@ -138,6 +144,7 @@ fn give_back_and_note(
 
 /// A record that opens no question introduced these numbers. Where memory is refused, nothing changes but the origins
 /// of numbers that aren't held.
+#[inline]
 pub(crate) fn apply_other(
     questions: &mut Questions,
     lives: &mut ExportsImports,
@@ -171,6 +178,7 @@ pub(crate) fn apply_other(
 
 /// Tells the tables of one record, which has this number in the log, and whether it is late. Where memory is refused,
 /// they are of the records before.
+#[inline]
 pub(crate) fn count_numbers(
     alloc: Global,
     late: bool,
@@ -198,6 +206,7 @@ pub(crate) fn count_numbers(
 }
 
 /// Tells the tables of one record that has no descriptors. Where memory is refused, they are of the records before.
+#[inline]
 fn count_plain(
     questions: &mut Questions,
     lives: &mut ExportsImports,
@@ -224,6 +233,7 @@ fn count_plain(
 
 /// Tells all tables of one record that has descriptors, and this number in the log. Where memory is refused, they are
 /// of the records before.
+#[inline]
 fn bind_described(
     alloc: Global,
     number: usize,
@@ -258,6 +268,7 @@ fn bind_described(
 }
 
 /// Binds the reference that HOST, VOW or FIELD binds. Where memory is refused, nothing changes.
+#[inline(always)]
 fn bind_new(bound: &mut BoundReferences, event: &DecodedRecord) -> Result<(), AllocError>
     ensures ok { OnOk result
         ((q : ℕ) → bound_at bound.new q
@@ -278,6 +289,7 @@ fn bind_new(bound: &mut BoundReferences, event: &DecodedRecord) -> Result<(), Al
 }
 
 /// Binds the reference that a record without a message binds, if it binds one. Where memory is refused, nothing changes.
+#[inline(always)]
 fn bind_own(bound: &mut BoundReferences, event: &DecodedRecord) -> Result<(), AllocError>
     ensures ok { OnOk result
         ((q : ℕ) → bound_at bound.new q
@@ -295,6 +307,7 @@ fn bind_own(bound: &mut BoundReferences, event: &DecodedRecord) -> Result<(), Al
 
 /// Tells all tables of one record, which has this number in the log. Where memory is refused, they are of the records
 /// before. Records without descriptors are told first, since they are many and there is little to tell.
+#[inline(always)]
 pub(crate) fn bind_and_count(
     alloc: Global,
     number: usize,

@@ -12,6 +12,7 @@ use number_tables::{ExportsImports, Questions, call_of};
 use std::alloc::AllocError;
 
 /// The view of a reference, if it has one.
+#[inline]
 pub(crate) fn view_of_reference(
     bound: &BoundReferences,
     reference: u64,
@@ -25,6 +26,7 @@ pub(crate) fn view_of_reference(
 }
 
 /// What a number stands for, of this vat or of its peer, whose life began so.
+#[inline]
 pub(crate) fn view_from(
     bound: &BoundReferences,
     ours: bool,
@@ -42,6 +44,7 @@ pub(crate) fn view_from(
 }
 
 /// What an export or import number stands for.
+#[inline]
 pub(crate) fn view_of_number(
     bound: &BoundReferences,
     lives: &ExportsImports,
@@ -56,6 +59,7 @@ pub(crate) fn view_of_number(
 }
 
 /// The field at a path of the call of a question that isn't over.
+#[inline]
 pub(crate) fn field_of(
     questions: &Questions,
     question: TableKey,

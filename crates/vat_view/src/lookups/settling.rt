@@ -17,6 +17,7 @@ use rpc_view::{Outcome, RpcMessage};
 use std::alloc::{AllocError, Global};
 
 /// Whether a record may turn views, by its kind: whether it may settle something, or resolves a promise.
+#[inline(always)]
 pub(crate) fn may_turn(event: &DecodedRecord) -> bool
     ensures { result ≡ may_turn event.now }
 {
@@ -36,6 +37,7 @@ pub(crate) fn may_turn(event: &DecodedRecord) -> bool
 }
 
 /// The own promise for which a reference stands.
+#[inline]
 fn promise_of(bound: &BoundReferences, reference: u64) -> Option<Unsettled>
     ensures { result ≡ promise_of (bound_at bound.now reference) }
 {
@@ -46,6 +48,7 @@ fn promise_of(bound: &BoundReferences, reference: u64) -> Option<Unsettled>
 }
 
 /// The call of a question that was opened.
+#[inline]
 fn results_of(questions: &Questions, question: TableKey) -> Option<Unsettled>
     ensures { result ≡ results_by (question_at questions.now question) }
 {
@@ -56,6 +59,7 @@ fn results_of(questions: &Questions, question: TableKey) -> Option<Unsettled>
 }
 
 /// The import for which a number in life stands.
+#[inline]
 fn import_of(lives: &ExportsImports, number: TableKey) -> Option<Unsettled>
     ensures { result ≡ import_by (held_origin lives.now number) }
 {
@@ -113,6 +117,7 @@ fn settled_by(
 }
 
 /// A call, unless the Return that takes its results is late.
+#[inline]
 fn unless_late(late: bool, call: Option<u64>) -> Option<u64>
     ensures { result ≡ (if late then None else call) }
 {
@@ -142,6 +147,7 @@ fn question_taken_here(event: &DecodedRecord) -> Option<TableKey>
 }
 
 /// The call that ANSWERBY names as the one whose results are the first's.
+#[inline]
 fn named_answerer(event: &DecodedRecord) -> Option<u64>
     ensures { result ≡ named_answerer event.now }
 {
@@ -152,6 +158,7 @@ fn named_answerer(event: &DecodedRecord) -> Option<u64>
 }
 
 /// The call whose results a received Return takes that isn't late, by the table of questions before it.
+#[inline]
 fn call_taken_here(questions: &Questions, event: &DecodedRecord) -> Option<u64>
     ensures { result ≡ call_taken_here (question_at questions.now) event.now }
 {
@@ -162,6 +169,7 @@ fn call_taken_here(questions: &Questions, event: &DecodedRecord) -> Option<u64>
 }
 
 /// The call by whose results a record answers another, by the table of questions before it.
+#[inline]
 pub(crate) fn taken_from_by(questions: &Questions, event: &DecodedRecord) -> Option<u64>
     ensures { result ≡ taken_from_by (question_at questions.now) event.now }
 {
@@ -170,6 +178,7 @@ pub(crate) fn taken_from_by(questions: &Questions, event: &DecodedRecord) -> Opt
 
 /// What a record settles, the call by whose results it does, and where it turns what waits for that, by the tables
 /// before it.
+#[inline]
 pub(crate) fn settling_of(
     alloc: Global,
     questions: &Questions,

@@ -12,6 +12,7 @@ use number_tables::ExportsImports;
 use rpc_view::Descriptor;
 
 /// Whether the last Resolve of a number came in its life, by the records where that began and where it stands.
+#[inline]
 pub(crate) fn resolved_since(origin: Option<Origin>, last: Option<usize>) -> bool
     ensures { result ≡ resolved_since origin last }
 {
@@ -22,6 +23,7 @@ pub(crate) fn resolved_since(origin: Option<Origin>, last: Option<usize>) -> boo
 }
 
 /// Whether a descriptor is of the kind of a life that began so, if one did.
+#[inline]
 fn is_of_kind(descriptor: &Descriptor, origin: Option<Origin>) -> bool
     ensures { result ≡ of_kind_by descriptor.now origin }
 {
@@ -33,6 +35,7 @@ fn is_of_kind(descriptor: &Descriptor, origin: Option<Origin>) -> bool
 
 /// Whether the number that a descriptor of the record that comes next introduces keeps its kind, by the tables before
 /// it and what it introduces.
+#[inline]
 fn keeps_kind(
     lives: &ExportsImports,
     begun: &Introduced<'_>,
@@ -52,6 +55,7 @@ fn keeps_kind(
 }
 
 /// Whether every number that the record that comes next introduces keeps its kind.
+#[inline]
 pub(crate) fn keeps_kinds(
     lives: &ExportsImports,
     begun: &Introduced<'_>,

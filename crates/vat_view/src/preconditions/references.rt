@@ -3,10 +3,10 @@
 ghost use Rattle.std.specs.Prelude.{◌≡◌, not, Decides, IfOk, IfSome};
 ghost use Rattle.std.specs.List.{list_all};
 ghost use Rattle.decoded_records.specs.Bindings.{Refers, is_bound, is_bound_call, is_distinct, new_references, new_calls, named_references, named_calls, notes_call};
-ghost use Rattle.vat_view.specs.Glue.Plain.{IsNotedAlone, IsNamedAlone};
+ghost use Rattle.vat_view.specs.Glue.Plain.{IsNotedAlone};
 
 use crate::preconditions::reference_set::ReferenceSet;
-use crate::preconditions::uses::all_three;
+use crate::preconditions::uses::{all_three, both};
 use crate::state::VatState;
 use decoded_records::DecodedRecord;
 use rpc_view::RpcMessage;
@@ -14,6 +14,7 @@ use std::alloc::{AllocError, Global};
 use vat_log::ResultReferences;
 
 /// Whether no reference stands twice.
+#[inline]
 fn is_distinct(alloc: Global, references: &[u64]) -> Result<bool, AllocError>
     ensures { IfOk result (λ distinct. distinct ≡ is_distinct references.now) }
 {
@@ -30,6 +31,7 @@ fn is_distinct(alloc: Global, references: &[u64]) -> Result<bool, AllocError>
 }
 
 /// Whether the references that a record newly binds are unused.
+#[inline]
 fn binds_unused(state: &VatState, event: &DecodedRecord) -> bool
     ensures { result ≡ list_all (λ r. not (is_bound state.now r)) (new_references event.now) }
 {
@@ -40,6 +42,7 @@ fn binds_unused(state: &VatState, event: &DecodedRecord) -> bool
 }
 
 /// Whether the call that a record newly binds, if it does, is unused.
+#[inline]
 fn binds_unused_call(state: &VatState, event: &DecodedRecord) -> bool
     ensures { result ≡ list_all (λ c. not (is_bound_call state.now c)) (new_calls event.now) }
 {
@@ -50,6 +53,7 @@ fn binds_unused_call(state: &VatState, event: &DecodedRecord) -> bool
 }
 
 /// Whether all these references are bound.
+#[inline]
 fn are_bound(state: &VatState, references: &[u64]) -> bool
     ensures { result ≡ list_all (is_bound state.now) references.now }
 {
@@ -59,6 +63,7 @@ fn are_bound(state: &VatState, references: &[u64]) -> bool
 }
 
 /// Whether the references of all results are bound.
+#[inline]
 fn gives_bound(state: &VatState, results: &ResultReferences) -> bool
     ensures { result ≡ list_all (λ answer. is_bound state.now answer.0) results.now }
 {
@@ -69,6 +74,7 @@ fn gives_bound(state: &VatState, results: &ResultReferences) -> bool
 }
 
 /// Whether the other references that a record names are bound.
+#[inline]
 fn names_bound(state: &VatState, event: &DecodedRecord) -> bool
     ensures { result ≡ list_all (is_bound state.now) (named_references event.now) }
 {
@@ -109,6 +115,7 @@ fn names_bound_calls(state: &VatState, event: &DecodedRecord) -> bool
 }
 
 /// Whether a call is noted just where a question is opened.
+#[inline]
 fn notes_call(event: &DecodedRecord) -> bool
     ensures { result ≡ notes_call event.now }
 {
@@ -140,12 +147,27 @@ fn noted_alone(event: &DecodedRecord) -> Option<u64>
     }
 }
 
-/// The call that a record names, where that is all it names: that of DELIVER or FAULT.
-fn named_alone(event: &DecodedRecord) -> Option<u64>
-    ensures { IfSome result (λ call. IsNamedAlone call event.now) }
+/// Whether a record refers as it should that binds and names one number or two; None of a record of another kind.
+fn refers_by_kind(state: &VatState, event: &DecodedRecord) -> Option<bool>
+    ensures { IfSome result (λ refers. Decides refers (Refers state.now event.now)) }
 {
     match event {
-        DecodedRecord::Deliver { call, .. } | DecodedRecord::Fault { call } => Some(*call),
+        DecodedRecord::Host { reference, .. } | DecodedRecord::Vow { reference } => {
+            Some(!state.is_bound(*reference))
+        }
+        DecodedRecord::Make {
+            call,
+            reference,
+            ..
+        } => Some(both(!state.is_bound_call(*call), state.is_bound(*reference))),
+        DecodedRecord::Field {
+            reference,
+            call,
+            ..
+        } => Some(both(!state.is_bound(*reference), state.is_bound_call(*call))),
+        DecodedRecord::Deliver { call, .. } | DecodedRecord::Fault { call } => {
+            Some(state.is_bound_call(*call))
+        }
         _ => None,
     }
 }
@@ -163,8 +185,8 @@ impl VatState {
         if let Some(call) = noted_alone(event) {
             return Ok(call == 0);
         }
-        if let Some(call) = named_alone(event) {
-            return Ok(self.is_bound_call(call));
+        if let Some(refers) = refers_by_kind(self, event) {
+            return Ok(refers);
         }
         let distinct = is_distinct(self.allocator(), event.new_references())?;
         let binds = all_three(

@@ -13,6 +13,7 @@ use crate::state::VatState;
 use decoded_records::{DecodedRecord, TableKey, has_message, is_cap};
 
 /// Whether three tests all hold; a function of its own, so that the proof sees one `&&`.
+#[inline]
 pub(crate) fn all_three(first: bool, second: bool, third: bool) -> bool
     ensures { result ≡ ((first && second) && third) }
 {
@@ -20,13 +21,15 @@ pub(crate) fn all_three(first: bool, second: bool, third: bool) -> bool
 }
 
 /// Whether two tests both hold; a function of its own for the same reason.
-fn both(first: bool, second: bool) -> bool
+#[inline]
+pub(crate) fn both(first: bool, second: bool) -> bool
     ensures { result ≡ (first && second) }
 {
     first && second
 }
 
 /// Whether a question, if there is one, is opened and not finished.
+#[inline]
 fn is_unfinished(state: &VatState, question: Option<TableKey>) -> bool
     ensures { result ≡ passes_if (λ q. is_unfinished q state.now) question }
 {
@@ -37,6 +40,7 @@ fn is_unfinished(state: &VatState, question: Option<TableKey>) -> bool
 }
 
 /// Whether every question that a record's descriptors name is opened and not finished.
+#[inline]
 fn describes_unfinished(state: &VatState, event: &DecodedRecord) -> bool
     ensures { result ≡ list_all
         (λ d. passes_if (λ q. is_unfinished q state.now) (question_described event.now d))
@@ -49,6 +53,7 @@ fn describes_unfinished(state: &VatState, event: &DecodedRecord) -> bool
 }
 
 /// Whether every question that a record uses is opened and not finished.
+#[inline]
 fn uses_unfinished(state: &VatState, event: &DecodedRecord) -> bool
     ensures { result ≡ list_all (λ q. is_unfinished q state.now) (questions_used event.now) }
 {
@@ -61,6 +66,7 @@ fn uses_unfinished(state: &VatState, event: &DecodedRecord) -> bool
 }
 
 /// Whether the question that a record returns, if there is one, is opened and not returned.
+#[inline]
 fn returns_once(state: &VatState, event: &DecodedRecord) -> bool
     ensures { result ≡ passes_if (λ q. is_unreturned q state.now) (question_returned event.now) }
 {
@@ -72,6 +78,7 @@ fn returns_once(state: &VatState, event: &DecodedRecord) -> bool
 
 /// Whether the question whose results a record takes, if there is one, was opened by a Call whose results are to be
 /// sent elsewhere, and they weren't taken since.
+#[inline]
 fn takes_once(state: &VatState, event: &DecodedRecord) -> bool
     ensures { result ≡ passes_if
         (λ q. is_tail (opening q state.now) && not (is_taken q state.now))
@@ -84,6 +91,7 @@ fn takes_once(state: &VatState, event: &DecodedRecord) -> bool
 }
 
 /// Whether a number, if there is one, is in life.
+#[inline]
 fn is_in_life(state: &VatState, number: Option<TableKey>) -> bool
     ensures { result ≡ passes_if (λ i. is_in_life i state.now) number }
 {
@@ -94,6 +102,7 @@ fn is_in_life(state: &VatState, number: Option<TableKey>) -> bool
 }
 
 /// Whether every number that a record's descriptors use is in life.
+#[inline]
 fn describes_in_life(state: &VatState, event: &DecodedRecord) -> bool
     ensures { result ≡ list_all
         (λ d. passes_if (λ i. is_in_life i state.now) (number_described event.now d))
@@ -110,6 +119,7 @@ impl VatState {
     /// Whether each question that it uses is opened and not finished, one that it returns is opened and not returned,
     /// and one whose results it takes was opened by a Call whose results are to be sent elsewhere, and they weren't
     /// taken since.
+    #[inline]
     fn message_uses_questions(&self, event: &DecodedRecord) -> bool
         ensures { Decides result (UsesQuestions self.now event.now) }
     {
@@ -121,6 +131,7 @@ impl VatState {
     }
 
     /// Whether each export or import number that it uses is in life.
+    #[inline]
     fn message_uses_numbers(&self, event: &DecodedRecord) -> bool
         ensures { Decides result (UsesNumbers self.now event.now) }
     {
@@ -135,6 +146,7 @@ impl VatState {
 /// What a record that may be applied next names and uses. One without a message uses nothing.
 impl VatState {
     /// Whether a question number that it opens is free (rpc.capnp, `Call.questionId` and `Return.noFinishNeeded`).
+    #[inline]
     pub fn opens_free(&self, event: &DecodedRecord) -> bool
         ensures { Decides result (OpensFree self.now event.now) }
     {
@@ -148,6 +160,7 @@ impl VatState {
     /// and one whose results it takes was opened by a Call whose results are to be sent elsewhere, and they weren't
     /// taken since (rpc.capnp, `Return.answerId`, `Return.takeFromOtherQuestion`, `Finish.questionId` and
     /// `PromisedAnswer.questionId`).
+    #[inline]
     pub fn uses_questions(&self, event: &DecodedRecord) -> bool
         ensures { Decides result (UsesQuestions self.now event.now) }
     {
@@ -159,6 +172,7 @@ impl VatState {
 
     /// Whether each export or import number that it uses is in life (rpc.capnp, `MessageTarget.importedCap`,
     /// `CapDescriptor.receiverHosted` and `Release.id`).
+    #[inline]
     pub fn uses_numbers(&self, event: &DecodedRecord) -> bool
         ensures { Decides result (UsesNumbers self.now event.now) }
     {
@@ -169,6 +183,7 @@ impl VatState {
     }
 
     /// Whether one reference is noted beside it for each descriptor that isn't none, and none beside a late Return.
+    #[inline]
     pub fn notes_each(&self, event: &DecodedRecord) -> bool
         ensures { Decides result (NotesEach self.now event.now) }
     {
@@ -181,6 +196,7 @@ impl VatState {
 }
 
 /// How many descriptors of a record aren't none.
+#[inline]
 fn caps(event: &DecodedRecord) -> usize
     ensures { result ≡ count_by is_cap (descriptors event.now) }
 {

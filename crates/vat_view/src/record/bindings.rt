@@ -19,6 +19,7 @@ use std::alloc::{AllocError, Global};
 use std::slice;
 
 /// What a record of this number introduces that isn't a late Return, as a table with the place of the first of each.
+#[inline]
 fn tabled_introductions<'a>(
     alloc: Global,
     number: usize,
@@ -34,6 +35,7 @@ fn tabled_introductions<'a>(
 
 /// What a record of this number introduces, with the place of the first of each; a late Return's introductions aren't
 /// counted.
+#[inline]
 pub(crate) fn introduced_by<'a>(
     alloc: Global,
     late: bool,
@@ -52,6 +54,7 @@ pub(crate) fn introduced_by<'a>(
 }
 
 /// What a number of the sender stands for with a record counted: its life began before, or begins there.
+#[inline]
 fn sender_view(
     bound: &BoundReferences,
     lives: &ExportsImports,
@@ -105,6 +108,7 @@ pub(crate) fn view_by(
 }
 
 /// The reference noted for a descriptor, where so many were noted before it.
+#[inline]
 pub(crate) fn reference_by(
     references: &[u64],
     before: usize,
@@ -120,6 +124,7 @@ pub(crate) fn reference_by(
 }
 
 /// The references noted for the descriptors of a record, with what these stand for.
+#[inline]
 fn many_bound(
     alloc: Global,
     bound: &BoundReferences,
@@ -150,6 +155,7 @@ fn many_bound(
 }
 
 /// The reference noted for the first descriptor of a record, with what that stands for.
+#[inline]
 fn first_bound(
     bound: &BoundReferences,
     lives: &ExportsImports,
@@ -174,6 +180,7 @@ fn first_bound(
 }
 
 /// The references noted for the descriptors of a record, with what these stand for.
+#[inline]
 fn bound_descriptors(
     alloc: Global,
     bound: &BoundReferences,
@@ -200,6 +207,7 @@ fn bound_descriptors(
 }
 
 /// The references that a received message binds, with their views.
+#[inline]
 pub(crate) fn received_bindings(
     alloc: Global,
     bound: &BoundReferences,

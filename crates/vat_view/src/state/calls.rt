@@ -12,6 +12,7 @@ use std::alloc::AllocError;
 /// What can be asked of calls.
 impl VatState {
     /// Whether a call is bound.
+    #[inline]
     pub(crate) fn is_bound_call(&self, call: u64) -> bool
         ensures { result ≡ is_bound_call self.now call }
     {
@@ -24,6 +25,7 @@ impl VatState {
     /// # Errors
     ///
     /// Out of memory.
+    #[inline]
     pub fn request_of(&self, call: u64) -> Result<Option<Request>, AllocError>
         requires { IsTrue (is_at_vat call self.now) }
         ensures { IfOk result (λ asks. asks ≡ request_of call self.now) }
@@ -38,6 +40,7 @@ impl VatState {
     /// # Errors
     ///
     /// Out of memory.
+    #[inline]
     pub fn goal_of(&self, call: u64) -> Result<Option<View>, AllocError>
         requires { IsTrue (is_at_vat call self.now) }
         ensures { IfOk result (λ goal. goal ≡ goal_of call self.now) }
@@ -47,6 +50,7 @@ impl VatState {
 
     /// Whether a call is at the vat: it came, and wasn't delivered, faulted, sent on, or answered by a sent Return with
     /// exception or canceled since.
+    #[inline]
     pub fn is_at_vat(&self, call: u64) -> bool
         ensures { result ≡ is_at_vat call self.now }
     {
@@ -54,6 +58,7 @@ impl VatState {
     }
 
     /// Whether a call was delivered here, or is that of a received Bootstrap.
+    #[inline]
     pub fn is_served(&self, call: u64) -> bool
         ensures { result ≡ is_served call self.now }
     {
@@ -61,6 +66,7 @@ impl VatState {
     }
 
     /// Whether a call has an answer or fault.
+    #[inline]
     pub fn is_settled(&self, call: u64) -> bool
         ensures { result ≡ is_settled call self.now }
     {
@@ -69,6 +75,7 @@ impl VatState {
 
     /// The call by whose results a call was answered last, if it was: by ANSWERBY, or by a received Return that isn't
     /// late and takes the results of another question (rpc.capnp, `Return.takeFromOtherQuestion`).
+    #[inline]
     pub fn answered_by(&self, call: u64) -> Option<u64>
         ensures { result ≡ answered_by call self.now }
     {
@@ -80,6 +87,7 @@ impl VatState {
 
     /// Whether a call's results are known: by ANSWER, by ANSWERBY, or by a received Return that isn't late and brings
     /// them or takes those of another question.
+    #[inline]
     pub fn is_known(&self, call: u64) -> bool
         ensures { result ≡ is_known call self.now }
     {

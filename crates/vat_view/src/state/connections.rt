@@ -13,6 +13,7 @@ use decoded_records::{TableKey, View};
 /// What can be asked of connections.
 impl VatState {
     /// Whether a connection was aborted, from either end (rpc.capnp, `Message.abort`).
+    #[inline]
     pub fn is_aborted(&self, connection: u32) -> bool
         ensures { result ≡ is_aborted connection self.now }
     {
@@ -21,6 +22,7 @@ impl VatState {
 
     /// Whether this vat sent an abort on a connection. One that answers a received abort is in order in a log of the later
     /// edition, and a second one never is (rpc.capnp, `Message.abort`).
+    #[inline]
     pub fn is_aborted_here(&self, connection: u32) -> bool
         ensures { result ≡ is_aborted_here connection self.now }
     {
@@ -32,6 +34,7 @@ impl VatState {
 impl VatState {
     /// Whether the import came in as senderHosted that stands at this place of the record of this number, both counted
     /// from 0, as its view has them (rpc.capnp, `CapDescriptor.senderHosted`).
+    #[inline]
     pub fn came_hosted(&self, number: usize, place: usize) -> bool
         ensures { result ≡ came_hosted self.now number place }
     {
@@ -43,6 +46,7 @@ impl VatState {
 impl VatState {
     /// Whether a senderLoopback went under a number and its echo hasn't passed since: of a number of ours it is
     /// outstanding, of the peer's it is pending.
+    #[inline]
     pub fn awaits_echo(&self, number: TableKey) -> bool
         ensures { result ≡ is_some (loopback_of number self.now) }
     {
@@ -51,6 +55,7 @@ impl VatState {
 
     /// What the target of the senderLoopback that waits for its echo under a number stood for then, if one waits and
     /// its target stood for something.
+    #[inline]
     pub fn embargoed_view(&self, number: TableKey) -> Option<&View>
         ensures { option_copied result ≡ embargoed_view number self.now }
     {
@@ -61,6 +66,7 @@ impl VatState {
     /// its connection before it, and whose goal is what its target stood for then, is still at the vat. It looks only at
     /// calls of the connection that came before and whose goal differs from that target in a long path at most; the
     /// first with that goal decides. It takes no memory.
+    #[inline]
     pub fn is_held_up(&self, number: TableKey) -> bool
         ensures { Decides result (IsHeldUp number self.now) }
     {

@@ -15,6 +15,7 @@ use rpc_view::Edition;
 /// What can be asked of walks from view to view.
 impl VatState {
     /// Whether a view goes on nowhere: it has neither turned nor stopped. It takes no memory.
+    #[inline]
     pub fn stays(&self, view: &View) -> bool
         ensures { IsTrue result ↔ (next self.now view.now ≡ stays) }
     {
@@ -22,6 +23,7 @@ impl VatState {
     }
 
     /// The view to which a view turns, if it does. It takes no memory.
+    #[inline]
     pub fn turned_to<'a>(&'a self, view: &'a View) -> Option<BorrowedView<'a>>
         ensures { option_map as_view result ≡ turned_to (next self.now view.now) }
     {
@@ -35,6 +37,7 @@ impl VatState {
     /// Whether a view leads to another, by 0 or more turns. Each of its walks, four at most, comes to at most as many views
     /// as one more than the references bound, times one more than the calls that were answered by others. It takes no
     /// memory.
+    #[inline]
     pub fn leads(&self, from: &View, to: &View) -> bool
         ensures { IsTrue result ↔ Leads self.now from.now to.now }
     {
@@ -47,6 +50,7 @@ impl VatState {
     }
 
     /// Whether a view leads to another by 1 or more turns; a view of a circle leads so to itself. It takes no memory.
+    #[inline]
     pub fn leads_by_turns(&self, from: &View, to: &View) -> bool
         ensures { IsTrue result ↔ LeadsByTurns self.now from.now to.now }
     {
@@ -60,6 +64,7 @@ impl VatState {
 
     /// Whether two views are one: both lead, by 0 or more turns, to a common view. It walks twice as often as
     /// [`VatState::leads`] at most, and takes no memory.
+    #[inline]
     pub fn are_one(&self, a: &View, b: &View) -> bool
         ensures { IsTrue result ↔ AreOne self.now a.now b.now }
     {
@@ -72,6 +77,7 @@ impl VatState {
     }
 
     /// Whether a view became another: it turned, and is one with it. It takes no memory.
+    #[inline]
     pub fn became(&self, from: &View, to: &View) -> bool
         ensures { IsTrue result ↔ Became self.now from.now to.now }
     {
@@ -80,6 +86,7 @@ impl VatState {
 
     /// The end of a view: the view to which it leads and which goes on nowhere. It has none where its walk stops or
     /// goes in a circle. It takes no memory.
+    #[inline]
     pub fn end<'a>(&'a self, view: &'a View) -> Option<BorrowedView<'a>>
         ensures { MatchOption result ((end : View) → IsEnd self.now view.now end → ⊥)
             (λ end. IsEnd self.now view.now (as_view end)) }
@@ -90,6 +97,7 @@ impl VatState {
 
     /// Whether a view leads, by 0 or more turns, to one that is reached over this connection: an import that came in
     /// over it, or a field of a call that this vat asked on it. It takes no memory.
+    #[inline]
     pub fn leads_over(&self, from: &View, connection: u32) -> bool
         ensures { Decides result (LeadsOver self.now from.now connection) }
     {
@@ -108,6 +116,7 @@ impl VatState {
     /// promise, or to one that is reached over another connection. In a log of the later edition every view is elsewhere
     /// that isn't reached over this connection, so the field of a call that was never asked is too (rpc.capnp, the
     /// comments of `Disembargo`). It takes no memory.
+    #[inline]
     pub fn leads_elsewhere(&self, from: &View, connection: u32, edition: Edition) -> bool
         ensures { Decides result (LeadsElsewhere edition self.now from.now connection) }
     {
@@ -125,6 +134,7 @@ impl VatState {
     /// Whether a view leads, by 0 or more turns, to one that came back over this connection: it is reached over it, and the
     /// message that turned it turned it to what is this vat's own (rpc.capnp, the comments of `Disembargo`,
     /// `CapDescriptor.receiverHosted` and `receiverAnswer`). It takes no memory.
+    #[inline]
     pub fn came_back(&self, from: &View, connection: u32) -> bool
         ensures { Decides result (CameBack self.now from.now connection) }
     {

@@ -18,6 +18,7 @@ use std::alloc::AllocError;
 /// What can be asked of numbers, references and descriptors before a record is applied.
 impl VatState {
     /// Whether an export or import number is in life: whether it is held (rpc.capnp, the comment of `Release`).
+    #[inline]
     pub(crate) fn is_in_life(&self, number: TableKey) -> bool
         ensures { result ≡ is_in_life number self.now }
     {
@@ -25,6 +26,7 @@ impl VatState {
     }
 
     /// Whether the present life of an export or import number began with a senderPromise, where it is in life.
+    #[inline]
     pub fn began_promised(&self, number: TableKey) -> Option<bool>
         ensures { result ≡ option_map began_promised (birth number self.now) }
     {
@@ -35,6 +37,7 @@ impl VatState {
     }
 
     /// Whether a Resolve passed in the present life of an export or import number.
+    #[inline]
     pub fn is_resolved(&self, number: TableKey) -> bool
         ensures { result ≡ is_resolved number self.now }
     {
@@ -45,6 +48,7 @@ impl VatState {
     }
 
     /// Whether a reference is bound.
+    #[inline]
     pub(crate) fn is_bound(&self, reference: u64) -> bool
         ensures { result ≡ is_bound self.now reference }
     {
@@ -56,6 +60,7 @@ impl VatState {
     /// # Errors
     ///
     /// Out of memory.
+    #[inline]
     pub fn view_of_target(&self, event: &DecodedRecord) -> Result<Option<View>, AllocError>
         ensures { IfOk result (λ view. view ≡ view_of_target self.now event.now) }
     {
@@ -72,6 +77,7 @@ impl VatState {
     /// # Errors
     ///
     /// Out of memory.
+    #[inline]
     pub fn view_of_descriptor(
         &self,
         event: &DecodedRecord,
@@ -99,6 +105,7 @@ impl VatState {
     /// # Errors
     ///
     /// Out of memory.
+    #[inline]
     pub fn views_of_descriptors(
         &self,
         event: &DecodedRecord,
@@ -123,6 +130,7 @@ impl VatState {
     /// # Errors
     ///
     /// Out of memory.
+    #[inline]
     pub fn gives_back_held(&self, event: &DecodedRecord) -> Result<bool, AllocError>
         ensures { IfOk result (λ held. Decides held (GivesBackHeld self.now event.now)) }
     {
@@ -140,6 +148,7 @@ impl VatState {
     /// # Errors
     ///
     /// Out of memory.
+    #[inline]
     pub fn keeps_kinds(&self, event: &DecodedRecord) -> Result<bool, AllocError>
         ensures { IfOk result (λ keeps. Decides keeps (KeepsKinds self.now event.now)) }
     {

@@ -11,6 +11,7 @@ impl VatState {
     /// Whether a question's number is free, to be opened: it was never opened, or since its last opening both its Return
     /// and its Finish have passed, or a Return that says that no Finish is needed (rpc.capnp, `Call.questionId` and
     /// `Return.noFinishNeeded`).
+    #[inline]
     pub(crate) fn is_free(&self, question: TableKey) -> bool
         ensures { result ≡ is_free question self.now }
     {
@@ -18,6 +19,7 @@ impl VatState {
     }
 
     /// Whether a question is opened and no Finish has passed since (rpc.capnp, `Finish.questionId`).
+    #[inline]
     pub(crate) fn is_unfinished(&self, question: TableKey) -> bool
         ensures { result ≡ is_unfinished question self.now }
     {
@@ -25,6 +27,7 @@ impl VatState {
     }
 
     /// Whether a Finish of a question has passed since its last opening.
+    #[inline]
     pub fn is_finished(&self, question: TableKey) -> bool
         ensures { result ≡ is_finished question self.now }
     {
@@ -32,6 +35,7 @@ impl VatState {
     }
 
     /// Whether a question is opened and no Return has passed since (rpc.capnp, `Return.answerId`).
+    #[inline]
     pub(crate) fn is_unreturned(&self, question: TableKey) -> bool
         ensures { result ≡ is_unreturned question self.now }
     {
@@ -40,6 +44,7 @@ impl VatState {
 
     /// Whether a question's last opening is a Call whose results are to be sent elsewhere, as in a tail call (rpc.capnp,
     /// `Call.sendResultsTo.yourself`).
+    #[inline]
     pub fn is_tail(&self, question: TableKey) -> bool
         ensures { result ≡ is_tail (opening question self.now) }
     {
@@ -48,6 +53,7 @@ impl VatState {
 
     /// Whether a Return that takes a question's results has passed since its last opening, late or not (rpc.capnp,
     /// `Return.takeFromOtherQuestion`).
+    #[inline]
     pub(crate) fn is_taken(&self, question: TableKey) -> bool
         ensures { result ≡ is_taken question self.now }
     {
@@ -57,6 +63,7 @@ impl VatState {
     /// The call for which a question stands: that of its last opening, until both Return and Finish have passed, also
     /// where a Return said that no Finish is needed. A Return that takes the results of another question names that
     /// question's call so (rpc.capnp, `Return.takeFromOtherQuestion`).
+    #[inline]
     pub fn call_of(&self, question: TableKey) -> Option<u64>
         ensures { result ≡ call_of question self.now }
     {
@@ -64,6 +71,7 @@ impl VatState {
     }
 
     /// The call of a question's last opening, over or not, if it was ever opened.
+    #[inline]
     pub fn opening_call(&self, question: TableKey) -> Option<u64>
         ensures { result ≡ call_at (opening question self.now) }
     {
@@ -72,6 +80,7 @@ impl VatState {
 
     /// Whether a record is a late Return: a Finish with releaseResultCaps true has passed before it, for the same
     /// opening of its question.
+    #[inline]
     pub fn is_late(&self, event: &DecodedRecord) -> bool
         ensures { result ≡ is_late self.now event.now }
     {

@@ -159,6 +159,7 @@ impl VatState {
     /// Makes the walks shorter that the rules ask for on a record: from the goal of its call, from the references noted
     /// beside a sent message, from what this message speaks of, and from the target of a Disembargo either way. It takes
     /// no memory.
+    #[inline(always)]
     pub(crate) fn shorten(&mut self, event: &DecodedRecord)
         ensures { self.new ≡ self.old }
     {

@@ -106,6 +106,7 @@ impl AllTables {
 
     /// Tells one record that turns no view, which has this number in the log, to all tables but those of what waits and
     /// of arrivals. Where memory is refused, they are of the records before.
+    #[inline(always)]
     fn note_still(&mut self, number: usize, event: &DecodedRecord) -> Result<(), AllocError>
         requires { may_turn event.now ≡ false }
         ensures ok { OnOk result
@@ -132,6 +133,7 @@ impl AllTables {
 
     /// Tells one record, which has this number in the log, to all tables but those of what waits and of arrivals. Where
     /// memory is refused, they are of the records before. Most records turn no view, and there is less to tell of these.
+    #[inline(always)]
     fn note(&mut self, number: usize, event: &DecodedRecord) -> Result<(), AllocError>
         ensures ok { OnOk result
             ((before : Past) → number ≡ length before → AreNoted before self.old
@@ -168,6 +170,7 @@ impl AllTables {
     }
 
     /// Tells all tables but that of arrivals of a record that asks for no echo.
+    #[inline(always)]
     fn tell_other(&mut self, number: usize, event: &DecodedRecord) -> Result<(), AllocError>
         requires { is_some (sender_loopback event.now) ≡ false }
         ensures ok { OnOk result
@@ -189,6 +192,7 @@ impl AllTables {
 
     /// Tells all tables but that of arrivals of one record, which has this number in the log. Where memory is refused,
     /// they are of the records before.
+    #[inline(always)]
     fn tell_others(&mut self, number: usize, event: &DecodedRecord) -> Result<(), AllocError>
         ensures ok { OnOk result
             ((before : Past) → number ≡ length before → AreTold before self.old
@@ -232,6 +236,7 @@ impl AllTables {
 
     /// Tells the tables of one record, which has this number in the log. Where memory is refused, they are of the records
     /// before.
+    #[inline(always)]
     pub(crate) fn tell(&mut self, number: usize, event: &DecodedRecord) -> Result<(), AllocError>
         ensures ok { OnOk result
             ((before : Past) → AreWhole before number self.old → IsSound before event.now

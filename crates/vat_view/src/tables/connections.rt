@@ -23,6 +23,7 @@ pub(crate) struct Connections {
 }
 
 /// The call for which a record asks a question of this vat's, with the connection.
+#[inline]
 pub(crate) fn call_sent_on(event: &DecodedRecord) -> Option<(u64, u32)>
     ensures { result ≡ call_sent_on event.now }
 {
@@ -39,6 +40,7 @@ pub(crate) fn call_sent_on(event: &DecodedRecord) -> Option<(u64, u32)>
 }
 
 /// The connection that a record aborts.
+#[inline]
 pub(crate) fn connection_aborted(event: &DecodedRecord) -> Option<u32>
     ensures { result ≡ aborted_by event.now }
 {
@@ -53,6 +55,7 @@ pub(crate) fn connection_aborted(event: &DecodedRecord) -> Option<u32>
 }
 
 /// The connection on which a record sends an abort.
+#[inline]
 pub(crate) fn abort_sent_on(event: &DecodedRecord) -> Option<u32>
     ensures { result ≡ abort_sent_on event.now }
 {
@@ -63,6 +66,7 @@ pub(crate) fn abort_sent_on(event: &DecodedRecord) -> Option<u32>
 }
 
 /// Whether a connection is marked.
+#[inline]
 fn is_marked(marks: &BTreeMap<u32, bool>, connection: u32) -> bool
     ensures { result ≡ marked_at marks.now connection }
 {
@@ -73,6 +77,7 @@ fn is_marked(marks: &BTreeMap<u32, bool>, connection: u32) -> bool
 }
 
 /// Makes room to mark a connection. No mark changes, where memory is refused too.
+#[inline]
 fn make_room(marks: &mut BTreeMap<u32, bool>, connection: Option<u32>) -> Result<(), AllocError>
     ensures same { (k : ℕ) → marked_at marks.new k ≡ marked_at marks.old k }
     ensures room { OnOk result (IsTrue (has_room marks.new connection)) }
@@ -88,6 +93,7 @@ fn make_room(marks: &mut BTreeMap<u32, bool>, connection: Option<u32>) -> Result
 }
 
 /// Marks a connection, for which there is room.
+#[inline]
 fn mark(marks: &mut BTreeMap<u32, bool>, connection: Option<u32>)
     requires { IsTrue (has_room marks.old connection) }
     ensures { (k : ℕ) → marked_at marks.new k ≡ (is k connection || marked_at marks.old k) }
@@ -102,6 +108,7 @@ fn mark(marks: &mut BTreeMap<u32, bool>, connection: Option<u32>)
 
 impl Connections {
     /// Before any call is asked and any connection aborted.
+    #[inline]
     pub(crate) fn new(alloc: Global) -> Connections
         ensures asked { (c : ℕ) → asked_at result c ≡ None }
         ensures aborted { (k : ℕ) → aborted_at result k ≡ false }
@@ -115,6 +122,7 @@ impl Connections {
     }
 
     /// The connection on which this vat asked its question for a call.
+    #[inline]
     pub(crate) fn asked_on(&self, call: u64) -> Option<u32>
         ensures { result ≡ asked_at self.now call }
     {
@@ -125,6 +133,7 @@ impl Connections {
     }
 
     /// Whether a connection was aborted.
+    #[inline]
     pub(crate) fn is_aborted(&self, connection: u32) -> bool
         ensures { result ≡ aborted_at self.now connection }
     {
@@ -132,6 +141,7 @@ impl Connections {
     }
 
     /// Whether this vat sent an abort on a connection.
+    #[inline]
     pub(crate) fn is_aborted_here(&self, connection: u32) -> bool
         ensures { result ≡ aborted_here_at self.now connection }
     {
@@ -139,6 +149,7 @@ impl Connections {
     }
 
     /// Makes room for a call that is asked. What the table says stays as it is, where memory is refused too.
+    #[inline]
     fn room_for_asked(&mut self, asked: Option<(u64, u32)>) -> Result<(), AllocError>
         ensures same { (c : ℕ) → asked_at self.new c ≡ asked_at self.old c }
         ensures aborted { self.new.aborted ≡ self.old.aborted }
@@ -171,6 +182,7 @@ impl Connections {
     }
 
     /// Makes room for what a record asks or aborts. What the table says stays as it is, where memory is refused too.
+    #[inline(always)]
     pub(crate) fn grow_for(&mut self, event: &DecodedRecord) -> Result<(), AllocError>
         ensures asked { (c : ℕ) → asked_at self.new c ≡ asked_at self.old c }
         ensures aborted { (k : ℕ) → aborted_at self.new k ≡ aborted_at self.old k }
@@ -214,6 +226,7 @@ impl Connections {
     }
 
     /// A record passed, for which there is room.
+    #[inline(always)]
     pub(crate) fn note_event(&mut self, event: &DecodedRecord)
         requires asked { IsTrue (has_asked self.old (call_sent_on event.now)) }
         requires aborted { IsTrue (has_room self.old.aborted (aborted_by event.now)) }
@@ -241,6 +254,7 @@ impl Connections {
     }
 
     /// A call is asked, for which there is room.
+    #[inline]
     fn note_asked(&mut self, asked: Option<(u64, u32)>)
         requires { IsTrue (has_asked self.old asked) }
         ensures same { (c : ℕ) → asked_at self.new c

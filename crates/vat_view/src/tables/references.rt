@@ -31,6 +31,7 @@ pub(crate) struct Binding {
 }
 
 /// From a reference or call to itself, by no turn.
+#[inline]
 pub(crate) fn own_leap(reference: u64) -> Shortcut
     ensures { result ≡ own_leap reference }
 {
@@ -50,6 +51,7 @@ pub(crate) struct BoundReferences {
 
 impl BoundReferences {
     /// Before any reference is bound.
+    #[inline]
     pub(crate) fn new(alloc: Global) -> BoundReferences
         ensures { (r : ℕ) → bound_at result r ≡ None }
     {
@@ -60,6 +62,7 @@ impl BoundReferences {
     }
 
     /// The view of this reference.
+    #[inline]
     pub(crate) fn of(&self, reference: u64) -> Option<&View>
         ensures { option_copied result ≡ bound_at self.now reference }
     {
@@ -70,6 +73,7 @@ impl BoundReferences {
     }
 
     /// The reference that is ahead of this one, if this one is bound.
+    #[inline]
     pub(crate) fn ahead(&self, reference: u64) -> Option<Shortcut>
         ensures { result ≡ ahead_at self.now reference }
     {
@@ -81,6 +85,7 @@ impl BoundReferences {
     }
 
     /// The view of the reference that is ahead of this one, if this one is bound, and by how many turns.
+    #[inline]
     pub(crate) fn view_ahead(&self, reference: u64) -> Option<(&View, u64)>
         ensures { option_map (λ there. (there.0.now, there.1)) result ≡ view_ahead_at self.now reference }
     {
@@ -96,6 +101,7 @@ impl BoundReferences {
     }
 
     /// From now on this is ahead of a reference, if that one is bound.
+    #[inline]
     pub(crate) fn remember(&mut self, reference: u64, ahead: Shortcut)
         ensures views { (q : ℕ) → bound_at self.new q ≡ bound_at self.old q }
         ensures len { bound_len self.new ≡ bound_len self.old }
@@ -111,6 +117,7 @@ impl BoundReferences {
     }
 
     /// Where it is said so, each reference is ahead of itself alone from now on.
+    #[inline]
     pub(crate) fn drop_ahead(&mut self, drops: bool)
         ensures views { (q : ℕ) → bound_at self.new q ≡ bound_at self.old q }
         ensures ahead { IsOwnOrOld self.old self.new }
@@ -123,6 +130,7 @@ impl BoundReferences {
     }
 
     /// Whether this reference has a view.
+    #[inline]
     pub(crate) fn has(&self, reference: u64) -> bool
         ensures { result ≡ is_some (bound_at self.now reference) }
     {
@@ -130,6 +138,7 @@ impl BoundReferences {
     }
 
     /// How many references are bound.
+    #[inline]
     pub(crate) fn len(&self) -> usize
         ensures { result ≡ bound_len self.now }
     {
@@ -137,6 +146,7 @@ impl BoundReferences {
     }
 
     /// This reference has this view. Where memory is refused, nothing changes.
+    #[inline]
     pub(crate) fn bind(&mut self, reference: u64, view: View) -> Result<(), AllocError>
         ensures ok { OnOk result
             ((q : ℕ) → bound_at self.new q
@@ -152,6 +162,7 @@ impl BoundReferences {
     }
 
     /// These references have these views. Where memory is refused, some of them may.
+    #[inline]
     fn bind_several(&mut self, list: Vec<(u64, View)>) -> Result<(), AllocError>
         ensures ok { OnOk result
             ((q : ℕ) → bound_at self.new q ≡ bound_by q list.items (bound_at self.old q)) }
@@ -167,6 +178,7 @@ impl BoundReferences {
     }
 
     /// These references have these views. Where memory is refused, some of them may.
+    #[inline]
     pub(crate) fn bind_each(&mut self, list: ShortList<(u64, View)>) -> Result<(), AllocError>
         ensures ok { OnOk result
             ((q : ℕ) → bound_at self.new q ≡ bound_by q list (bound_at self.old q)) }
@@ -183,6 +195,7 @@ impl BoundReferences {
     }
 
     /// This reference has no view.
+    #[inline]
     fn unbind(&mut self, reference: u64)
         ensures views { (q : ℕ) → bound_at self.new q
             ≡ (if reference == q then None else bound_at self.old q) }
@@ -192,6 +205,7 @@ impl BoundReferences {
     }
 
     /// These references have no view.
+    #[inline]
     pub(crate) fn unbind_each(&mut self, references: &[u64])
         ensures views { (q : ℕ) → bound_at self.new q
             ≡ (if contains q references.now then None else bound_at self.old q) }

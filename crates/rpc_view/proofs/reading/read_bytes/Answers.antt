@@ -4,7 +4,7 @@ use Rattle.rpc_view.proofs.reading.read_bytes.Goals as goal
 
 pub returns-clause-exact : goal.returns-clause-exact
 returns-clause-exact c =
-    rw (← c.in_ok-frame.ensures.exact) (is_message c.args.edition c.in_ok-frame.frame c.args.limits c.message.new.limits.words c.message.result c.message.ensures)
+    rw (← c.as_slice.ensures, ← c.in_ok-frame.ensures.exact) (is_message c.args.edition c.in_ok-frame.frame c.args.limits c.message.new.limits.words c.message.result c.message.ensures)
 
 pub returns-clause-memory : goal.returns-clause-memory
 returns-clause-memory c =

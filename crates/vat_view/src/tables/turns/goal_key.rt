@@ -24,6 +24,7 @@ pub(crate) enum GoalKey {
 }
 
 /// The digest of a path that goes on with this field.
+#[inline]
 fn digest_step(digest: u64, field: u16) -> u64
     ensures { result ≡ digest_step digest field }
 {
@@ -33,6 +34,7 @@ fn digest_step(digest: u64, field: u16) -> u64
 }
 
 /// The digest of a path.
+#[inline]
 pub(crate) fn digest(path: &[u16]) -> u64
     ensures { result ≡ digest_of path.now }
 {
@@ -41,6 +43,7 @@ pub(crate) fn digest(path: &[u16]) -> u64
 }
 
 /// The heading of a call with this goal.
+#[inline]
 pub(crate) fn goal_key_of(goal: Option<&View>) -> GoalKey
     ensures { result ≡ goal_key_of (option_copied goal.entry) }
 {

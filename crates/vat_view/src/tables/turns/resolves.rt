@@ -18,6 +18,7 @@ pub(crate) struct Resolves {
 
 impl Resolves {
     /// Before any promise is resolved.
+    #[inline]
     pub(crate) fn new(alloc: Global) -> Resolves
         ensures { (i : TableKey) → resolve_at result i ≡ None }
     {
@@ -27,6 +28,7 @@ impl Resolves {
     }
 
     /// The number of the record that last resolved this promise, if one did.
+    #[inline]
     pub(crate) fn of(&self, promise: TableKey) -> Option<usize>
         ensures { result ≡ resolve_at self.now promise }
     {
@@ -38,6 +40,7 @@ impl Resolves {
 
     /// Makes room for the promise that a record resolves. What the table says stays as it is, where memory is refused
     /// too.
+    #[inline]
     pub(crate) fn room_for(&mut self, resolved: Option<TableKey>) -> Result<(), AllocError>
         ensures same { (i : TableKey) → resolve_at self.new i ≡ resolve_at self.old i }
         ensures room { OnOk result (IsTrue (has_room_to_resolve self.new resolved)) }
@@ -53,6 +56,7 @@ impl Resolves {
     }
 
     /// The record of this number resolved this promise, for which there is room.
+    #[inline]
     pub(crate) fn note_resolve(&mut self, resolved: Option<TableKey>, number: usize)
         requires { IsTrue (has_room_to_resolve self.old resolved) }
         ensures { (i : TableKey) → resolve_at self.new i

@@ -21,6 +21,7 @@ pub(crate) enum Turned {
 
 impl Turned {
     /// The reference to which a view of this path is turned.
+    #[inline]
     pub(crate) fn at(&self, path: &[u16]) -> Option<u64>
         ensures { result ≡ target_in path.now self.now }
     {
@@ -39,6 +40,7 @@ impl Turned {
     }
 
     /// Whether every view is turned nowhere, by its kind.
+    #[inline]
     pub(crate) fn is_nowhere(&self) -> bool
         ensures { result ≡ is_nowhere self.now }
     {
@@ -59,6 +61,7 @@ pub(crate) enum Ended {
 
 impl Ended {
     /// The record of this number turned it to this reference, or nowhere.
+    #[inline]
     pub(crate) fn by(number: u32, to: Option<u64>) -> Ended
         ensures { ended result ≡ Some (number, to) }
     {
@@ -69,6 +72,7 @@ impl Ended {
     }
 
     /// Whether it ended.
+    #[inline]
     pub(crate) fn is_over(self) -> bool
         ensures { result ≡ is_some (ended self) }
     {
@@ -76,6 +80,7 @@ impl Ended {
     }
 
     /// The number of the record that ended it, if one did.
+    #[inline]
     pub(crate) fn number(self) -> Option<usize>
         ensures { result ≡ option_map (λ settled. settled.0) (ended self) }
     {
@@ -86,6 +91,7 @@ impl Ended {
     }
 
     /// The reference to which it turned, if it did.
+    #[inline]
     pub(crate) fn target(self) -> Option<u64>
         ensures { result ≡ option_and_then (λ settled. settled.1) (ended self) }
     {

@@ -26,6 +26,7 @@ pub(crate) struct Embargoes {
 
 impl Embargoes {
     /// Before any record.
+    #[inline]
     pub(crate) fn new(alloc: Global) -> Embargoes
         ensures { AreWaiting [] result }
     {
@@ -37,6 +38,7 @@ impl Embargoes {
 
     /// Makes room for this call that a record receives, by the tables before it. What the tables say stays as it is,
     /// where memory is refused too.
+    #[inline]
     fn make_room(
         &mut self,
         bound: &BoundReferences,
@@ -63,6 +65,7 @@ impl Embargoes {
 
     /// Makes room for the call that a record receives, which has this number in the log, by the tables before it. What
     /// the tables say stays as it is, where memory is refused too.
+    #[inline(always)]
     pub(crate) fn expect(
         &mut self,
         bound: &BoundReferences,
@@ -87,6 +90,7 @@ impl Embargoes {
 
     /// A record passed that has this number in the log, asks for no echo and takes this call from the vat, and for which
     /// there is room. The call stands under this heading in the queue.
+    #[inline(always)]
     pub(crate) fn note(
         &mut self,
         heading: GoalKey,
@@ -103,6 +107,7 @@ impl Embargoes {
     }
 
     /// A record passed that asks for the echo of this loopback, for which there is room.
+    #[inline]
     pub(crate) fn begin(&mut self, looped: Option<(TableKey, Unechoed)>)
         requires { IsTrue (room_at self.old.loopbacks looped) }
         ensures { IsChangedBy (change_of_loopbacks looped) self.old self.new }

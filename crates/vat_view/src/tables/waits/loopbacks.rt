@@ -27,6 +27,7 @@ pub(crate) struct Unechoed {
 }
 
 /// Whether a record asks for an echo.
+#[inline]
 pub(crate) fn asks_for_echo(event: &DecodedRecord) -> bool
     ensures { result ≡ is_some (sender_loopback event.now) }
 {
@@ -81,6 +82,7 @@ pub(crate) struct Loopbacks {
 
 impl Loopbacks {
     /// Before any record.
+    #[inline]
     pub(crate) fn new(alloc: Global) -> Loopbacks
         ensures { (i : TableKey) → loopback_at result i ≡ None }
     {
@@ -90,6 +92,7 @@ impl Loopbacks {
     }
 
     /// The senderLoopback that waits under this number, if one does.
+    #[inline]
     pub(crate) fn of(&self, number: TableKey) -> Option<&Unechoed>
         ensures { option_copied result ≡ loopback_at self.now number }
     {
@@ -100,6 +103,7 @@ impl Loopbacks {
     }
 
     /// Whether a senderLoopback waits under this number.
+    #[inline]
     pub(crate) fn has(&self, number: TableKey) -> bool
         ensures { result ≡ is_some (loopback_at self.now number) }
     {
@@ -107,6 +111,7 @@ impl Loopbacks {
     }
 
     /// What the target of the senderLoopback that waits under this number stood for then.
+    #[inline]
     pub(crate) fn embargoed_view(&self, number: TableKey) -> Option<&View>
         ensures { option_copied result ≡ loopback_target_in (loopback_at self.now number) }
     {
@@ -123,6 +128,7 @@ impl Loopbacks {
 
     /// Makes room for the loopback for which a record asks. What the table says stays as it is, where memory is refused
     /// too.
+    #[inline]
     pub(crate) fn room_for(
         &mut self,
         looped: &Option<(TableKey, Unechoed)>,
@@ -141,6 +147,7 @@ impl Loopbacks {
     }
 
     /// This loopback waits, for which there is room.
+    #[inline]
     pub(crate) fn begin(&mut self, looped: Option<(TableKey, Unechoed)>)
         requires { IsTrue (room_at self.old looped) }
         ensures { (i : TableKey) → loopback_at self.new i
@@ -155,6 +162,7 @@ impl Loopbacks {
     }
 
     /// The loopback of this number has its echo.
+    #[inline]
     pub(crate) fn end(&mut self, echoed: Option<TableKey>)
         ensures { (i : TableKey) → loopback_at self.new i
             ≡ (if names i echoed then None else loopback_at self.old i) }

@@ -49,6 +49,7 @@ pub(crate) fn call_received_by(number: usize, event: &DecodedRecord) -> Option<(
 }
 
 /// The call that a record takes from the vat, by the table of questions before it.
+#[inline(always)]
 pub(crate) fn call_taken_by(questions: &Questions, event: &DecodedRecord) -> Option<u64>
     ensures { result ≡ call_taken_by
         (λ q. opening_call_in (question_at questions.now q)) event.now }
@@ -85,6 +86,7 @@ pub(crate) fn call_taken_by(questions: &Questions, event: &DecodedRecord) -> Opt
 
 /// The heading under which the call that a record takes from the vat stands in the queue. It is asked before the table of
 /// calls knows of the record, since that forgets the goal of a call that has left.
+#[inline(always)]
 pub(crate) fn heading_taken(calls: &Calls, taken: Option<u64>) -> GoalKey
     ensures { result ≡ heading_taken calls.now taken }
 {
@@ -95,6 +97,7 @@ pub(crate) fn heading_taken(calls: &Calls, taken: Option<u64>) -> GoalKey
 }
 
 /// Whether a call was received on this connection before the record of this number.
+#[inline]
 fn came_before(receipt: Receipt, connection: u32, number: usize) -> bool
     ensures { result ≡ ((receipt.connection == connection) && nat_lt receipt.number number) }
 {
@@ -111,6 +114,7 @@ pub(crate) struct WaitingCalls {
 
 impl WaitingCalls {
     /// Before any record.
+    #[inline]
     pub(crate) fn new(alloc: Global) -> WaitingCalls
         ensures { (c : ℕ) → receipt_at result c ≡ None }
     {
@@ -121,6 +125,7 @@ impl WaitingCalls {
     }
 
     /// Whether this call holds up the echo of a loopback of this connection.
+    #[inline]
     fn holds(&self, calls: &Calls, connection: u32, looped: &Unechoed, call: u64) -> bool
         ensures { result ≡ held_by calls.now connection looped.now call (receipt_at self.now call) }
     {
@@ -162,6 +167,7 @@ impl WaitingCalls {
 
     /// Whether a received call that is at the vat holds up the echo of a loopback of this connection: it was received
     /// there before the loopback, and goes where the loopback's target went.
+    #[inline]
     pub(crate) fn holds_up(&self, calls: &Calls, connection: u32, looped: &Unechoed) -> bool
         ensures { AreQueued self.now calls.now
             → Decides result (Holding self.now calls.now connection looped.now) }
@@ -171,6 +177,7 @@ impl WaitingCalls {
 
     /// Makes room for the call that a record receives. What the table says stays as it is, where memory is refused
     /// too.
+    #[inline]
     pub(crate) fn room_for(&mut self, received: Option<(u64, Receipt)>) -> Result<(), AllocError>
         ensures same { (c : ℕ) → receipt_at self.new c ≡ receipt_at self.old c }
         ensures stay { Stay self.old self.new }
@@ -187,6 +194,7 @@ impl WaitingCalls {
     }
 
     /// This call joins the queue. What the table says of calls stays as it is, where memory is refused too.
+    #[inline]
     pub(crate) fn join(&mut self, queued: QueuedCall) -> Result<(), AllocError>
         ensures same { (c : ℕ) → receipt_at self.new c ≡ receipt_at self.old c }
         ensures stay { Stay self.old self.new }
@@ -198,6 +206,7 @@ impl WaitingCalls {
     }
 
     /// This call is received, for which there is room.
+    #[inline]
     pub(crate) fn begin(&mut self, received: Option<(u64, Receipt)>)
         requires { IsTrue (space_at self.old received) }
         ensures begun { (c : ℕ) → receipt_at self.new c
@@ -213,6 +222,7 @@ impl WaitingCalls {
     }
 
     /// This call leaves the vat, which stands under this heading in the queue.
+    #[inline]
     pub(crate) fn end(&mut self, heading: GoalKey, taken: Option<u64>)
         ensures gone { (c : ℕ) → receipt_at self.new c
             ≡ (if is c taken then None else receipt_at self.old c) }

@@ -1,6 +1,6 @@
 use Rattle.std.proofs.Common.{◌∙◌, refl, sym, ap, ◌&&◌}
 use Rattle.decoded_records.specs.Bindings.{is_distinct}
-use Rattle.vat_view.proofs.Distinct.{refers_from, refers_alone, refers_named}
+use Rattle.vat_view.proofs.Distinct.{refers_from, refers_alone}
 use Rattle.vat_view.proofs.state.VatState.refers.Goals as goal
 
 pub returns-then-binds : goal.returns-then-binds
@@ -19,6 +19,3 @@ returns-else-binds c =
 
 pub returns-in-Some : goal.returns-in-Some
 returns-in-Some c = refers_alone c.args.self.now c.args.event.now c.in-Some.call _ c.in-Some.ensures refl
-
-pub returns-in-Some-named_alone : goal.returns-in-Some-named_alone
-returns-in-Some-named_alone c = refers_named c.args.self.now c.args.event.now c.in-Some-named_alone.call _ c.in-Some-named_alone.ensures c.is_bound_call.ensures

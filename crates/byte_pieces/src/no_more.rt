@@ -1,6 +1,6 @@
 //! Bytes of which all are there.
 
-ghost use Rattle.std.specs.Prelude.{◌≡◌, true};
+ghost use Rattle.std.specs.Prelude.{◌≡◌};
 
 use crate::{PieceFault, Pieces};
 use bytes::Bytes;
@@ -36,11 +36,9 @@ impl NoMore {
 }
 
 impl Pieces for NoMore {
-    ghost use Rattle.std.specs.Prelude.{true};
+    ghost use Rattle.std.specs.Prelude.{true, None, Some};
 
-    ghost came = { λ none. none };
-
-    ghost is_over = { λ _. true };
+    ghost so_far = { λ none. record { bytes = none; is_over = true; fault = None; whole = Some none } };
 
     fn more(
         &mut self,

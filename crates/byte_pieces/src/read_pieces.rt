@@ -1,6 +1,8 @@
 //! The pieces that a reader gives.
 
-ghost use Rattle.std.specs.Prelude.{◌≡◌, ◌∷◌, [], ◌++◌, true, false, length, IfOk, List, ℕ};
+ghost use Rattle.std.specs.Prelude.{◌≡◌, ◌<◌, ◌++◌, ℕ, List, [], None, Some, true, false, length, is_some, IfOk};
+ghost use Rattle.std.specs.Io.KnownBytes.{Consumes, IsAtEnd};
+ghost use Rattle.byte_pieces.specs.Coming.{IsFresh};
 
 use crate::{PieceFault, Pieces};
 use bytes::{Bytes, BytesMut};
@@ -12,35 +14,74 @@ use std::marker::Model;
 /// How often a read is asked for once more where the system says that it was interrupted.
 const TRIES: usize = 1000;
 
-/// What a reader gives, as a file or standard input. Each piece is what one read gives. To a contract it is what came so far.
+/// What a reader gives, as a file or standard input. Each piece is what one read gives. To a contract it is what came so far, of
+/// what the reader had left at first.
 #[derive(Drop)]
-pub struct ReadPieces<R> {
+pub struct ReadPieces<R: Read> {
     reader: R,
+    begun: Erased<R>,
     gave: Erased<(usize, Bytes)>,
     is_over: bool,
     fault: Option<PieceFault>,
     refusal: Option<io::Error>,
 }
 
-impl<R> Model for ReadPieces<R> {
-    ghost use Rattle.byte_pieces.specs.Coming.{CameSoFar, joined};
+impl<R: Read> Model for ReadPieces<R> {
+    ghost use Rattle.byte_pieces.specs.Coming.{CameSoFar, ReadsOn, joined, left_at_first};
 
     ghost Value = { CameSoFar };
 
-    ghost view = { λ pieces. record { bytes = joined pieces.gave.items; is_over = pieces.is_over } };
+    ghost view = { λ pieces. record {
+      bytes = joined pieces.gave.items;
+      is_over = pieces.is_over;
+      fault = pieces.fault;
+      whole = left_at_first R.remaining pieces.begun.items;
+    } };
+
+    ghost invariant = { λ pieces. ReadsOn (record {
+      bytes = joined pieces.gave.items;
+      is_over = pieces.is_over;
+      fault = pieces.fault;
+      whole = left_at_first R.remaining pieces.begun.items;
+    }) (R.remaining pieces.reader) };
 }
 
-impl<R> ReadPieces<R> {
+/// The fault that a read answers.
+fn fault_of(error: &io::Error) -> PieceFault {
+    if error.kind() == ErrorKind::OutOfMemory {
+        PieceFault::OutOfMemory
+    } else {
+        PieceFault::CannotRead
+    }
+}
+
+impl<R: Read> ReadPieces<R> {
     /// What this reader gives from here on.
     pub fn new(reader: R) -> ReadPieces<R>
-        ensures { result ≡ record { bytes = []; is_over = false } }
+        ensures { result ≡ record { bytes = []; is_over = false; fault = None; whole = R.remaining reader } }
     {
         ReadPieces {
+            begun: Erased::new().with(&reader),
             reader,
             gave: Erased::new(),
             is_over: false,
             fault: None,
             refusal: None,
+        }
+    }
+
+    /// What gives nothing, since it can't be read, for this reason. The reader isn't asked.
+    pub fn refused(reader: R, why: io::Error) -> ReadPieces<R>
+        ensures none { IsFresh result }
+        ensures fault { is_some result.fault ≡ true }
+    {
+        ReadPieces {
+            begun: Erased::new().with(&reader),
+            reader,
+            gave: Erased::new(),
+            is_over: false,
+            fault: Some(fault_of(&why)),
+            refusal: Some(why),
         }
     }
 
@@ -52,8 +93,11 @@ impl<R> ReadPieces<R> {
 
 /// One read into the room behind these bytes, and how many it gave.
 fn read_once<R: Read>(window: &mut BytesMut, reader: &mut R) -> io::Result<usize>
-    ensures { IfOk result (λ count. (more : List ℕ) × (length more ≡ count)
-        × (window.new.items ≡ window.old.items ++ more)) }
+    requires { 0 < window.old.spare }
+    ensures gave { IfOk result (λ count. (more : List ℕ) × (length more ≡ count)
+        × (window.new.items ≡ window.old.items ++ more)
+        × Consumes (R.remaining reader.old) (R.remaining reader.new) more) }
+    ensures end { IfOk result (λ count. count ≡ 0 → IsAtEnd (R.remaining reader.new)) }
 {
     for _ in 0..TRIES {
         match window.read_from(reader) {
@@ -71,7 +115,8 @@ fn read_once<R: Read>(window: &mut BytesMut, reader: &mut R) -> io::Result<usize
 impl<R: Read> ReadPieces<R> {
     /// That nothing more is read: what comes next couldn't be told apart from what follows a gap.
     fn stop(&mut self, fault: PieceFault) -> PieceFault
-        ensures { self.new ≡ self.old }
+        ensures stopped { self.new ≡ record self.old { fault = Some fault } }
+        ensures same { result ≡ fault }
     {
         self.fault = Some(fault);
         fault
@@ -79,22 +124,16 @@ impl<R: Read> ReadPieces<R> {
 
     /// The fault that a read answered.
     fn refuse(&mut self, error: io::Error) -> PieceFault
-        ensures { self.new ≡ self.old }
+        ensures { self.new ≡ record self.old { fault = Some result } }
     {
-        let fault = if error.kind() == ErrorKind::OutOfMemory {
-            PieceFault::OutOfMemory
-        } else {
-            PieceFault::CannotRead
-        };
+        let fault = fault_of(&error);
         self.refusal = Some(error);
         self.stop(fault)
     }
 }
 
 impl<R: Read> Pieces for ReadPieces<R> {
-    ghost came = { λ pieces. pieces.bytes };
-
-    ghost is_over = { λ pieces. pieces.is_over };
+    ghost so_far = { λ pieces. pieces };
 
     /// Where a read fails, or what it gave can't be handed out, each later call answers the same fault.
     fn more(

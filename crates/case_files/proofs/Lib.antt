@@ -5,3 +5,4 @@ mod FileNaming
 pub mod LookUps
 mod Pieces
 pub mod Refusals
+pub mod Openings

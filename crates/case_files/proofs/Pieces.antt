@@ -3,8 +3,7 @@ use Rattle.std.proofs.Common.{◌≡◌, ℕ, zero, suc, ◌+◌, ◌<◌, ◌�
 use Rattle.std.specs.Prelude.{◌&&◌}
 use Rattle.std.specs.List.{starts_with}
 use Rattle.std.proofs.lemmas.Bool.{eqb-true}
-use Rattle.vat_log.specs.Streams.{MayBeAll}
-use Rattle.byte_pieces.specs.Coming.{Brings}
+use Rattle.byte_pieces.specs.Coming.{Brings, MayBeAll}
 
 both : (p q : Bool) → p && q ≡ true → (p ≡ true) × (q ≡ true)
 both true q is = (refl, is)

@@ -48,11 +48,14 @@ impl FileList {
 }
 
 impl Source for FileList {
-    ghost use Rattle.case_files.specs.LookUp.{LooksUp};
+    ghost use Rattle.std.specs.Prelude.{Some};
+    ghost use Rattle.case_files.specs.LookUp.{LooksUp, read_under};
 
     type Reader = ListedReader;
 
     ghost read_gives = { LooksUp };
+
+    ghost holds = { λ files name. Some (read_under files name) };
 
     fn read(&mut self, name: &str) -> Result<Bytes, SourceError> {
         let bytes = self.find(name).ok_or(SourceError::CannotRead)?;

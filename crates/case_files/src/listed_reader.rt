@@ -1,7 +1,8 @@
 //! The bytes of a file in a list, piece by piece.
 
-ghost use Rattle.std.specs.Prelude.{◌≡◌, ◌≤◌, [], true, false, length, take};
-ghost use Rattle.vat_log.specs.Streams.{MayBeAll};
+ghost use Rattle.std.specs.Prelude.{◌≡◌, ◌⊎◌, [], Some, true, false};
+ghost use Rattle.byte_pieces.specs.Coming.{IsFresh, MayBeAll};
+ghost use Rattle.case_files.specs.Opening.{GivesNothing, GivesOf};
 
 use byte_pieces::{PieceFault, Pieces};
 use bytes::{Bytes, BytesMut};
@@ -18,12 +19,17 @@ pub struct ListedReader {
 }
 
 impl Model for ListedReader {
-    ghost use Rattle.std.specs.Prelude.{◌≡◌, ◌≤◌, true, length, take};
+    ghost use Rattle.std.specs.Prelude.{◌≡◌, ◌≤◌, Some, true, length, take};
     ghost use Rattle.byte_pieces.specs.Coming.{CameSoFar};
 
     ghost Value = { CameSoFar };
 
-    ghost view = { λ reader. record { bytes = take reader.given reader.bytes; is_over = reader.is_over } };
+    ghost view = { λ reader. record {
+      bytes = take reader.given reader.bytes;
+      is_over = reader.is_over;
+      fault = reader.fault;
+      whole = Some reader.bytes;
+    } };
 
     ghost invariant = { λ reader. (reader.given ≤ length reader.bytes)
         × (reader.is_over ≡ true → length reader.bytes ≤ reader.given) };
@@ -32,7 +38,7 @@ impl Model for ListedReader {
 impl ListedReader {
     /// A reader from which nothing comes, for this reason.
     pub(crate) fn failing(fault: PieceFault) -> ListedReader
-        ensures { result ≡ record { bytes = []; is_over = false } }
+        ensures { GivesNothing result }
     {
         ListedReader {
             bytes: Bytes::new(),
@@ -44,7 +50,8 @@ impl ListedReader {
 
     /// A reader of these bytes.
     pub(crate) fn of(bytes: &Bytes) -> ListedReader
-        ensures { result ≡ record { bytes = []; is_over = false } }
+        ensures fresh { IsFresh result }
+        ensures of { GivesOf bytes.now result ⊎ GivesNothing result }
     {
         match bytes.clone() {
             Ok(bytes) => ListedReader {
@@ -68,9 +75,7 @@ impl ListedReader {
 }
 
 impl Pieces for ListedReader {
-    ghost came = { λ reader. reader.bytes };
-
-    ghost is_over = { λ reader. reader.is_over };
+    ghost so_far = { λ reader. reader };
 
     fn more(
         &mut self,

@@ -1,10 +1,11 @@
 //! Where files come from.
 
-ghost use Rattle.std.specs.Prelude.{◌≡◌, ℕ, List, [], ⊤, IfSome};
+ghost use Rattle.std.specs.Prelude.{◌≡◌, ℕ, List, ⊤, Option, None, IfSome};
 ghost use Rattle.std.specs.Prelude.{Result as Answered};
 ghost use Rattle.case_files.specs.declared.source.SourceError.{SourceError};
 ghost use Rattle.case_files.specs.declared.source.SourceError.TheVariants.{OutOfMemory};
-ghost use Rattle.case_files.specs.Opening.{Closes};
+ghost use Rattle.byte_pieces.specs.Coming.{IsFresh};
+ghost use Rattle.case_files.specs.Opening.{Closes, IsOf};
 
 use byte_pieces::Pieces;
 use bytes::Bytes;
@@ -48,6 +49,9 @@ pub trait Source {
     // What may come of reading a name: the source, the name, the bytes or why there are none, the source afterwards.
     ghost read_gives: { Self → List ℕ → Answered (List ℕ) SourceError → Self → Type 0 } = { λ _ _ _ _. ⊤ };
 
+    // What reading a name gives, where that is known: of a file that the system holds, or that still grows, it isn't.
+    ghost holds: { Self → List ℕ → Option (Answered (List ℕ) SourceError) } = { λ _ _. None };
+
     /// All bytes that stand under the name.
     ///
     /// # Errors
@@ -59,7 +63,8 @@ pub trait Source {
     /// A reader of the bytes that stand under the name, of which none came yet. Where there is nothing that can be read under
     /// it, the reader says so when it is asked for the first piece.
     fn open(&mut self, name: &str) -> Self::Reader
-        ensures none { Self.Reader.came result ≡ [] }
+        ensures fresh { IsFresh (Self.Reader.so_far result) }
+        ensures of { IsOf (holds self.old name.now) (Self.Reader.so_far result) }
         ensures same { self.new ≡ self.old };
 
     /// Ends the reading from a reader that was opened under this name; `failed` says that it answered that it can't be read. What
@@ -69,8 +74,7 @@ pub trait Source {
     ///
     /// Why the name can't be read, as [`read`](Source::read) answers it. It does so where the reader failed.
     fn close(&mut self, name: &str, reader: &Self::Reader, failed: bool) -> Result<(), SourceError>
-        ensures { Closes read_gives self.old name.now (Self.Reader.came reader.now)
-            (Self.Reader.is_over reader.now) failed result self.new };
+        ensures { Closes read_gives self.old name.now (Self.Reader.so_far reader.now) failed result self.new };
 }
 
 /// A source that remembers what it was asked for, so that people can be told of it. No answer depends on it.
@@ -99,5 +103,5 @@ pub trait RememberingSource: Source {
     /// A reader of a file that is left out there, of which none came yet; none where it can't be read once more. What it gives is
     /// for people alone.
     fn open_again(&self, name: &str) -> Option<Self::Reader>
-        ensures { IfSome result (λ reader. Self.Reader.came reader ≡ []) };
+        ensures { IfSome result (λ reader. IsFresh (Self.Reader.so_far reader)) };
 }

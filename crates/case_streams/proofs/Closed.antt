@@ -3,7 +3,8 @@ use Rattle.std.proofs.Common.{◌≡◌, ℕ, ◌+◌, ◌≤◌, Bool, true, fa
 use Rattle.std.specs.Prelude.{slice_get, IfSome, IsSomeAnd, MatchOption}
 use Rattle.vat_log.specs.Log.{Log}
 use Rattle.vat_log.specs.Reading.{log_of}
-use Rattle.vat_log.specs.Streams.{MayBeAll, NoLogBegins, StreamStopsBy}
+use Rattle.vat_log.specs.Streams.{NoLogBegins, StreamStopsBy}
+use Rattle.byte_pieces.specs.Coming.{CameSoFar, MayBeAll}
 use Rattle.vat_log.specs.declared.read_fault.ReadFault.{ReadFault}
 use Rattle.vat_log.specs.declared.read_fault.ReadFault.TheVariants as read
 use Rattle.case_files.specs.CaseFaults.{of_order, case_fault_of_source}
@@ -105,8 +106,8 @@ headless_fails gives names i name old new fault here (inl is) = inl is
 headless_fails gives names i name old new fault here (inr comes) = inr (rw (next_name names i name here) (Err fault, (new, (comes, (refl, refl)))))
 
 -- there is a name for it
-pub named : {R : Type 0} (came : R → List ℕ) (is_over : R → Bool) (count : ℕ) (logs : OpenLogs R) (bad : ReadFault × R) → AreOpen came is_over count logs → logs.headless ≡ Some bad → length logs.lanes.items < count
-named {R = R} came is_over count logs bad is has = (subst (λ (o : Option (ReadFault × R)). MatchOption o (length logs.lanes.items ≡ count) (λ b. (length logs.lanes.items < count) × NoLogBegins b.0 (came b.1) (is_over b.1))) has is).0
+pub named : {R : Type 0} (so_far : R → CameSoFar) (count : ℕ) (logs : OpenLogs R) (bad : ReadFault × R) → AreOpen so_far count logs → logs.headless ≡ Some bad → length logs.lanes.items < count
+named {R = R} so_far count logs bad is has = (subst (λ (o : Option (ReadFault × R)). MatchOption o (length logs.lanes.items ≡ count) (λ b. (length logs.lanes.items < count) × NoLogBegins b.0 (so_far b.1))) has is).0
 
 pub item_at : {A : Type 0} (xs : List A) (i : ℕ) (x : A) → i < length xs → x ≡ get_or xs i x → slice_get xs i ≡ Some x
 item_at [] i x h is = absurd (let no : ⊥ = omega (arith, h) in no)
@@ -114,56 +115,56 @@ item_at (y ∷ xs) zero x h is = ap Some (sym is)
 item_at (y ∷ xs) (suc i) x h is = item_at xs i x (omega (arith, h)) is
 
 -- what the reader of a log has that came whole
-pub whole_lane : (lane : Option ReadAhead) (log : Log) (came : List ℕ) (is_over : Bool) → CameWhole lane log → IfSome lane (λ l. (came ≡ l.read.bytes) × (is_over ≡ l.read.is_over)) → (is_over ≡ true) × (log_of came ≡ Ok log)
-whole_lane lane log came is_over whole has =
-    let so = subst (λ (o : Option ReadAhead). IfSome o (λ l. (came ≡ l.read.bytes) × (is_over ≡ l.read.is_over))) whole.there has in
-    (so.1 ∙ whole.over, ap log_of so.0 ∙ whole.spelled)
+pub whole_lane : (lane : Option ReadAhead) (log : Log) (came : CameSoFar) → CameWhole lane log → IfSome lane (λ l. came ≡ l.read.came) → (came.is_over ≡ true) × (log_of came.bytes ≡ Ok log)
+whole_lane lane log came whole has =
+    let so : came ≡ whole.read.read.came = subst (λ (o : Option ReadAhead). IfSome o (λ l. came ≡ l.read.came)) whole.there has in
+    (ap (λ (c : CameSoFar). c.is_over) so ∙ whole.over, ap (λ (c : CameSoFar). log_of c.bytes) so ∙ whole.spelled)
 
 -- ---- the order
 
-module _ {S : Type 0} (gives : Reads S) (old new : S) (name came : List ℕ) (is_over : Bool) where
-  closed_whole : (failed : Bool) → (failed ≡ false) × ((all : List ℕ) × (MayBeAll came is_over all × gives old name (Ok all) new)) → is_over ≡ true → gives old name (Ok came) new
+module _ {S : Type 0} (gives : Reads S) (old new : S) (name : List ℕ) (came : CameSoFar) where
+  closed_whole : (failed : Bool) → (failed ≡ false) × ((all : List ℕ) × (MayBeAll came.bytes came.is_over all × gives old name (Ok all) new)) → came.is_over ≡ true → gives old name (Ok came.bytes) new
   closed_whole failed closed over =
       let may = closed.1.1.0 in
-      let same : closed.1.0 ≡ came = may.parts ∙ ap (λ (m : List ℕ). came ++ m) (may.over over) ∙ append-nil came in
+      let same : closed.1.0 ≡ came.bytes = may.parts ∙ ap (λ (m : List ℕ). came.bytes ++ m) (may.over over) ∙ append-nil came.bytes in
       subst (λ (all : List ℕ). gives old name (Ok all) new) same closed.1.1.1
 
   pub unread_order : (fault : SourceError) → gives old name (Err fault) new → NamedOrderComes gives (Some name) old (Err (case_fault_of_source fault)) new
   unread_order source.CannotRead given = (Err CannotRead, (new, ((Err source.CannotRead, (given, refl)), (refl, refl))))
   unread_order source.OutOfMemory given = (Err OutOfMemory, (new, ((Err source.OutOfMemory, (given, tt)), (refl, refl))))
 
-  pub read_order : (given : List ℕ) (failed : Bool) → (failed ≡ false) × ((all : List ℕ) × (MayBeAll came is_over all × gives old name (Ok all) new)) → IsOrderOf (Ok given) came is_over
+  pub read_order : (given : List ℕ) (failed : Bool) → (failed ≡ false) × ((all : List ℕ) × (MayBeAll came.bytes came.is_over all × gives old name (Ok all) new)) → IsOrderOf (Ok given) came
       → NamedOrderComes gives (Some name) old (Ok (Some given)) new
-  read_order given failed closed is = (Ok given, (new, ((Ok came, (closed_whole failed closed is.0, ap (with_fault of_order) is.1)), (refl, refl))))
+  read_order given failed closed is = (Ok given, (new, ((Ok came.bytes, (closed_whole failed closed is.0, ap (with_fault of_order) is.1)), (refl, refl))))
 
-  pub bad_order : (fault : OrderError) (failed : Bool) → (failed ≡ false) × ((all : List ℕ) × (MayBeAll came is_over all × gives old name (Ok all) new)) → IsOrderOf (Err (Bad fault)) came is_over
+  pub bad_order : (fault : OrderError) (failed : Bool) → (failed ≡ false) × ((all : List ℕ) × (MayBeAll came.bytes came.is_over all × gives old name (Ok all) new)) → IsOrderOf (Err (Bad fault)) came
       → NamedOrderComes gives (Some name) old (Err (of_order fault)) new
   bad_order order.OutOfMemory failed closed is = (Err OutOfMemory, (new, ((Ok closed.1.0, (closed.1.1.1, tt)), (refl, refl))))
-  bad_order order.BadMagic failed closed is = (Err (OrderFault order.BadMagic), (new, ((Ok came, (closed_whole failed closed is.0, ap (with_fault of_order) is.1)), (refl, refl))))
-  bad_order (order.Short at) failed closed is = (Err (OrderFault (order.Short at)), (new, ((Ok came, (closed_whole failed closed is.0, ap (with_fault of_order) is.1)), (refl, refl))))
+  bad_order order.BadMagic failed closed is = (Err (OrderFault order.BadMagic), (new, ((Ok came.bytes, (closed_whole failed closed is.0, ap (with_fault of_order) is.1)), (refl, refl))))
+  bad_order (order.Short at) failed closed is = (Err (OrderFault (order.Short at)), (new, ((Ok came.bytes, (closed_whole failed closed is.0, ap (with_fault of_order) is.1)), (refl, refl))))
 
 -- what is known of the file of an order that has a fault, and of one that has none
-pub fault_of_file : {R : Type 0} (came : R → List ℕ) (is_over : R → Bool) (name : List ℕ) (given : Option (List ℕ)) (file : OpenOrder R) (fault : FileFault) → IsOpenOrder came is_over (Some name) given (Some file) → file.fault ≡ Some fault
-    → IsOrderOf (Err fault) (came file.reader) (is_over file.reader)
-fault_of_file came is_over name (Some given) file fault so is = absurd (let both = sym is ∙ so.0 in let no : ⊥ = cc in no)
-fault_of_file came is_over name None file fault so is = subst (λ (o : Option FileFault). IsSomeAnd o (λ f. IsOrderOf (Err f) (came file.reader) (is_over file.reader))) is so
+pub fault_of_file : {R : Type 0} (so_far : R → CameSoFar) (name : List ℕ) (given : Option (List ℕ)) (file : OpenOrder R) (fault : FileFault) → IsOpenOrder so_far (Some name) given (Some file) → file.fault ≡ Some fault
+    → IsOrderOf (Err fault) (so_far file.reader)
+fault_of_file so_far name (Some given) file fault so is = absurd (let both = sym is ∙ so.0 in let no : ⊥ = cc in no)
+fault_of_file so_far name None file fault so is = subst (λ (o : Option FileFault). IsSomeAnd o (λ f. IsOrderOf (Err f) (so_far file.reader))) is so
 
-pub order_of_file : {R : Type 0} (came : R → List ℕ) (is_over : R → Bool) (name : List ℕ) (given : Option (List ℕ)) (file : OpenOrder R) → IsOpenOrder came is_over (Some name) given (Some file) → file.fault ≡ None
-    → (one : List ℕ) × (given ≡ Some one) × IsOrderOf (Ok one) (came file.reader) (is_over file.reader)
-order_of_file came is_over name (Some given) file so none = (given, refl, so.1)
-order_of_file came is_over name None file so none = absurd (subst (λ (o : Option FileFault). IsSomeAnd o (λ f. IsOrderOf (Err f) (came file.reader) (is_over file.reader))) none so)
+pub order_of_file : {R : Type 0} (so_far : R → CameSoFar) (name : List ℕ) (given : Option (List ℕ)) (file : OpenOrder R) → IsOpenOrder so_far (Some name) given (Some file) → file.fault ≡ None
+    → (one : List ℕ) × (given ≡ Some one) × IsOrderOf (Ok one) (so_far file.reader)
+order_of_file so_far name (Some given) file so none = (given, refl, so.1)
+order_of_file so_far name None file so none = absurd (subst (λ (o : Option FileFault). IsSomeAnd o (λ f. IsOrderOf (Err f) (so_far file.reader))) none so)
 
 -- ---- a log that isn't whole
 
-pub fault_of_all : (fault : ReadFault) (lane : Option ReadAhead) (came : List ℕ) (is_over : Bool) → CameToFault lane fault → IfSome lane (λ l. (came ≡ l.read.bytes) × (is_over ≡ l.read.is_over)) → IsFaultOfAll fault came is_over
-fault_of_all fault lane came is_over to has =
-    let so = subst (λ (o : Option ReadAhead). IfSome o (λ l. (came ≡ l.read.bytes) × (is_over ≡ l.read.is_over))) to.there has in
-    stops fault to.stops came is_over so.0 so.1
+pub fault_of_all : (fault : ReadFault) (lane : Option ReadAhead) (came : CameSoFar) → CameToFault lane fault → IfSome lane (λ l. came ≡ l.read.came) → IsFaultOfAll fault came
+fault_of_all fault lane came to has =
+    let so : came ≡ to.read.read.came = subst (λ (o : Option ReadAhead). IfSome o (λ l. came ≡ l.read.came)) to.there has in
+    subst (IsFaultOfAll fault) (sym so) (stops fault to.stops)
   where
-    stops : (fault : ReadFault) → StreamStopsBy fault to.read.read → (came : List ℕ) (is_over : Bool) → came ≡ to.read.read.bytes → is_over ≡ to.read.read.is_over → IsFaultOfAll fault came is_over
-    stops (read.Bad e) stop came is_over same over = λ all may. (stop all (subst (λ (b : Bool). MayBeAll to.read.read.bytes b all) over (subst (λ (bs : List ℕ). MayBeAll bs is_over all) same may))).0
-    stops read.CannotRead stop came is_over same over = tt
-    stops read.OutOfMemory stop came is_over same over = tt
+    stops : (fault : ReadFault) → StreamStopsBy fault to.read.read → IsFaultOfAll fault to.read.read.came
+    stops (read.Bad e) stop = λ all may. (stop all may).0
+    stops read.CannotRead stop = stop
+    stops read.OutOfMemory stop = tt
 
 pub own_fault : (lanes : List (Option ReadAhead)) (place : ℕ) (lane : Option ReadAhead) (fault : ReadFault) → IsSomeAnd (slice_get lanes place) (λ l. CameToFault l fault) → slice_get lanes place ≡ Some lane → CameToFault lane fault
 own_fault lanes place lane fault own is = subst (λ (o : Option (Option ReadAhead)). IsSomeAnd o (λ l. CameToFault l fault)) is own
@@ -174,24 +175,24 @@ first_fails gives names old between now i name logs fault here came (inl is) = i
 first_fails gives names old between now i name logs fault here came (inr comes) = inr (one_fails gives names old between now i name logs fault here came comes)
 
 -- no log lacks its header
-pub all_named : {R : Type 0} (came : R → List ℕ) (is_over : R → Bool) (count : ℕ) (logs : OpenLogs R) → AreOpen came is_over count logs → logs.headless ≡ None → length logs.lanes.items ≡ count
-all_named {R = R} came is_over count logs has none = subst (λ (o : Option (ReadFault × R)). MatchOption o (length logs.lanes.items ≡ count) (λ b. (length logs.lanes.items < count) × NoLogBegins b.0 (came b.1) (is_over b.1))) none has
+pub all_named : {R : Type 0} (so_far : R → CameSoFar) (count : ℕ) (logs : OpenLogs R) → AreOpen so_far count logs → logs.headless ≡ None → length logs.lanes.items ≡ count
+all_named {R = R} so_far count logs has none = subst (λ (o : Option (ReadFault × R)). MatchOption o (length logs.lanes.items ≡ count) (λ b. (length logs.lanes.items < count) × NoLogBegins b.0 (so_far b.1))) none has
 
 -- the fault of a log that has no header
-pub headless_fault : (fault : ReadFault) (came : List ℕ) (is_over : Bool) → NoLogBegins fault came is_over → IsFaultOfAll fault came is_over
-headless_fault (read.Bad e) came is_over none = λ all may. (none all may).1
-headless_fault read.CannotRead came is_over none = tt
-headless_fault read.OutOfMemory came is_over none = tt
+pub headless_fault : (fault : ReadFault) (came : CameSoFar) → NoLogBegins fault came → IsFaultOfAll fault came
+headless_fault (read.Bad e) came none = λ all may. (none all may).1
+headless_fault read.CannotRead came none = none
+headless_fault read.OutOfMemory came none = tt
 
-pub none_begins : {R : Type 0} (came : R → List ℕ) (is_over : R → Bool) (count : ℕ) (logs : OpenLogs R) (bad : ReadFault × R) → AreOpen came is_over count logs → logs.headless ≡ Some bad → IsFaultOfAll bad.0 (came bad.1) (is_over bad.1)
-none_begins {R = R} came is_over count logs bad is has = headless_fault bad.0 (came bad.1) (is_over bad.1) (subst (λ (o : Option (ReadFault × R)). MatchOption o (length logs.lanes.items ≡ count) (λ b. (length logs.lanes.items < count) × NoLogBegins b.0 (came b.1) (is_over b.1))) has is).1
+pub none_begins : {R : Type 0} (so_far : R → CameSoFar) (count : ℕ) (logs : OpenLogs R) (bad : ReadFault × R) → AreOpen so_far count logs → logs.headless ≡ Some bad → IsFaultOfAll bad.0 (so_far bad.1)
+none_begins {R = R} so_far count logs bad is has = headless_fault bad.0 (so_far bad.1) (subst (λ (o : Option (ReadFault × R)). MatchOption o (length logs.lanes.items ≡ count) (λ b. (length logs.lanes.items < count) × NoLogBegins b.0 (so_far b.1))) has is).1
 
 -- the same logs, read on
-pub open_again : {R : Type 0} (came : R → List ℕ) (is_over : R → Bool) (count : ℕ) (logs after : OpenLogs R) → after.headless ≡ logs.headless → length after.lanes.items ≡ length logs.lanes.items → AreOpen came is_over count logs → AreOpen came is_over count after
-open_again {R = R} came is_over count logs after same long has =
-    subst (λ (o : Option (ReadFault × R)). MatchOption o (length after.lanes.items ≡ count) (λ b. (length after.lanes.items < count) × NoLogBegins b.0 (came b.1) (is_over b.1))) (sym same) (go logs.headless has)
+pub open_again : {R : Type 0} (so_far : R → CameSoFar) (count : ℕ) (logs after : OpenLogs R) → after.headless ≡ logs.headless → length after.lanes.items ≡ length logs.lanes.items → AreOpen so_far count logs → AreOpen so_far count after
+open_again {R = R} so_far count logs after same long has =
+    subst (λ (o : Option (ReadFault × R)). MatchOption o (length after.lanes.items ≡ count) (λ b. (length after.lanes.items < count) × NoLogBegins b.0 (so_far b.1))) (sym same) (go logs.headless has)
   where
-    go : (o : Option (ReadFault × R)) → MatchOption o (length logs.lanes.items ≡ count) (λ b. (length logs.lanes.items < count) × NoLogBegins b.0 (came b.1) (is_over b.1))
-        → MatchOption o (length after.lanes.items ≡ count) (λ b. (length after.lanes.items < count) × NoLogBegins b.0 (came b.1) (is_over b.1))
+    go : (o : Option (ReadFault × R)) → MatchOption o (length logs.lanes.items ≡ count) (λ b. (length logs.lanes.items < count) × NoLogBegins b.0 (so_far b.1))
+        → MatchOption o (length after.lanes.items ≡ count) (λ b. (length after.lanes.items < count) × NoLogBegins b.0 (so_far b.1))
     go None all = long ∙ all
     go (Some bad) (lt, none) = (omega (arith, long, lt), none)

@@ -1,5 +1,7 @@
 -- This file serves the contracts of private functions alone, and is no part of the meaning.
 use Rattle.std.specs.Prelude.{◌≡◌, ◌⊎◌, ℕ, ◌<◌, Bool, true, false, ◌||◌, List, ◌++◌, drop, length, Option, Some, None, Result, Ok, Err, IsSomeAnd, MatchOption, is_some}
+use Rattle.byte_pieces.specs.Coming.{CameSoFar, MayBeAll}
+use Rattle.byte_pieces.specs.declared.fault.PieceFault.TheVariants as piece
 use Rattle.audit_core.specs.Lines.{IsLineOf, LineMeansHeadline}
 use Rattle.case_report.specs.declared.report.Report.{Report}
 use Rattle.case_book.specs.Case.{Contents}
@@ -21,25 +23,25 @@ use Rattle.merge_order.specs.declared.error.OrderError.TheVariants.{OutOfMemory}
 use Rattle.stream_audit.specs.Streamed.{AreReadWhole, IsFirstFault, IsLineOfStreams}
 use Rattle.vat_log.specs.Log.{Log}
 use Rattle.vat_log.specs.Reading.{log_of}
-use Rattle.vat_log.specs.Streams.{MayBeAll, NoLogBegins}
+use Rattle.vat_log.specs.Streams.{CannotBeRead, NoLogBegins}
 use Rattle.vat_log.specs.declared.read_fault.ReadFault.{ReadFault}
 use Rattle.vat_log.specs.declared.read_fault.ReadFault.TheVariants as read
 
 -- ---- what is opened
 
 -- what all bytes of an order spell, or their fault; or they can't be read, or memory was refused
-abbrev pub IsOrderOf : Result (List ℕ) OrderFault → List ℕ → Bool → Type 0
-IsOrderOf (Ok order) came is_over = (is_over ≡ true) × (spelled_order came ≡ Ok order)
-IsOrderOf (Err CannotRead) came is_over = Unit {0}
-IsOrderOf (Err (Bad OutOfMemory)) came is_over = Unit {0}
-IsOrderOf (Err (Bad fault)) came is_over = (is_over ≡ true) × (spelled_order came ≡ Err fault)
+abbrev pub IsOrderOf : Result (List ℕ) OrderFault → CameSoFar → Type 0
+IsOrderOf (Ok order) came = (came.is_over ≡ true) × (spelled_order came.bytes ≡ Ok order)
+IsOrderOf (Err CannotRead) came = came.fault ≡ Some piece.CannotRead
+IsOrderOf (Err (Bad OutOfMemory)) came = Unit {0}
+IsOrderOf (Err (Bad fault)) came = (came.is_over ≡ true) × (spelled_order came.bytes ≡ Err fault)
 
 -- the file of an order was read, where one is named
-abbrev pub IsOpenOrder : {R : Type 0} → (R → List ℕ) → (R → Bool) → Option (List ℕ) → Option (List ℕ) → Option (OpenOrder R) → Type 0
-IsOpenOrder came is_over None given file = (given ≡ None) × (file ≡ None)
-IsOpenOrder came is_over (Some name) (Some order) (Some file) = (file.fault ≡ None) × IsOrderOf (Ok order) (came file.reader) (is_over file.reader)
-IsOpenOrder came is_over (Some name) None (Some file) = IsSomeAnd file.fault (λ fault. IsOrderOf (Err fault) (came file.reader) (is_over file.reader))
-IsOpenOrder came is_over (Some name) given None = ⊥
+abbrev pub IsOpenOrder : {R : Type 0} → (R → CameSoFar) → Option (List ℕ) → Option (List ℕ) → Option (OpenOrder R) → Type 0
+IsOpenOrder so_far None given file = (given ≡ None) × (file ≡ None)
+IsOpenOrder so_far (Some name) (Some order) (Some file) = (file.fault ≡ None) × IsOrderOf (Ok order) (so_far file.reader)
+IsOpenOrder so_far (Some name) None (Some file) = IsSomeAnd file.fault (λ fault. IsOrderOf (Err fault) (so_far file.reader))
+IsOpenOrder so_far (Some name) given None = ⊥
 
 -- whether it has none
 abbrev pub has_fault : {R : Type 0} → Option (OpenOrder R) → Bool
@@ -47,9 +49,9 @@ has_fault None = false
 has_fault (Some file) = is_some file.fault
 
 -- logs were opened, all that are named, or those up to one that has no header
-abbrev pub AreOpen : {R : Type 0} → (R → List ℕ) → (R → Bool) → ℕ → OpenLogs R → Type 0
-AreOpen came is_over named logs = MatchOption logs.headless (length logs.lanes.items ≡ named)
-    (λ bad. (length logs.lanes.items < named) × NoLogBegins bad.0 (came bad.1) (is_over bad.1))
+abbrev pub AreOpen : {R : Type 0} → (R → CameSoFar) → ℕ → OpenLogs R → Type 0
+AreOpen so_far named logs = MatchOption logs.headless (length logs.lanes.items ≡ named)
+    (λ bad. (length logs.lanes.items < named) × NoLogBegins bad.0 (so_far bad.1))
 
 -- whether a log has no header, or an order isn't one
 abbrev pub is_flawed : {R : Type 0} → OpenLogs R → Option (OpenOrder R) → Bool
@@ -63,10 +65,10 @@ with_value x (Ok _) = Ok x
 with_value x (Err fault) = Err fault
 
 -- this is the fault of all bytes of a log, whatever comes behind those that came; or they can't be read, or memory was refused
-abbrev pub IsFaultOfAll : ReadFault → List ℕ → Bool → Type 0
-IsFaultOfAll (read.Bad fault) came is_over = (all : List ℕ) → MayBeAll came is_over all → log_of all ≡ Err fault
-IsFaultOfAll read.CannotRead came is_over = Unit {0}
-IsFaultOfAll read.OutOfMemory came is_over = Unit {0}
+abbrev pub IsFaultOfAll : ReadFault → CameSoFar → Type 0
+IsFaultOfAll (read.Bad fault) came = (all : List ℕ) → MayBeAll came.bytes came.is_over all → log_of all ≡ Err fault
+IsFaultOfAll read.CannotRead came = CannotBeRead came
+IsFaultOfAll read.OutOfMemory came = Unit {0}
 
 -- these logs, and then those that come of the rest
 abbrev pub before : List Log → Result (List Log) CaseFault → Result (List Log) CaseFault

@@ -15,7 +15,7 @@ use vat_log::ReadFault;
 
 /// Closes a log that came whole.
 fn close_whole<S: Source>(source: &mut S, name: &str, reader: &S::Reader) -> Result<(), CaseFault>
-    ensures { (log : Log) → S.Reader.is_over reader.now ≡ true → log_of (S.Reader.came reader.now) ≡ Ok log
+    ensures { (log : Log) → (S.Reader.so_far reader.now).is_over ≡ true → log_of (S.Reader.so_far reader.now).bytes ≡ Ok log
         → LogComes S.read_gives name.now source.old (with_value log result) source.new }
 {
     source.close(name, reader, false)?;
@@ -29,7 +29,7 @@ fn close_bad<S: Source>(
     reader: &S::Reader,
     fault: ReadFault,
 ) -> CaseFault
-    ensures { IsFaultOfAll fault (S.Reader.came reader.now) (S.Reader.is_over reader.now)
+    ensures { IsFaultOfAll fault (S.Reader.so_far reader.now)
         → (result ≡ OutOfMemory) ⊎ LogComes S.read_gives name.now source.old (Err result) source.new }
 {
     match fault {
@@ -89,7 +89,7 @@ pub(crate) fn close_headless<S: Source>(
     names: &[String],
     logs: &OpenLogs<S::Reader>,
 ) -> Result<(), CaseFault>
-    requires { AreOpen S.Reader.came S.Reader.is_over (length names.now) logs.now }
+    requires { AreOpen S.Reader.so_far (length names.now) logs.now }
     ensures ok { OnOk result ((source.new ≡ source.old) × (logs.now.headless ≡ None)) }
     ensures err { IfErr result (λ fault. (fault ≡ OutOfMemory)
         ⊎ LogsCome S.read_gives (drop (length logs.now.lanes.items) (map string_bytes names.now))
@@ -108,10 +108,10 @@ pub(crate) fn close_order<S: Source>(
     order: &Option<OpenOrder<S::Reader>>,
 ) -> Result<(), CaseFault>
     ensures comes { (given : Option (List ℕ))
-        → IsOpenOrder S.Reader.came S.Reader.is_over (option_map string_bytes name.now) given order.now
+        → IsOpenOrder S.Reader.so_far (option_map string_bytes name.now) given order.now
         → NamedOrderComes S.read_gives (option_map string_bytes name.now) source.old (with_value given result) source.new }
     ensures sound { (given : Option (List ℕ))
-        → IsOpenOrder S.Reader.came S.Reader.is_over (option_map string_bytes name.now) given order.now
+        → IsOpenOrder S.Reader.so_far (option_map string_bytes name.now) given order.now
         → OnOk result (has_fault order.now ≡ false) }
 {
     let (Some(name), Some(order)) = (name, order) else {

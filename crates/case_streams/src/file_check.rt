@@ -62,13 +62,13 @@ fn close_files<S: Source>(
     logs: &OpenLogs<S::Reader>,
     order: &Option<OpenOrder<S::Reader>>,
 ) -> Result<(), CaseFault>
-    requires { AreOpen S.Reader.came S.Reader.is_over (length names.now) logs.now }
+    requires { AreOpen S.Reader.so_far (length names.now) logs.now }
     ensures comes { (whole : List Log) (given : Option (List ℕ)) → AreReadWhole logs.now.lanes.items whole
-        → IsOpenOrder S.Reader.came S.Reader.is_over (option_map string_bytes order_name.now) given order.now
+        → IsOpenOrder S.Reader.so_far (option_map string_bytes order_name.now) given order.now
         → (result ≡ Err OutOfMemory) ⊎ FilesCome S.read_gives (map string_bytes names.now)
         (option_map string_bytes order_name.now) source.old (with_value (whole, given) result) source.new }
     ensures sound { (given : Option (List ℕ))
-        → IsOpenOrder S.Reader.came S.Reader.is_over (option_map string_bytes order_name.now) given order.now
+        → IsOpenOrder S.Reader.so_far (option_map string_bytes order_name.now) given order.now
         → OnOk result (is_flawed logs.now order.now ≡ false) }
 {
     close_logs(source, names, &logs.lanes)?;
@@ -85,9 +85,9 @@ fn answer_of<S: Source>(
     order: &Option<OpenOrder<S::Reader>>,
     passed: LogsPassed,
 ) -> Result<Report, CaseFault>
-    requires { AreOpen S.Reader.came S.Reader.is_over (length names.now) logs.now }
+    requires { AreOpen S.Reader.so_far (length names.now) logs.now }
     ensures { (links : List Link) (given : Option (List ℕ)) → IsPassed logs.now.lanes.items links given passed
-        → IsOpenOrder S.Reader.came S.Reader.is_over (option_map string_bytes order_name.now) given order.now
+        → IsOpenOrder S.Reader.so_far (option_map string_bytes order_name.now) given order.now
         → LineComes S.read_gives (map string_bytes names.now) (option_map string_bytes order_name.now)
         links given (is_flawed logs.now order.now) source.old result source.new }
 {

@@ -1,6 +1,8 @@
 //! The files of a case, opened.
 
-ghost use Rattle.std.specs.Prelude.{◌≡◌, true, [], length, option_map, string_bytes, IfOk};
+ghost use Rattle.std.specs.Prelude.{◌≡◌, Some, true, length, option_map, string_bytes, IfErr, IfOk};
+ghost use Rattle.byte_pieces.specs.Coming.{IsFresh};
+ghost use Rattle.byte_pieces.specs.declared.fault.PieceFault.TheVariants.{CannotRead};
 ghost use Rattle.stream_audit.specs.Streamed.{AreFresh};
 ghost use Rattle.case_streams.specs.Glue.{AreOpen, IsOpenOrder, IsOrderOf, is_flawed};
 
@@ -32,7 +34,7 @@ pub(crate) fn open_logs<S: Source>(
 ) -> Result<OpenLogs<S::Reader>, AllocError>
     ensures same { source.new ≡ source.old }
     ensures fresh { IfOk result (λ logs. AreFresh logs.lanes.items) }
-    ensures all { IfOk result (AreOpen S.Reader.came S.Reader.is_over (length names.now)) }
+    ensures all { IfOk result (AreOpen S.Reader.so_far (length names.now)) }
 {
     let mut lanes = Vec::new(alloc);
     for name in names {
@@ -54,9 +56,10 @@ pub(crate) fn open_logs<S: Source>(
 
 /// All bytes that come.
 fn all_bytes<P: Pieces>(alloc: Global, reader: &mut P) -> Result<Bytes, PieceFault>
-    requires { P.came reader.old ≡ [] }
-    ensures came { IfOk result (λ bytes. P.came reader.new ≡ bytes) }
-    ensures over { IfOk result (λ bytes. P.is_over reader.new ≡ true) }
+    requires { IsFresh (P.so_far reader.old) }
+    ensures came { IfOk result (λ bytes. (P.so_far reader.new).bytes ≡ bytes) }
+    ensures over { IfOk result (λ bytes. (P.so_far reader.new).is_over ≡ true) }
+    ensures fault { IfErr result (λ fault. fault ≡ CannotRead → (P.so_far reader.new).fault ≡ Some CannotRead) }
 {
     let mut bytes = Vec::new(alloc);
     for _ in 0..u64::MAX {
@@ -79,8 +82,8 @@ pub(crate) enum OrderFault {
 
 /// The order that all bytes spell that come.
 fn order_of<P: Pieces>(alloc: Global, reader: &mut P) -> Result<Order, OrderFault>
-    requires { P.came reader.old ≡ [] }
-    ensures { IsOrderOf result (P.came reader.new) (P.is_over reader.new) }
+    requires { IsFresh (P.so_far reader.old) }
+    ensures { IsOrderOf result (P.so_far reader.new) }
 {
     match all_bytes(alloc, reader) {
         Ok(bytes) => match read_order(alloc, bytes) {
@@ -108,7 +111,7 @@ pub(crate) fn open_order<S: Source>(
     name: &Option<String>,
 ) -> (Option<Order>, Option<OpenOrder<S::Reader>>)
     ensures same { source.new ≡ source.old }
-    ensures order { IsOpenOrder S.Reader.came S.Reader.is_over
+    ensures order { IsOpenOrder S.Reader.so_far
         (option_map string_bytes name.now) result.0 result.1 }
 {
     let Some(name) = name else {

@@ -17,11 +17,12 @@ use Rattle.vat_log.specs.declared.version.LogVersion.TheVariants.{Two}
 use Rattle.vat_log.specs.Reading.{◌>>=◌, header_of, log_of, number_at, version_at}
 use Rattle.vat_log.specs.Runs.{BeginsWith, IsLongestRun, with_record}
 use Rattle.vat_log.specs.Spelling.{log_bytes}
-use Rattle.vat_log.specs.Streams.{MayBeAll, NoLogBegins, StreamSoFar, StreamStopsBy}
+use Rattle.vat_log.specs.Streams.{NoLogBegins, StreamSoFar, StreamStopsBy}
+use Rattle.byte_pieces.specs.Coming.{CameSoFar, ComesOn, MayBeAll}
 use Rattle.vat_rules.specs.Audit.{edition_of}
 use Rattle.case_files.specs.CaseReading.{Read, Reads}
 use Rattle.case_files.specs.declared.source.SourceError.{SourceError}
-use Rattle.case_files.specs.Opening.{Closes}
+use Rattle.case_files.specs.Opening.{Closes, IsOf}
 use Rattle.report_lines.specs.declared.answer.Answer.TheVariants.{Fault}
 use Rattle.report_lines.specs.declared.fault.Fault.{Fault as FaultOf}
 use Rattle.report_lines.specs.declared.fault.Fault.TheVariants.{OutOfMemory}
@@ -29,7 +30,7 @@ use Rattle.report_lines.specs.Faults.{of_log, of_source}
 use Rattle.report_lines.specs.Lines.{answer_status, answer_text, line}
 use Rattle.command_run.specs.CommandAnswers.{AnswersLogRecords}
 use Rattle.command_run.specs.Glue.{AnswersBehind, ListingEndsSo, IsListedTo, Lists, Prints, is_chosen, status_behind, stopped, text_behind}
-use Rattle.command_run.specs.RecordAnswers.{AnswersRecords, EndsListing, chosen_records, first_number, listing, record_line, record_lines}
+use Rattle.command_run.specs.RecordAnswers.{AnswersRecords, AreListed, EndsListing, chosen_records, first_number, listing, record_line, record_lines}
 use Rattle.command_run.specs.Runs.{Adds, Wrote}
 
 -- ---- the records that are asked for
@@ -161,12 +162,12 @@ all_came came all is_over over may = may.parts ∙ ap (λ (b : List ℕ). came +
 
 -- the bytes that came begin with the log that was read so far, and its listing was written
 pub record IsListed (first many : Option ℕ) (edition : Edition) (read : StreamSoFar) (old new : Option (List ℕ)) : Type 0 where
-  pub begins : BeginsWith read.bytes read.log
+  pub begins : BeginsWith read.came.bytes read.log
   pub by : edition ≡ edition_of read.log
   pub wrote : Appends old new (listing first many read.log)
 
 -- nothing yet
-pub none_listed : (first many : Option ℕ) (edition : Edition) (read : StreamSoFar) (out : Option (List ℕ)) → BeginsWith read.bytes read.log → read.log.records ≡ [] → edition ≡ edition_of read.log
+pub none_listed : (first many : Option ℕ) (edition : Edition) (read : StreamSoFar) (out : Option (List ℕ)) → BeginsWith read.came.bytes read.log → read.log.records ≡ [] → edition ≡ edition_of read.log
     → IsListed first many edition read out out
 none_listed first many edition read out begins none by = record {
   begins = begins;
@@ -176,7 +177,7 @@ none_listed first many edition read out begins none by = record {
 
 module _ (first many : Option ℕ) (edition : Edition) (read : StreamSoFar) (old now : Option (List ℕ)) (listed : IsListed first many edition read old now) where
   -- one more record was read
-  module _ (next : StreamSoFar) (event : Body) (begins : BeginsWith next.bytes next.log) (is : next.log ≡ with_record event read.log) where
+  module _ (next : StreamSoFar) (event : Body) (begins : BeginsWith next.came.bytes next.log) (is : next.log ≡ with_record event read.log) where
     -- and written
     pub one_listed : (new : Option (List ℕ)) (number : ℕ) (has : Bool) (text : List ℕ) → number ≡ length read.log.records → has ≡ is_chosen first many number → has ≡ true
         → text ≡ record_line edition number event → Appends now new text → IsListed first many edition next old new
@@ -249,77 +250,76 @@ abbrev stops_by : (X : Type 0) → ReadFault → Result X ReadFault
 stops_by X fault = Err fault
 
 -- memory ran out, or a write failed, behind the records of a log with which the bytes that came begin
-listed_some : (X : Type 0) (first many : Option ℕ) (came : List ℕ) (is_over : Bool) (log : Log) → BeginsWith came log
-    → IsListedTo first many (listing first many log) (stopped X) came is_over
-listed_some X first many came is_over log begins =
-    ((log, refl), λ all may. inl (some_listed first many all log (begins_all came all is_over log begins may)))
+listed_some : (X : Type 0) (first many : Option ℕ) (came : CameSoFar) (log : Log) → BeginsWith came.bytes log
+    → IsListedTo first many (listing first many log) (stopped X) came
+listed_some X first many came log begins =
+    (inr (log, (begins, refl)), λ all may. inl (some_listed first many all log (begins_all came.bytes all came.is_over log begins may)))
 
 -- so where more bytes came since
-listed_before : (X : Type 0) (first many : Option ℕ) (came later : List ℕ) (was_over is_over : Bool) (log : Log) → BeginsWith came log → MayBeAll came was_over later
-    → IsListedTo first many (listing first many log) (stopped X) later is_over
-listed_before X first many came later was_over is_over log begins may = listed_some X first many later is_over log (begins_all came later was_over log begins may)
+listed_before : (X : Type 0) (first many : Option ℕ) (came later : CameSoFar) (log : Log) → BeginsWith came.bytes log → ComesOn came later
+    → IsListedTo first many (listing first many log) (stopped X) later
+listed_before X first many came later log begins on = listed_some X first many later log (begins_all came.bytes later.bytes came.is_over log begins on.first)
 
 -- it was listed to its end
-pub listed_whole : {X : Type 0} (done : X) (first many : Option ℕ) (came : List ℕ) (is_over : Bool) (log : Log) → is_over ≡ true → log_of came ≡ Ok log → IsLongestRun came log
-    → IsListedTo first many (listing first many log) (ends_at X done) came is_over
-listed_whole done first many came is_over log over is longest = (
-  (log, refl),
+pub listed_whole : {X : Type 0} (done : X) (first many : Option ℕ) (came : CameSoFar) (log : Log) → came.is_over ≡ true → log_of came.bytes ≡ Ok log → IsLongestRun came.bytes log
+    → IsListedTo first many (listing first many log) (ends_at X done) came
+listed_whole done first many came log over is longest = (
+  inr (log, (longest.begins, refl)),
   λ all may.
-      subst (λ (b : List ℕ). AnswersRecords first many b (listing first many log) 0) (sym (all_came came all is_over over may)) (all_listed first many came log is longest),
+      subst (λ (b : List ℕ). AnswersRecords first many b (listing first many log) 0) (sym (all_came came.bytes all came.is_over over may)) (all_listed first many came.bytes log is longest),
 )
 
 -- there is no next record
-pub listed_until : (X : Type 0) (first many : Option ℕ) (fault : ReadFault) (log : Log) (read : StreamSoFar) → read.log ≡ log → BeginsWith read.bytes read.log → StreamStopsBy fault read
-    → IsListedTo first many (listing first many log) (stops_by X fault) read.bytes read.is_over
+pub listed_until : (X : Type 0) (first many : Option ℕ) (fault : ReadFault) (log : Log) (read : StreamSoFar) → read.log ≡ log → BeginsWith read.came.bytes read.log → StreamStopsBy fault read
+    → IsListedTo first many (listing first many log) (stops_by X fault) read.came
 listed_until X first many (read_fault.Bad e) log read same begins stops = (
-  (log, refl),
+  inr (log, (subst (λ (l : Log). BeginsWith read.came.bytes l) same begins, refl)),
   λ all may.
       fault_listed first many all log e (subst (λ (l : Log). (log_of all ≡ Err e) × IsLongestRun all l) same (stops all may)),
 )
-listed_until X first many read_fault.CannotRead log read same begins stops = ((log, refl), λ all may. tt)
+listed_until X first many read_fault.CannotRead log read same begins stops = (inr (log, (subst (λ (l : Log). BeginsWith read.came.bytes l) same begins, refl)), λ all may. tt)
 listed_until X first many read_fault.OutOfMemory log read same begins stops =
-    listed_some X first many read.bytes read.is_over log (subst (λ (l : Log). BeginsWith read.bytes l) same begins)
+    listed_some X first many read.came log (subst (λ (l : Log). BeginsWith read.came.bytes l) same begins)
 
 -- no log begins so
-pub none_until : (X : Type 0) (first many : Option ℕ) (fault : ReadFault) (came : List ℕ) (is_over : Bool) → NoLogBegins fault came is_over
-    → IsListedTo first many [] (stops_by X fault) came is_over
-none_until X first many fault came is_over none = ((header Two 0, sym (listing_none first many (header Two 0) refl)), go fault none)
+pub none_until : (X : Type 0) (first many : Option ℕ) (fault : ReadFault) (came : CameSoFar) → NoLogBegins fault came → IsListedTo first many [] (stops_by X fault) came
+none_until X first many fault came none = (inl refl, go fault none)
   where
-    go : (fault : ReadFault) → NoLogBegins fault came is_over → (all : List ℕ) → MayBeAll came is_over all → AnswersBehind first many [] (stops_by X fault) all
+    go : (fault : ReadFault) → NoLogBegins fault came → (all : List ℕ) → MayBeAll came.bytes came.is_over all → AnswersBehind first many [] (stops_by X fault) all
     go (read_fault.Bad e) none all may = inr (inr (e, ((none all may).0, (refl, refl))))
     go read_fault.CannotRead none all may = tt
     go read_fault.OutOfMemory none all may = inr refl
 
 -- a write failed
 pub torn_listing : {W E X : Type 0} (P : E → Type 0) (contents : W → Option (List ℕ)) (first many : Option ℕ) (read later : StreamSoFar) (old new : W) (r : Result (Result X ReadFault) E)
-    → BeginsWith read.bytes read.log → MayBeAll read.bytes read.is_over later.bytes → IsErrAnd r P → Lists first many (Adds contents) later old new r
-torn_listing P contents first many read later old new (Ok listed) begins may failed = absurd failed
-torn_listing {X = X} P contents first many read later old new (Err fault) begins may failed =
-    (listing first many read.log, listed_before X first many read.bytes later.bytes read.is_over later.is_over read.log begins may)
+    → BeginsWith read.came.bytes read.log → ComesOn read.came later.came → IsErrAnd r P → Lists first many (Adds contents) later old new r
+torn_listing P contents first many read later old new (Ok listed) begins on failed = absurd failed
+torn_listing {X = X} P contents first many read later old new (Err fault) begins on failed =
+    (listing first many read.log, listed_before X first many read.came later.came read.log begins on)
 
 -- ---- what closing gives
 
 -- memory ran out
-out_of_memory : (first many : Option ℕ) (lines all : List ℕ) → AnswersRecords first many all (lines ++ text_of OutOfMemory) 3 ⊎ (lines ≡ [])
-    → AnswersLogRecords first many (Ok all) (lines ++ text_of OutOfMemory) 3
-out_of_memory first many lines all (inl answers) = inl answers
-out_of_memory first many lines all (inr none) = inr (ap (λ (t : List ℕ). t ++ text_of OutOfMemory) none, refl)
+out_of_memory : (known : Option Read) (first many : Option ℕ) (lines all : List ℕ) → AnswersRecords first many all (lines ++ text_of OutOfMemory) 3 ⊎ (lines ≡ [])
+    → AnswersLogRecords known first many (Ok all) (lines ++ text_of OutOfMemory) 3
+out_of_memory known first many lines all (inl answers) = inl answers
+out_of_memory known first many lines all (inr none) = inr (ap (λ (t : List ℕ). t ++ text_of OutOfMemory) none, refl)
 
 -- what is said behind the lines answers what the source gave
-pub closed_answers : {X : Type 0} (first many : Option ℕ) (lines : List ℕ) (listed : Result X ReadFault) (came : List ℕ) (is_over : Bool) (read : Read) (ended : Result X FaultOf)
-    → IsListedTo first many lines listed came is_over → ListingEndsSo read listed came is_over ended
-    → AnswersLogRecords first many read (lines ++ text_behind ended) (status_behind ended)
-closed_answers {X = X} first many lines listed came is_over (Err fault) ended to is =
-    subst (λ (r : Result X FaultOf). AnswersLogRecords first many (Err fault) (lines ++ text_behind r) (status_behind r)) (sym is)
-    (to.0.0, (text_of (of_source fault), (refl, refl), ap (λ (t : List ℕ). t ++ text_of (of_source fault)) to.0.1))
-closed_answers {X = X} first many lines (Ok done) came is_over (Ok all) ended to is =
-    subst (λ (r : Result X FaultOf). AnswersLogRecords first many (Ok all) (lines ++ text_behind r) (status_behind r)) (sym is.1)
+pub closed_answers : {X : Type 0} (known : Option Read) (first many : Option ℕ) (lines : List ℕ) (listed : Result X ReadFault) (came : CameSoFar) (read : Read) (ended : Result X FaultOf)
+    → IsOf known came → IsListedTo first many lines listed came → ListingEndsSo read listed came ended
+    → AnswersLogRecords known first many read (lines ++ text_behind ended) (status_behind ended)
+closed_answers {X = X} known first many lines listed came (Err fault) ended of to is =
+    subst (λ (r : Result X FaultOf). AnswersLogRecords known first many (Err fault) (lines ++ text_behind r) (status_behind r)) (sym is)
+    (came, (lines, (text_of (of_source fault), (of, to.0, (refl, refl), refl))))
+closed_answers {X = X} known first many lines (Ok done) came (Ok all) ended of to is =
+    subst (λ (r : Result X FaultOf). AnswersLogRecords known first many (Ok all) (lines ++ text_behind r) (status_behind r)) (sym is.1)
     (inl (subst (λ (t : List ℕ). AnswersRecords first many all t 0) (sym (append-nil lines)) (to.1 all is.0)))
-closed_answers {X = X} first many lines (Err (read_fault.Bad e)) came is_over (Ok all) ended to is =
-    subst (λ (r : Result X FaultOf). AnswersLogRecords first many (Ok all) (lines ++ text_behind r) (status_behind r)) (sym is.1) (inl (to.1 all is.0))
-closed_answers first many lines (Err read_fault.CannotRead) came is_over (Ok all) ended to is = absurd is
-closed_answers {X = X} first many lines (Err read_fault.OutOfMemory) came is_over (Ok all) ended to is =
-    subst (λ (r : Result X FaultOf). AnswersLogRecords first many (Ok all) (lines ++ text_behind r) (status_behind r)) (sym is.1) (out_of_memory first many lines all (to.1 all is.0))
+closed_answers {X = X} known first many lines (Err (read_fault.Bad e)) came (Ok all) ended of to is =
+    subst (λ (r : Result X FaultOf). AnswersLogRecords known first many (Ok all) (lines ++ text_behind r) (status_behind r)) (sym is.1) (inl (to.1 all is.0))
+closed_answers known first many lines (Err read_fault.CannotRead) came (Ok all) ended of to is = absurd is
+closed_answers {X = X} known first many lines (Err read_fault.OutOfMemory) came (Ok all) ended of to is =
+    subst (λ (r : Result X FaultOf). AnswersLogRecords known first many (Ok all) (lines ++ text_behind r) (status_behind r)) (sym is.1) (out_of_memory known first many lines all (to.1 all is.0))
 
 -- lines were written, and what is said behind them was, or wasn't
 pub end_said : {W E X : Type 0} (contents : W → Option (List ℕ)) (is_finished : W → Type 0) (old now new : W) (answers : List ℕ → ℕ → Type 0) (lines : List ℕ) (ended : Result X FaultOf) (r : Result ℕ E)
@@ -332,28 +332,22 @@ end_said contents is_finished old now new answers lines ended (Ok s) answered li
   (Appends-trans (contents old) (contents now) (contents new) lines (text_behind ended) listed wrote.0, wrote.1),
 )
 
--- the bytes that came, by what the reader says
-by_reader : {X : Type 0} (first many : Option ℕ) (lines : List ℕ) (listed : Result X ReadFault) (bytes came : List ℕ) (is_over over : Bool) → came ≡ bytes → over ≡ is_over
-    → IsListedTo first many lines listed bytes is_over → IsListedTo first many lines listed came over
-by_reader first many lines listed bytes came is_over over same ends to =
-    subst (λ (b : List ℕ). IsListedTo first many lines listed b over) (sym same) (subst (λ (o : Bool). IsListedTo first many lines listed bytes o) (sym ends) to)
-
 -- a log was listed and closed, and what is said behind the lines was, or wasn't
-pub listing_ended : {W E X : Type 0} (contents : W → Option (List ℕ)) (is_finished : W → Type 0) (old now new : W) (first many : Option ℕ) (lines : List ℕ) (listed : Result X ReadFault)
-    (bytes came : List ℕ) (is_over over : Bool) (read : Read) (ended : Result X FaultOf) (r : Result ℕ E)
-    → Appends (contents old) (contents now) lines → IsListedTo first many lines listed bytes is_over → came ≡ bytes → over ≡ is_over → ListingEndsSo read listed came over ended
-    → IfOk r (λ s. s ≡ status_behind ended) → OnOk r (Wrote contents is_finished now (text_behind ended) new) → Prints (AnswersLogRecords first many read) (Wrote contents is_finished) old new r
-listing_ended contents is_finished old now new first many lines listed bytes came is_over over read ended r added to same ends is status wrote =
-    end_said contents is_finished old now new (AnswersLogRecords first many read) lines ended r
-    (closed_answers first many lines listed came over read ended (by_reader first many lines listed bytes came is_over over same ends to) is) added status wrote
+pub listing_ended : {W E X : Type 0} (contents : W → Option (List ℕ)) (is_finished : W → Type 0) (old now new : W) (known : Option Read) (first many : Option ℕ) (lines : List ℕ) (listed : Result X ReadFault)
+    (came reader : CameSoFar) (read : Read) (ended : Result X FaultOf) (r : Result ℕ E)
+    → Appends (contents old) (contents now) lines → IsOf known came → IsListedTo first many lines listed came → reader ≡ came → ListingEndsSo read listed reader ended
+    → IfOk r (λ s. s ≡ status_behind ended) → OnOk r (Wrote contents is_finished now (text_behind ended) new) → Prints (AnswersLogRecords known first many read) (Wrote contents is_finished) old new r
+listing_ended contents is_finished old now new known first many lines listed came reader read ended r added of to same is status wrote =
+    end_said contents is_finished old now new (AnswersLogRecords known first many read) lines ended r
+    (closed_answers known first many lines listed came read ended of to (subst (λ (c : CameSoFar). ListingEndsSo read listed c ended) same is)) added status wrote
 
 -- a write failed, and the log was closed
-pub torn_closed : {S Y : Type 0} (X : Type 0) (gives : Reads S) (old new : S) (name : List ℕ) (first many : Option ℕ) (lines bytes came : List ℕ) (is_over over failed : Bool) (r : Result Y SourceError)
-    → IsListedTo first many lines (stopped X) bytes is_over → came ≡ bytes → over ≡ is_over → Closes gives old name came over failed r new
-    → (read : Read) × gives old name read new × ((text : List ℕ) × ((status : ℕ) × AnswersLogRecords first many read text status))
-torn_closed X gives old new name first many lines bytes came is_over over failed (Ok y) to same ends closes =
-    let listed = by_reader first many lines (stopped X) bytes came is_over over same ends to in
-    (Ok closes.1.0, closes.1.1.1, (lines ++ text_of OutOfMemory, (3, out_of_memory first many lines closes.1.0 (listed.1 closes.1.0 closes.1.1.0))))
-torn_closed X gives old new name first many lines bytes came is_over over failed (Err fault) to same ends closes =
+pub torn_closed : {S Y : Type 0} (X : Type 0) (gives : Reads S) (old new : S) (name : List ℕ) (known : Option Read) (first many : Option ℕ) (lines : List ℕ) (came reader : CameSoFar) (failed : Bool) (r : Result Y SourceError)
+    → IsOf known came → IsListedTo first many lines (stopped X) came → reader ≡ came → Closes gives old name reader failed r new
+    → (read : Read) × gives old name read new × ((text : List ℕ) × ((status : ℕ) × AnswersLogRecords known first many read text status))
+torn_closed X gives old new name known first many lines came reader failed (Ok y) of to same closes =
+    let may = subst (λ (c : CameSoFar). MayBeAll c.bytes c.is_over closes.1.0) same closes.1.1.0 in
+    (Ok closes.1.0, closes.1.1.1, (lines ++ text_of OutOfMemory, (3, out_of_memory known first many lines closes.1.0 (to.1 closes.1.0 may))))
+torn_closed X gives old new name known first many lines came reader failed (Err fault) of to same closes =
     let said = text_of (of_source fault) in
-    (Err fault, closes, (lines ++ said, (status_by (of_source fault), (to.0.0, (said, (refl, refl), ap (λ (t : List ℕ). t ++ said) to.0.1)))))
+    (Err fault, closes, (lines ++ said, (status_by (of_source fault), (came, (lines, (said, (of, to.0, (refl, refl), refl)))))))

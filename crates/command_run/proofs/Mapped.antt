@@ -1,7 +1,7 @@
 -- A failed write, over std's writers.
 use Rattle.std.proofs.Common.{◌≡◌, ℕ, List, Option, Some, None, Result, Ok, Err, subst, sym, inl, inr}
 use Rattle.std.specs.Result.{result_unwrap_or}
-use Rattle.case_files.specs.CaseReading.{Reads}
+use Rattle.case_files.specs.CaseReading.{Read, Reads}
 use Rattle.command_line.specs.declared.command.Command.{Command}
 use Rattle.command_line.specs.declared.command.Command.TheVariants.{Check, Order, Graph, Run, Draw, Vat, Records, Frame, Frames, Migrate, Salvage, Wire, Join}
 use Rattle.command_run.specs.declared.output.Failed.{Failed}
@@ -24,19 +24,19 @@ module _ {W F E X : Type 0} (in_out : W → Option (List ℕ)) (out_done : W →
       go (Err (Out x)) is w = inr (is, inl (w.0, (w.1.0, (w.1.1.0, w.1.1.1, saved w.1.1.0 w.1.1.2))))
       go (Err (File x)) is w = inr (is, inr w)
 
-  pub carried : {S : Type 0} (gives : Reads S) (command : Command) (old new : S)
-      → CarriesOut gives command old new (λ answers. Writes answers (Wrote in_out out_done) (Wrote in_file file_done) out out_new file file_new r)
-      → CarriesOut gives command old new (λ answers. WritesOrFails answers (Adds in_out) (Adds in_file) out out_new file file_new ended)
-  carried gives (Check name workers) old new c = mapped _ c
-  carried gives (Graph name dot many) old new c = mapped _ c
-  carried gives (Run name many) old new c = mapped _ c
-  carried gives (Vat name) old new c = (c.0, c.1, mapped _ c.2)
-  carried gives (Frame hex later) old new c = (c.0, mapped _ c.1)
-  carried gives (Frames name) old new c = (c.0, c.1, mapped _ c.2)
-  carried gives (Records name first many) old new c = (c.0, c.1, mapped _ c.2)
-  carried gives (Order name path) old new c = mapped _ c
-  carried gives (Draw name path first steps is_page many) old new c = mapped _ c
-  carried gives (Migrate name later path) old new c = (c.0, c.1, mapped _ c.2)
-  carried gives (Salvage name path) old new c = (c.0, c.1, mapped _ c.2)
-  carried gives (Wire one another has_one out) old new c = mapped _ c
-  carried gives (Join names path) old new c = mapped _ c
+  pub carried : {S : Type 0} (gives : Reads S) (holds : S → List ℕ → Option Read) (command : Command) (old new : S)
+      → CarriesOut gives holds command old new (λ answers. Writes answers (Wrote in_out out_done) (Wrote in_file file_done) out out_new file file_new r)
+      → CarriesOut gives holds command old new (λ answers. WritesOrFails answers (Adds in_out) (Adds in_file) out out_new file file_new ended)
+  carried gives holds (Check name workers) old new c = mapped _ c
+  carried gives holds (Graph name dot many) old new c = mapped _ c
+  carried gives holds (Run name many) old new c = mapped _ c
+  carried gives holds (Vat name) old new c = (c.0, c.1, mapped _ c.2)
+  carried gives holds (Frame hex later) old new c = (c.0, mapped _ c.1)
+  carried gives holds (Frames name) old new c = (c.0, c.1, mapped _ c.2)
+  carried gives holds (Records name first many) old new c = (c.0, c.1, mapped _ c.2)
+  carried gives holds (Order name path) old new c = mapped _ c
+  carried gives holds (Draw name path first steps is_page many) old new c = mapped _ c
+  carried gives holds (Migrate name later path) old new c = (c.0, c.1, mapped _ c.2)
+  carried gives holds (Salvage name path) old new c = (c.0, c.1, mapped _ c.2)
+  carried gives holds (Wire one another has_one out) old new c = mapped _ c
+  carried gives holds (Join names path) old new c = mapped _ c

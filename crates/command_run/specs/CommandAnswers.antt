@@ -45,11 +45,11 @@ abbrev pub AnswersFile : Read → List ℕ → ℕ → Type 0
 AnswersFile (Ok bytes) text status = AnswersBytes bytes text status
 AnswersFile (Err fault) text status = SaysAnswer (Fault (of_source fault)) text status
 
--- lines and a status answer what a source gave as a log whose records are asked for, from this one on and as many; memory may
--- run out over its header
-abbrev pub AnswersLogRecords : Option ℕ → Option ℕ → Read → List ℕ → ℕ → Type 0
-AnswersLogRecords first many (Ok bytes) text status = AnswersRecords first many bytes text status ⊎ IsOutOfMemory text status
-AnswersLogRecords first many (Err fault) text status = ListsBefore first many fault text status
+-- lines and a status answer what a source gave as a log whose records are asked for, from this one on and as many, where this is
+-- known of its name; memory may run out over its header
+abbrev pub AnswersLogRecords : Option Read → Option ℕ → Option ℕ → Read → List ℕ → ℕ → Type 0
+AnswersLogRecords known first many (Ok bytes) text status = AnswersRecords first many bytes text status ⊎ IsOutOfMemory text status
+AnswersLogRecords known first many (Err fault) text status = ListsBefore known first many fault text status
 
 -- A line, a status and the bytes for the file answer what a source gave as a log that is to be migrated, to that of the
 -- later edition or not; where memory ran out there are no bytes.

@@ -11,13 +11,14 @@ use Rattle.report_lines.specs.Lines.{answer_status, answer_text, line}
 use Rattle.audit_core.specs.Lines.{IsLineOf}
 use Rattle.audit_core.specs.Report.{IsReport}
 use Rattle.case_report.specs.declared.report.Report.{Report}
+use Rattle.byte_pieces.specs.Coming.{CameSoFar, MayBeAll}
 use Rattle.case_files.specs.CaseReading.{ComesOfCase, Read, Reads}
 use Rattle.case_files.specs.declared.case_fault.CaseFault.{CaseFault}
 use Rattle.case_files.specs.declared.case_reading.ReadCase.{ReadCase}
 use Rattle.cap_reader.specs.Defaults.{default_limits}
 use Rattle.vat_log.specs.Log.{Log}
 use Rattle.vat_log.specs.Reading.{log_of}
-use Rattle.vat_log.specs.Streams.{MayBeAll, StreamSoFar}
+use Rattle.vat_log.specs.Streams.{CannotBeRead, StreamSoFar}
 use Rattle.vat_log.specs.declared.read_fault.ReadFault.{ReadFault}
 use Rattle.vat_log.specs.declared.read_fault.ReadFault.TheVariants as read
 use Rattle.vat_rules.specs.Audit.{IsTrueOf}
@@ -25,7 +26,7 @@ use Rattle.vat_log.specs.Spelling.{log_bytes}
 use Rattle.vat_rules.specs.declared.slim.finding.SlimFinding.{SlimFinding}
 use Rattle.command_run.specs.declared.output.Failed.{Failed}
 use Rattle.command_run.specs.declared.output.Failed.TheVariants.{Out, File}
-use Rattle.command_run.specs.RecordAnswers.{AnswersRecords, first_number, listing}
+use Rattle.command_run.specs.RecordAnswers.{AnswersRecords, AreListed, first_number}
 use Rattle.command_run.specs.CommandAnswers.{AnswersMigration, AnswersSalvage}
 use Rattle.command_run.specs.DrawAnswers.{IsDrawn}
 use Rattle.command_run.specs.JoinAnswers.{AreFilesOf}
@@ -42,11 +43,11 @@ answer_of (Ok found) = Finding found
 answer_of (Err fault) = answer.Fault fault
 
 -- what was found of a log while it was read: of all its bytes, or why nothing is
-abbrev pub IsAudited : Result SlimFinding ReadFault → List ℕ → Bool → Type 0
-IsAudited (Ok finding) came is_over = (is_over ≡ true) × (log_of came ≡ Ok finding.log) × (finding.limits ≡ default_limits) × IsTrueOf finding.log finding.limits finding.outcome
-IsAudited (Err (read.Bad fault)) came is_over = (all : List ℕ) → MayBeAll came is_over all → log_of all ≡ Err fault
-IsAudited (Err read.CannotRead) came is_over = Unit {0}
-IsAudited (Err read.OutOfMemory) came is_over = Unit {0}
+abbrev pub IsAudited : Result SlimFinding ReadFault → CameSoFar → Type 0
+IsAudited (Ok finding) came = (came.is_over ≡ true) × (log_of came.bytes ≡ Ok finding.log) × (finding.limits ≡ default_limits) × IsTrueOf finding.log finding.limits finding.outcome
+IsAudited (Err (read.Bad fault)) came = (all : List ℕ) → MayBeAll came.bytes came.is_over all → log_of all ≡ Err fault
+IsAudited (Err read.CannotRead) came = CannotBeRead came
+IsAudited (Err read.OutOfMemory) came = Unit {0}
 
 -- An answer's lines were written whole, and its status is the run's; or there is an answer, and a write failed.
 abbrev pub Prints : {W E : Type 0} → (List ℕ → ℕ → Type 0) → Writing W → W → W → Result ℕ E → Type 0
@@ -74,23 +75,23 @@ abbrev pub stopped : (X : Type 0) → Result X ReadFault
 stopped X = Err read.OutOfMemory
 
 -- these lines are the listing of records that came so far, and answer all bytes, whatever comes
-abbrev pub IsListedTo : {X : Type 0} → Option ℕ → Option ℕ → List ℕ → Result X ReadFault → List ℕ → Bool → Type 0
-IsListedTo first many lines listed came is_over =
-    ((log : Log) × (lines ≡ listing first many log)) × ((all : List ℕ) → MayBeAll came is_over all → AnswersBehind first many lines listed all)
+abbrev pub IsListedTo : {X : Type 0} → Option ℕ → Option ℕ → List ℕ → Result X ReadFault → CameSoFar → Type 0
+IsListedTo first many lines listed came =
+    AreListed first many came.bytes lines × ((all : List ℕ) → MayBeAll came.bytes came.is_over all → AnswersBehind first many lines listed all)
 
 -- what came of listing a log while it was read: lines, and how that ended; or a write failed, and there is an answer
 abbrev pub Lists : {W E X : Type 0} → Option ℕ → Option ℕ → Writing W → StreamSoFar → W → W → Result (Result X ReadFault) E → Type 0
-Lists first many adds log old new (Ok listed) = (lines : List ℕ) × adds old lines new × IsListedTo first many lines listed log.bytes log.is_over
+Lists first many adds log old new (Ok listed) = (lines : List ℕ) × adds old lines new × IsListedTo first many lines listed log.came
 Lists {X = X} first many adds log old new (Err fault) =
-    (lines : List ℕ) × IsListedTo first many lines (stopped X) log.bytes log.is_over
+    (lines : List ℕ) × IsListedTo first many lines (stopped X) log.came
 
 -- what is to be said where a log was listed so and was closed then: why the source can't read it, or else how its listing ended
-abbrev pub ListingEndsSo : {X : Type 0} → Read → Result X ReadFault → List ℕ → Bool → Result X Fault → Type 0
-ListingEndsSo (Err fault) listed came is_over ended = ended ≡ Err (of_source fault)
-ListingEndsSo (Ok all) (Ok done) came is_over ended = MayBeAll came is_over all × (ended ≡ Ok done)
-ListingEndsSo (Ok all) (Err (read.Bad fault)) came is_over ended = MayBeAll came is_over all × (ended ≡ Err (of_log fault))
-ListingEndsSo (Ok all) (Err read.CannotRead) came is_over ended = ⊥
-ListingEndsSo (Ok all) (Err read.OutOfMemory) came is_over ended = MayBeAll came is_over all × (ended ≡ Err OutOfMemory)
+abbrev pub ListingEndsSo : {X : Type 0} → Read → Result X ReadFault → CameSoFar → Result X Fault → Type 0
+ListingEndsSo (Err fault) listed came ended = ended ≡ Err (of_source fault)
+ListingEndsSo (Ok all) (Ok done) came ended = MayBeAll came.bytes came.is_over all × (ended ≡ Ok done)
+ListingEndsSo (Ok all) (Err (read.Bad fault)) came ended = MayBeAll came.bytes came.is_over all × (ended ≡ Err (of_log fault))
+ListingEndsSo (Ok all) (Err read.CannotRead) came ended = ⊥
+ListingEndsSo (Ok all) (Err read.OutOfMemory) came ended = MayBeAll came.bytes came.is_over all × (ended ≡ Err OutOfMemory)
 
 -- what is said behind the lines of a log, and the status
 abbrev pub text_behind : {X : Type 0} → Result X Fault → List ℕ

@@ -13,6 +13,9 @@ use Rattle.vat_rules.specs.Audit.{edition_of}
 use Rattle.report_lines.specs.declared.answer.Answer.{Answer}
 use Rattle.report_lines.specs.declared.answer.Answer.TheVariants.{Fault}
 use Rattle.report_lines.specs.declared.fault.Fault.TheVariants.{OutOfMemory}
+use Rattle.byte_pieces.specs.Coming.{CameSoFar}
+use Rattle.case_files.specs.CaseReading.{Read}
+use Rattle.case_files.specs.Opening.{IsOf}
 use Rattle.case_files.specs.declared.source.SourceError.{SourceError}
 use Rattle.report_lines.specs.Faults.{of_log, of_source}
 use Rattle.report_lines.specs.Lines.{SaysAnswer, line}
@@ -75,7 +78,12 @@ ListsNone bytes text status = (fault : LogError) × ((header_of bytes ≡ Err fa
 abbrev pub AnswersRecords : Option ℕ → Option ℕ → List ℕ → List ℕ → ℕ → Type 0
 AnswersRecords first many bytes text status = ListsAll first many bytes text status ⊎ ListsSome first many bytes text status ⊎ ListsNone bytes text status
 
--- the log can't be read to its end: behind the lines of records that came before that, or of none, the source's fault is told
-abbrev pub ListsBefore : Option ℕ → Option ℕ → SourceError → List ℕ → ℕ → Type 0
-ListsBefore first many fault text status = (log : Log) × ((last : List ℕ) × SaysAnswer (Fault (of_source fault)) last status
-    × (text ≡ listing first many log ++ last))
+-- these are lines of records with which the bytes of a log begin, or of none
+abbrev pub AreListed : Option ℕ → Option ℕ → List ℕ → List ℕ → Type 0
+AreListed first many bytes lines = (lines ≡ []) ⊎ ((log : Log) × BeginsWith bytes log × (lines ≡ listing first many log))
+
+-- The log can't be read to its end: behind the lines of records that came before that, or of none, the source's fault is told.
+-- What came is of what reading the log's name gives, as far as that is known.
+abbrev pub ListsBefore : Option Read → Option ℕ → Option ℕ → SourceError → List ℕ → ℕ → Type 0
+ListsBefore known first many fault text status = (came : CameSoFar) × ((lines : List ℕ) × ((last : List ℕ) × IsOf known came
+    × AreListed first many came.bytes lines × SaysAnswer (Fault (of_source fault)) last status × (text ≡ lines ++ last)))

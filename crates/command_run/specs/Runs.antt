@@ -24,23 +24,23 @@ NoFile answers text status bytes = answers text status × (bytes ≡ None)
 -- What a run asks its source for, and what is an answer then: a log is read once, by its name, to be audited, listed,
 -- migrated or salvaged, as a file of frames is; a frame asks for nothing; a case is read with the files that it names; what the ends of a
 -- connection sent is read from two files; the logs that are joined are read as they are listed.
-abbrev pub CarriesOut : {S : Type 0} → Reads S → Command → S → S → (Answering → Type 0) → Type 0
-CarriesOut gives (Vat file) old new writes = (read : Read) × gives old file.now read new × writes (NoFile (AnswersSource read))
-CarriesOut gives (Frame hex later) old new writes = (new ≡ old) × writes (NoFile (AnswersFrame (edition_asked later) hex.now))
-CarriesOut gives (Frames file) old new writes = (read : Read) × gives old file.now read new × writes (NoFile (AnswersFile read))
-CarriesOut gives (Records file first many) old new writes = (read : Read) × gives old file.now read new × writes (NoFile (AnswersLogRecords first many read))
-CarriesOut gives (Check name workers) old new writes = writes (NoFile (AnswersReportOf AnswersReport gives old name.now new))
-CarriesOut gives (Graph name is_dot many) old new writes = writes (NoFile (AnswersReportOf (AnswersGraph is_dot) gives old name.now new))
-CarriesOut gives (Run name many) old new writes = writes (NoFile (AnswersReportOf AnswersRun gives old name.now new))
-CarriesOut gives (Draw name out first steps is_page many) old new writes =
+abbrev pub CarriesOut : {S : Type 0} → Reads S → (S → List ℕ → Option Read) → Command → S → S → (Answering → Type 0) → Type 0
+CarriesOut gives holds (Vat file) old new writes = (read : Read) × gives old file.now read new × writes (NoFile (AnswersSource read))
+CarriesOut gives holds (Frame hex later) old new writes = (new ≡ old) × writes (NoFile (AnswersFrame (edition_asked later) hex.now))
+CarriesOut gives holds (Frames file) old new writes = (read : Read) × gives old file.now read new × writes (NoFile (AnswersFile read))
+CarriesOut gives holds (Records file first many) old new writes = (read : Read) × gives old file.now read new × writes (NoFile (AnswersLogRecords (holds old file.now) first many read))
+CarriesOut gives holds (Check name workers) old new writes = writes (NoFile (AnswersReportOf AnswersReport gives old name.now new))
+CarriesOut gives holds (Graph name is_dot many) old new writes = writes (NoFile (AnswersReportOf (AnswersGraph is_dot) gives old name.now new))
+CarriesOut gives holds (Run name many) old new writes = writes (NoFile (AnswersReportOf AnswersRun gives old name.now new))
+CarriesOut gives holds (Draw name out first steps is_page many) old new writes =
     writes (λ text status bytes. AnswersDraw (record { from = first; count = steps; page = is_page }) gives old name.now text status bytes new)
-CarriesOut gives (Migrate file later out) old new writes = (read : Read) × gives old file.now read new × writes (AnswersMigration later read)
-CarriesOut gives (Salvage file out) old new writes = (read : Read) × gives old file.now read new × writes (AnswersSalvage read)
-CarriesOut gives (Wire one another has_one out) old new writes =
+CarriesOut gives holds (Migrate file later out) old new writes = (read : Read) × gives old file.now read new × writes (AnswersMigration later read)
+CarriesOut gives holds (Salvage file out) old new writes = (read : Read) × gives old file.now read new × writes (AnswersSalvage read)
+CarriesOut gives holds (Wire one another has_one out) old new writes =
     writes (λ text status bytes. AnswersWire gives old one.now another.now (option_map (λ name. name.now) out) text status bytes new)
-CarriesOut gives (Join logs out) old new writes =
+CarriesOut gives holds (Join logs out) old new writes =
     writes (λ text status bytes. AnswersJoin gives old (map (λ name. name.now) logs.items) out.now text status bytes new)
-CarriesOut gives (Order name out) old new writes = writes (λ text status bytes. AnswersOrder gives old name.now text status bytes new)
+CarriesOut gives holds (Order name out) old new writes = writes (λ text status bytes. AnswersOrder gives old name.now text status bytes new)
 
 -- what may come of writing: the writer, what was written, and the writer afterwards
 abbrev pub Writing : Type 0 → Type 1

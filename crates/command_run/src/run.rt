@@ -51,7 +51,7 @@ pub fn answer_heard<
     requires workers { HasWorkers command.now }
     requires out { O.can_write out.old }
     requires file { F.can_write file.old }
-    ensures { CarriesOut S.read_gives command.now source.old source.new
+    ensures { CarriesOut S.read_gives S.holds command.now source.old source.new
         (λ answers. Writes answers (Wrote O.contents O.is_finished)
         (Wrote F.contents F.is_finished) out.old out.new file.old file.new result) }
 {
@@ -149,7 +149,7 @@ pub fn answer_command<R: Threads + Wait + Sync, S: Source, O: Output, F: Output>
     requires workers { HasWorkers command.now }
     requires out { O.can_write out.old }
     requires file { F.can_write file.old }
-    ensures { CarriesOut S.read_gives command.now source.old source.new
+    ensures { CarriesOut S.read_gives S.holds command.now source.old source.new
         (λ answers. Writes answers (Wrote O.contents O.is_finished)
         (Wrote F.contents F.is_finished) out.old out.new file.old file.new result) }
 {
@@ -171,7 +171,7 @@ pub fn run_on<R: Threads + Wait + Sync, S: Source, W: Write, F: Write>(
     file: &mut F,
 ) -> u8
     requires { HasWorkers command.now }
-    ensures { CarriesOut S.read_gives command.now source.old source.new
+    ensures { CarriesOut S.read_gives S.holds command.now source.old source.new
         (λ answers. WritesOrFails answers (Adds W.contents)
         (Adds F.contents) out.old out.new file.old file.new result) }
 {

@@ -1,10 +1,14 @@
 //! Files and standard input.
 
-ghost use Rattle.std.specs.Prelude.{◌≡◌, ◌<◌, ◌≤◌, [], false, length, IfErr, IfOk, IfSome, OnOk};
+ghost use Rattle.std.specs.Prelude.{◌≡◌, ◌<◌, ◌≤◌, ◌∷◌, [], Some, false, length, IfErr, IfOk, IfSome, IsOkAnd, List, OnOk, Option, ℕ};
+ghost use Rattle.std.specs.Str.{bytes_eq};
+ghost use Rattle.byte_pieces.specs.Coming.{IsFresh};
+ghost use Rattle.case_files.specs.Opening.{IsOf};
+ghost use Rattle.host_files.specs.Holding.{IsAsHeld, as_read, held_under, left_of};
 
-use crate::folder_reader::{FolderReader, Opened};
+use crate::folder_reader::{FolderReader, Opened, OpenedOf};
 use crate::host::LogHost;
-use bytes::Bytes;
+use bytes::{Buf as _, Bytes};
 use case_files::{Source, SourceError};
 use std::alloc::Global;
 use std::fs::OpenFile;
@@ -81,7 +85,9 @@ pub(crate) fn read_file<F: Read + OpenFile + Drop>(
     alloc: Global,
     opened: io::Result<F>,
     why: &mut Option<io::Error>,
-) -> Result<Bytes, SourceError> {
+) -> Result<Bytes, SourceError>
+    ensures { IfOk result (λ bytes. IsOkAnd opened (λ file. IfSome (F.remaining file) (λ all. bytes ≡ all))) }
+{
     match opened {
         Ok(file) => {
             let room = room_for(&file);
@@ -97,14 +103,17 @@ fn lasts<F: OpenFile>(file: &F) -> bool {
 }
 
 /// The bytes of a file that isn't held open, to be handed out; or why there are none.
-fn whole<F: Read + OpenFile + Drop, I>(alloc: Global, file: F) -> Opened<F, I> {
+fn whole<F: Read + OpenFile + Drop, I>(alloc: Global, file: F) -> io::Result<Opened<F, I>>
+    ensures { IfOk result (λ opened. IfSome (F.remaining file)
+        (λ all. (input : I → Option (List ℕ)) → left_of F.remaining input opened ≡ Some all)) }
+{
     let mut why = None;
     match read_file(alloc, Ok(file), &mut why) {
-        Ok(bytes) => Opened::Whole(bytes, 0),
-        Err(SourceError::CannotRead) => Opened::Refused(why),
-        Err(SourceError::OutOfMemory) => {
-            Opened::Refused(Some(io::Error::from(ErrorKind::OutOfMemory)))
+        Ok(bytes) => Ok(Opened::Whole(bytes.reader())),
+        Err(SourceError::CannotRead) => {
+            Err(why.unwrap_or_else(|| io::Error::from(ErrorKind::Other)))
         }
+        Err(SourceError::OutOfMemory) => Err(io::Error::from(ErrorKind::OutOfMemory)),
     }
 }
 
@@ -132,12 +141,14 @@ impl Openings {
     }
 
     /// All bytes of standard input, which are there once. Where they can't be read the reason is told.
-    pub(crate) fn read_input<I: Read + Drop>(
+    fn read_input<I: Read + Drop>(
         &mut self,
         alloc: Global,
         input: I,
         why: &mut Option<io::Error>,
-    ) -> Result<Bytes, SourceError> {
+    ) -> Result<Bytes, SourceError>
+        ensures { IfOk result (λ bytes. IfSome (I.remaining input) (λ all. bytes ≡ all)) }
+    {
         if self.input_was_read {
             *why = Some(read_before());
             return Err(SourceError::CannotRead);
@@ -146,37 +157,78 @@ impl Openings {
         read_all(alloc, input, 0, why)
     }
 
-    /// What hands out a file that was opened.
-    pub(crate) fn of_file<F: Read + OpenFile + Drop, I>(
-        &mut self,
-        alloc: Global,
-        opened: io::Result<F>,
-    ) -> FolderReader<F, I>
-        ensures { result.pieces ≡ record { bytes = []; is_over = false } }
+    /// What is handed out of a file: what is read of it piece by piece, or all its bytes where too many files are open.
+    fn opened<F: Read + OpenFile + Drop, I>(&mut self, alloc: Global, file: F) -> io::Result<Opened<F, I>>
+        ensures { IfOk result (λ opened. IfSome (F.remaining file)
+            (λ all. (input : I → Option (List ℕ)) → left_of F.remaining input opened ≡ Some all)) }
     {
-        match opened {
+        if self.files < HELD_OPEN {
+            self.files += 1;
+            return Ok(Opened::File(file));
+        }
+        whole(alloc, file)
+    }
+
+    /// What hands out the file of a name.
+    pub(crate) fn of_file<R: LogHost>(&mut self, rt: &R, name: &str) -> FolderReader<R>
+        requires { bytes_eq name.now (45 ∷ []) ≡ false }
+        ensures fresh { IsFresh result.came }
+        ensures of { IsOf (as_read (held_under R.in_file R.in_input name.now)) result.came }
+    {
+        let alloc = rt.alloc();
+        match rt.open_log(name) {
             Ok(file) => {
                 let lasts = lasts(&file);
                 let kept = self.room_to_keep(alloc, lasts);
-                if self.files < HELD_OPEN {
-                    self.files += 1;
-                    return FolderReader::new(Opened::File(file), lasts, kept);
+                match self.opened(alloc, file) {
+                    Ok(opened) => FolderReader::new(alloc, name, opened, lasts, kept),
+                    Err(why) => FolderReader::refused(alloc, name, why, lasts),
                 }
-                FolderReader::new(whole(alloc, file), lasts, kept)
             }
-            Err(why) => FolderReader::new(Opened::Refused(Some(why)), true, None),
+            Err(why) => FolderReader::refused(alloc, name, why, true),
         }
     }
 
     /// What hands out standard input, once.
-    pub(crate) fn of_input<F, I: Drop>(&mut self, alloc: Global, input: I) -> FolderReader<F, I>
-        ensures { result.pieces ≡ record { bytes = []; is_over = false } }
+    pub(crate) fn of_input<R: LogHost>(&mut self, rt: &R, name: &str) -> FolderReader<R>
+        requires { bytes_eq name.now (45 ∷ []) ≡ true }
+        ensures fresh { IsFresh result.came }
+        ensures of { IsOf (as_read (held_under R.in_file R.in_input name.now)) result.came }
     {
+        let alloc = rt.alloc();
         if self.input_was_read {
-            return FolderReader::new(Opened::Refused(Some(read_before())), false, None);
+            return FolderReader::refused(alloc, name, read_before(), false);
         }
         self.input_was_read = true;
-        FolderReader::new(Opened::Input(input), false, self.room_to_keep(alloc, false))
+        let kept = self.room_to_keep(alloc, false);
+        FolderReader::new(alloc, name, Opened::Input(rt.log_input()), false, kept)
+    }
+
+    /// What hands out what stands under a name.
+    pub(crate) fn open<R: LogHost>(&mut self, rt: &R, name: &str) -> FolderReader<R>
+        ensures fresh { IsFresh result.came }
+        ensures of { IsOf (as_read (held_under R.in_file R.in_input name.now)) result.came }
+    {
+        if name == "-" {
+            return self.of_input(rt, name);
+        }
+        self.of_file(rt, name)
+    }
+
+    /// All bytes that stand under a name. Where they can't be read the reason is told.
+    pub(crate) fn read<R: LogHost>(
+        &mut self,
+        rt: &R,
+        name: &str,
+        why: &mut Option<io::Error>,
+    ) -> Result<Bytes, SourceError>
+        ensures { IsAsHeld (held_under R.in_file R.in_input name.now) result }
+    {
+        let alloc = rt.alloc();
+        if name == "-" {
+            return self.read_input(alloc, rt.log_input(), why);
+        }
+        read_file(alloc, rt.open_log(name), why)
     }
 }
 
@@ -207,42 +259,46 @@ impl<'a, R> Folder<'a, R> {
 }
 
 impl<R: LogHost> Source for Folder<'_, R> {
-    type Reader = FolderReader<R::LogFile, R::LogInput>;
+    ghost use Rattle.host_files.specs.Holding.{IsAsHeld, as_read, held_under};
+
+    type Reader = FolderReader<R>;
+
+    ghost read_gives = { λ _ name read _. IsAsHeld (held_under R.in_file R.in_input name) read };
+
+    ghost holds = { λ _ name. as_read (held_under R.in_file R.in_input name) };
 
     fn read(&mut self, name: &str) -> Result<Bytes, SourceError> {
-        let alloc = self.rt.alloc();
-        if name == "-" {
-            let input = self.rt.log_input();
-            return self.openings.read_input(alloc, input, &mut None);
-        }
-        read_file(alloc, self.rt.open_log(name), &mut None)
+        self.openings.read(self.rt, name, &mut None)
     }
 
-    fn open(&mut self, name: &str) -> FolderReader<R::LogFile, R::LogInput> {
-        let alloc = self.rt.alloc();
-        if name == "-" {
-            let input = self.rt.log_input();
-            return self.openings.of_input(alloc, input);
-        }
-        self.openings.of_file(alloc, self.rt.open_log(name))
+    fn open(&mut self, name: &str) -> FolderReader<R> {
+        self.openings.open(self.rt, name)
     }
 
     fn close(
         &mut self,
-        _name: &str,
-        _reader: &FolderReader<R::LogFile, R::LogInput>,
+        name: &str,
+        reader: &FolderReader<R>,
         failed: bool,
     ) -> Result<(), SourceError> {
-        closed(failed)
+        closed(name, reader, failed)
     }
 }
 
-/// What closing a reader answers.
-pub(crate) fn closed(failed: bool) -> Result<(), SourceError>
-    ensures { OnOk result (failed ≡ false) }
+/// What closing a reader under a name answers. One of another name isn't taken.
+pub(crate) fn closed<R: LogHost>(
+    name: &str,
+    reader: &FolderReader<R>,
+    failed: bool,
+) -> Result<(), SourceError>
+    ensures { OnOk result ((failed ≡ false)
+        × IsOf (as_read (held_under R.in_file R.in_input name.now)) reader.now.came) }
 {
     if failed {
         return Err(SourceError::CannotRead);
+    }
+    if !reader.is_of(name) {
+        return Err(SourceError::OutOfMemory);
     }
     Ok(())
 }

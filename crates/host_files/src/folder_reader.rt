@@ -1,11 +1,16 @@
 //! Files and standard input, handed out piece by piece.
 
-ghost use Rattle.std.specs.Prelude.{◌≡◌, [], false};
+ghost use Rattle.std.specs.Prelude.{◌≡◌, true, None, Some, IfSome, string_bytes};
+ghost use Rattle.byte_pieces.specs.Coming.{IsFresh};
+ghost use Rattle.case_files.specs.Opening.{IsOf};
 
+use crate::host::LogHost;
 use byte_pieces::{PieceFault, Pieces, ReadPieces};
 use bytes::Bytes;
+use bytes::buf::Reader;
 use std::alloc::Global;
 use std::io::{self, ErrorKind, Read};
+use std::marker::Model;
 
 /// How many bytes a file may have: 2^40.
 const LIMIT: u64 = 1_099_511_627_776;
@@ -20,49 +25,91 @@ pub enum Opened<F, I> {
     File(F),
     /// Standard input.
     Input(I),
-    /// The bytes of a file, from so many on.
-    Whole(Bytes, usize),
-    /// Nothing that can be read, for this reason, which is told once.
-    Refused(Option<io::Error>),
+    /// The bytes of a file.
+    Whole(Reader<Bytes>),
+    /// Nothing that can be read.
+    Nothing,
 }
 
 impl<F: Read, I: Read> Read for Opened<F, I> {
+    ghost use Rattle.host_files.specs.Holding.{left_of};
+
+    ghost remaining = { left_of F.remaining I.remaining };
+
     fn read(&mut self, buf: &mut [u8]) -> io::Result<usize> {
         match self {
             Opened::File(file) => file.read(buf),
             Opened::Input(input) => input.read(buf),
-            Opened::Whole(bytes, at) => {
-                let mut left = bytes.as_slice().get(*at..).unwrap_or(&[]);
-                let count = left.read(buf)?;
-                *at = at.saturating_add(count);
-                Ok(count)
-            }
-            Opened::Refused(why) => match why.take() {
-                Some(why) => Err(why),
-                None => Err(io::Error::from(ErrorKind::Other)),
-            },
+            Opened::Whole(bytes) => bytes.read(buf),
+            Opened::Nothing => Err(io::Error::from(ErrorKind::Other)),
         }
     }
 }
 
+/// What is opened of a host.
+pub(crate) type OpenedOf<R> = Opened<<R as LogHost>::LogFile, <R as LogHost>::LogInput>;
+
 /// What hands out a file or standard input piece by piece, and counts its bytes. Of what can't be read once more it keeps them
-/// where it is asked to, unless there are too many.
-#[derive(Drop)]
-pub struct FolderReader<F, I> {
-    pieces: ReadPieces<Opened<F, I>>,
+/// where it is asked to, unless there are too many. To a contract it is the name under which it was opened, and what came, which is
+/// of what stands under that name.
+pub struct FolderReader<R: LogHost> {
+    pieces: ReadPieces<OpenedOf<R>>,
+    name: Option<String>,
     lasts: bool,
     count: u64,
     kept: Option<Vec<u8>>,
     too_long: Option<io::Error>,
 }
 
-impl<F, I> FolderReader<F, I> {
-    /// What hands this out, which can be read once more or can't, and where its bytes are kept, if they are.
-    pub fn new(opened: Opened<F, I>, lasts: bool, kept: Option<Vec<u8>>) -> FolderReader<F, I>
-        ensures { result.pieces ≡ record { bytes = []; is_over = false } }
+impl<R: LogHost> Drop for FolderReader<R> {
+    fn drop(self) {
+        let Self {
+            pieces: _,
+            name: _,
+            lasts: _,
+            count: _,
+            kept: _,
+            too_long: _,
+        } = self;
+    }
+}
+
+impl<R: LogHost> Model for FolderReader<R> {
+    ghost use Rattle.std.specs.Prelude.{IfSome, option_map, string_bytes};
+    ghost use Rattle.case_files.specs.Opening.{IsOf};
+    ghost use Rattle.host_files.specs.declared.folder_reader.TheConstants.{LIMIT};
+    ghost use Rattle.host_files.specs.Holding.{NamedReader, as_read, held_under, within};
+
+    ghost Value = { NamedReader };
+
+    ghost view = { λ reader. record {
+      name = option_map string_bytes reader.name;
+      came = within LIMIT reader.count reader.pieces;
+    } };
+
+    ghost invariant = { λ reader. IfSome (option_map string_bytes reader.name)
+        (λ name. IsOf (as_read (held_under R.in_file R.in_input name)) reader.pieces) };
+}
+
+impl<R: LogHost> FolderReader<R> {
+    ghost use Rattle.host_files.specs.Holding.{as_read, held_under, left_of};
+
+    /// What hands out what was opened under a name, which can be read once more or can't; and where its bytes are kept, if they are.
+    pub(crate) fn new(
+        alloc: Global,
+        name: &str,
+        opened: OpenedOf<R>,
+        lasts: bool,
+        kept: Option<Vec<u8>>,
+    ) -> FolderReader<R>
+        requires { IfSome (held_under R.in_file R.in_input name.now)
+            (λ all. left_of R.LogFile.remaining R.LogInput.remaining opened ≡ Some all) }
+        ensures fresh { IsFresh result.came }
+        ensures of { IsOf (as_read (held_under R.in_file R.in_input name.now)) result.came }
     {
         FolderReader {
             pieces: ReadPieces::new(opened),
+            name: String::from_str(alloc, name).ok(),
             lasts,
             count: 0,
             kept,
@@ -70,18 +117,62 @@ impl<F, I> FolderReader<F, I> {
         }
     }
 
+    /// What gives nothing, since what stands under a name can't be read, for this reason; whether it can be tried once more.
+    pub(crate) fn refused(
+        alloc: Global,
+        name: &str,
+        why: io::Error,
+        lasts: bool,
+    ) -> FolderReader<R>
+        ensures fresh { IsFresh result.came }
+        ensures of { IsOf (as_read (held_under R.in_file R.in_input name.now)) result.came }
+    {
+        FolderReader {
+            pieces: ReadPieces::refused(Opened::Nothing, why),
+            name: String::from_str(alloc, name).ok(),
+            lasts,
+            count: 0,
+            kept: None,
+            too_long: None,
+        }
+    }
+
+    /// What hands out a file once more, for people.
+    pub(crate) fn again(file: R::LogFile) -> FolderReader<R>
+        ensures { IsFresh result.came }
+    {
+        FolderReader {
+            pieces: ReadPieces::new(Opened::File(file)),
+            name: None,
+            lasts: true,
+            count: 0,
+            kept: None,
+            too_long: None,
+        }
+    }
+
+    /// Whether it was opened under this name. Where memory was refused for its name, that isn't known.
+    pub(crate) fn is_of(&self, name: &str) -> bool
+        ensures { result ≡ true → IsOf (as_read (held_under R.in_file R.in_input name.now)) self.now.came }
+    {
+        match &self.name {
+            Some(own) => own.as_str() == name,
+            None => false,
+        }
+    }
+
     /// Whether it can be read once more.
-    pub fn lasts(&self) -> bool {
+    pub(crate) fn lasts(&self) -> bool {
         self.lasts
     }
 
     /// How many bytes came.
-    pub fn count(&self) -> u64 {
+    pub(crate) fn count(&self) -> u64 {
         self.count
     }
 
     /// Why no more can be read, where that is known.
-    pub fn refusal(&self) -> Option<&io::Error> {
+    pub(crate) fn refusal(&self) -> Option<&io::Error> {
         match &self.too_long {
             Some(why) => Some(why),
             None => self.pieces.refusal(),
@@ -89,28 +180,24 @@ impl<F, I> FolderReader<F, I> {
     }
 
     /// All bytes that came, where they are kept and aren't too many.
-    pub fn kept(&self) -> Option<&[u8]> {
+    pub(crate) fn kept(&self) -> Option<&[u8]> {
         self.kept.as_deref()
-    }
-
-    /// Keeps a piece. Where there are too many bytes, or memory is refused, none is kept any more.
-    fn keep(&mut self, piece: &[u8])
-        ensures { self.new.pieces ≡ self.old.pieces }
-    {
-        let Some(kept) = &mut self.kept else {
-            return;
-        };
-        let is_short = kept.len().saturating_add(piece.len()) <= KEPT;
-        if !is_short || kept.extend_from_slice(piece).is_err() {
-            self.kept = None;
-        }
     }
 }
 
-impl<F: Read, I: Read> Pieces for FolderReader<F, I> {
-    ghost came = { λ reader. reader.pieces.bytes };
+/// Keeps a piece. Where there are too many bytes, or memory is refused, none is kept any more.
+fn keep(kept: &mut Option<Vec<u8>>, piece: &[u8]) {
+    let Some(bytes) = kept else {
+        return;
+    };
+    let is_short = bytes.len().saturating_add(piece.len()) <= KEPT;
+    if !is_short || bytes.extend_from_slice(piece).is_err() {
+        *kept = None;
+    }
+}
 
-    ghost is_over = { λ reader. reader.pieces.is_over };
+impl<R: LogHost> Pieces for FolderReader<R> {
+    ghost so_far = { λ reader. reader.came };
 
     fn more(
         &mut self,
@@ -126,7 +213,7 @@ impl<F: Read, I: Read> Pieces for FolderReader<F, I> {
         if let Some(window) = &next {
             let piece = &window.as_slice()[rest.len()..];
             self.count = self.count.saturating_add(piece.len() as u64);
-            self.keep(piece);
+            keep(&mut self.kept, piece);
         }
         Ok(next)
     }

@@ -1,7 +1,7 @@
 //! Files and standard input, of which is remembered what people are told.
 
 use crate::file::{LIMIT, Openings, closed, read_file};
-use crate::folder_reader::{FolderReader, Opened, copy_of};
+use crate::folder_reader::{FolderReader, copy_of};
 use crate::host::LogHost;
 use bytes::Bytes;
 use case_files::{RememberingSource, Source, SourceError};
@@ -32,10 +32,10 @@ enum Again {
 
 impl ClosedFile {
     /// The file of this name, and what its reader has of it.
-    fn of<F, I>(
+    fn of<R: LogHost>(
         alloc: Global,
         name: &str,
-        reader: &FolderReader<F, I>,
+        reader: &FolderReader<R>,
     ) -> Result<ClosedFile, AllocError> {
         let again = match reader.kept() {
             Some(bytes) => Again::Kept(Bytes::copy_from_slice(alloc, bytes)?),
@@ -104,7 +104,7 @@ impl<'a, R: AllocGlobal> RememberingFolder<'a, R> {
     }
 }
 
-impl<R: Files + AllocGlobal> RememberingFolder<'_, R> {
+impl<R: LogHost> RememberingFolder<'_, R> {
     /// How many bytes may still be read once more.
     fn room(&self) -> usize {
         let lengths = self.kept.iter().map(|file| file.1.len());
@@ -112,10 +112,10 @@ impl<R: Files + AllocGlobal> RememberingFolder<'_, R> {
     }
 
     /// Keeps the name whose reading ends, and what its reader has. Where memory is refused less is kept.
-    fn keep_closed<F, I>(
+    fn keep_closed(
         &mut self,
         name: &str,
-        reader: &FolderReader<F, I>,
+        reader: &FolderReader<R>,
     ) -> Result<(), AllocError> {
         self.keep_name(name)?;
         let file = ClosedFile::of(self.rt.alloc(), name, reader)?;
@@ -162,40 +162,35 @@ impl<R: Files + AllocGlobal> RememberingFolder<'_, R> {
 }
 
 impl<R: LogHost> Source for RememberingFolder<'_, R> {
-    type Reader = FolderReader<R::LogFile, R::LogInput>;
+    ghost use Rattle.host_files.specs.Holding.{IsAsHeld, as_read, held_under};
+
+    type Reader = FolderReader<R>;
+
+    ghost read_gives = { λ _ name read _. IsAsHeld (held_under R.in_file R.in_input name) read };
+
+    ghost holds = { λ _ name. as_read (held_under R.in_file R.in_input name) };
 
     fn read(&mut self, name: &str) -> Result<Bytes, SourceError> {
         self.refusal = None;
-        let alloc = self.rt.alloc();
-        let read = if name == "-" {
-            let input = self.rt.log_input();
-            self.openings.read_input(alloc, input, &mut self.refusal)
-        } else {
-            read_file(alloc, self.rt.open_log(name), &mut self.refusal)
-        };
+        let read = self.openings.read(self.rt, name, &mut self.refusal);
         let _ = self.keep(name, &read);
         read
     }
 
-    fn open(&mut self, name: &str) -> FolderReader<R::LogFile, R::LogInput> {
-        let alloc = self.rt.alloc();
-        if name == "-" {
-            let input = self.rt.log_input();
-            return self.openings.of_input(alloc, input);
-        }
-        self.openings.of_file(alloc, self.rt.open_log(name))
+    fn open(&mut self, name: &str) -> FolderReader<R> {
+        self.openings.open(self.rt, name)
     }
 
     fn close(
         &mut self,
         name: &str,
-        reader: &FolderReader<R::LogFile, R::LogInput>,
+        reader: &FolderReader<R>,
         failed: bool,
     ) -> Result<(), SourceError> {
         let alloc = self.rt.alloc();
         self.refusal = reader.refusal().map(|error| copy_of(alloc, error));
         let _ = self.keep_closed(name, reader);
-        closed(failed)
+        closed(name, reader, failed)
     }
 }
 
@@ -224,12 +219,12 @@ impl<R: LogHost> RememberingSource for RememberingFolder<'_, R> {
         &self.left_out
     }
 
-    fn open_again(&self, name: &str) -> Option<FolderReader<R::LogFile, R::LogInput>> {
+    fn open_again(&self, name: &str) -> Option<FolderReader<R>> {
         if !self.lasting.iter().any(|lasting| lasting.as_str() == name) {
             return None;
         }
         let file = self.rt.open_log(name).ok()?;
-        Some(FolderReader::new(Opened::File(file), true, None))
+        Some(FolderReader::again(file))
     }
 }
 

@@ -21,5 +21,5 @@ as_lane lane = record { log = lane.read.log; ahead = lane.ahead; has_ended = is_
 -- what an ending says of the log
 abbrev pub EndsSo : Option Ending → StreamSoFar → Type 0
 EndsSo None read = ⊤
-EndsSo (Some Whole) read = (read.is_over ≡ true) × (log_of read.bytes ≡ Ok read.log)
+EndsSo (Some Whole) read = (read.came.is_over ≡ true) × (log_of read.came.bytes ≡ Ok read.log)
 EndsSo (Some (Fault fault)) read = StreamStopsBy fault read

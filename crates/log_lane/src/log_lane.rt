@@ -199,7 +199,7 @@ impl<P: Pieces> LogLane<P> {
     /// From where the log comes.
     #[inline]
     pub fn pieces(&self) -> &P
-        ensures { IfSome self.now (λ lane. (P.came result.now ≡ lane.read.bytes) × (P.is_over result.now ≡ lane.read.is_over)) }
+        ensures { IfSome self.now (λ lane. P.so_far result.now ≡ lane.read.came) }
     {
         self.stream.pieces()
     }
@@ -210,7 +210,7 @@ impl<P: Pieces> LogLane<P> {
         ensures lane { self.new ≡ self.old }
         ensures whole { IfOk result (λ log. (lane : ReadAhead) × (self.old ≡ Some lane)
             × (log.log ≡ lane.read.log) × (log.limits ≡ default_limits)
-            × (lane.read.is_over ≡ true) × (log_of lane.read.bytes ≡ Ok lane.read.log)) }
+            × (lane.read.came.is_over ≡ true) × (log_of lane.read.came.bytes ≡ Ok lane.read.log)) }
         ensures fault { IfErr result (λ why. IfSome why (λ fault. (lane : ReadAhead) × (self.old ≡ Some lane)
             × StreamStopsBy fault lane.read)) }
     {

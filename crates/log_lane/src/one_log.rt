@@ -1,6 +1,7 @@
 //! The audit of a log that comes in pieces.
 
 ghost use Rattle.std.specs.Prelude.{◌≡◌, true, [], Ok, IfOk, IfErr};
+ghost use Rattle.byte_pieces.specs.Coming.{ComesOn};
 ghost use Rattle.cap_reader.specs.Defaults.{default_limits};
 ghost use Rattle.vat_log.specs.Reading.{log_of};
 ghost use Rattle.vat_log.specs.Streams.{StreamStopsBy};
@@ -24,8 +25,9 @@ pub fn audit_stream<P: Pieces>(
     stream: &mut LogStream<P>,
 ) -> Result<SlimFinding, ReadFault>
     requires { stream.old.log.records ≡ [] }
-    ensures log { IfOk result (λ finding. log_of stream.new.bytes ≡ Ok finding.log) }
-    ensures over { IfOk result (λ finding. stream.new.is_over ≡ true) }
+    ensures on { ComesOn stream.old.came stream.new.came }
+    ensures log { IfOk result (λ finding. log_of stream.new.came.bytes ≡ Ok finding.log) }
+    ensures over { IfOk result (λ finding. stream.new.came.is_over ≡ true) }
     ensures limits { IfOk result (λ finding. finding.limits ≡ default_limits) }
     ensures outcome { IfOk result (λ finding. IsTrueOf finding.log finding.limits finding.outcome) }
     ensures err { IfErr result (λ fault. StreamStopsBy fault stream.new) }

@@ -106,7 +106,7 @@ set_same (p ∷ lanes) (suc i) o d is = ap (λ (l : List (Option ReadAhead)). p 
 -- what a lane says of its log, taken
 abbrev pub IsLogOf : Option ReadAhead → Found → Type 0
 IsLogOf o found =
-    (lane : ReadAhead) × (o ≡ Some lane) × (found.log ≡ lane.read.log) × (found.limits ≡ default_limits) × (lane.read.is_over ≡ true) × (log_of lane.read.bytes ≡ Ok lane.read.log)
+    (lane : ReadAhead) × (o ≡ Some lane) × (found.log ≡ lane.read.log) × (found.limits ≡ default_limits) × (lane.read.came.is_over ≡ true) × (log_of lane.read.came.bytes ≡ Ok lane.read.log)
 
 each_more : (findings : List Found) (found : Found) → HoldsOfEach (λ (f : Found). f.limits ≡ default_limits) findings → found.limits ≡ default_limits → HoldsOfEach (λ (f : Found). f.limits ≡ default_limits) (findings ++ found ∷ [])
 each_more [] found each is zero f at = subst (λ (x : Found). x.limits ≡ default_limits) (same found f at) is

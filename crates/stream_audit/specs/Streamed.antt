@@ -31,8 +31,8 @@ AreFresh lanes = HoldsOfEach IsFreshLane lanes
 pub record CameWhole (lane : Option ReadAhead) (log : Log) : Type 0 where
   pub read : ReadAhead
   pub there : lane ≡ Some read
-  pub over : read.read.is_over ≡ true
-  pub spelled : log_of read.read.bytes ≡ Ok log
+  pub over : read.read.came.is_over ≡ true
+  pub spelled : log_of read.read.came.bytes ≡ Ok log
 
 -- these logs came whole, one in each lane
 abbrev pub AreReadWhole : List (Option ReadAhead) → List Log → Type 0
@@ -40,7 +40,7 @@ AreReadWhole [] [] = ⊤
 AreReadWhole (lane ∷ lanes) (log ∷ logs) = CameWhole lane log × AreReadWhole lanes logs
 AreReadWhole _ _ = ⊥
 
--- a log has this fault, or can't be read
+-- a log has this fault, or it can't be read
 pub record CameToFault (lane : Option ReadAhead) (fault : ReadFault) : Type 0 where
   pub read : ReadAhead
   pub there : lane ≡ Some read

@@ -1,9 +1,10 @@
 //! The audit of a case whose logs come in streams.
 
-ghost use Rattle.std.specs.Prelude.{◌≡◌, ◌<◌, ℕ, Some, None, [], false, List, Option, IfOk, IfErr};
+ghost use Rattle.std.specs.Prelude.{◌≡◌, ◌<◌, ℕ, Some, None, Err, [], false, List, Option, IfOk, IfErr};
 ghost use Rattle.case_book.specs.Case.{HoldsJust, IsCase, case_refusal_of};
 ghost use Rattle.case_book.specs.Ties.{tie_fault_of};
 ghost use Rattle.audit_core.specs.Lines.{IsLineOf};
+ghost use Rattle.audit_core.specs.Refusals.{worker_limit};
 ghost use Rattle.log_lane.specs.Lanes.{ReadAhead};
 ghost use Rattle.lock_step.specs.Taking.{Taken, turned};
 ghost use Rattle.std.specs.List.Sorted.{IsPermutation};
@@ -14,6 +15,7 @@ ghost use Rattle.log_lane.specs.Slim.{logs_audited};
 ghost use Rattle.stream_audit.specs.Glue.{IsTakenSo, IsYesBy};
 ghost use Rattle.stream_audit.specs.Streamed.{AreFresh, AreReadWhole, IsLineOfStreams, IsRefusalOf};
 ghost use Rattle.stream_audit.specs.declared.error.StreamError.{StreamError};
+ghost use Rattle.stream_audit.specs.declared.error.StreamError.TheVariants.{NoWorkers, TooManyWorkers};
 
 use crate::error::StreamError;
 use crate::first_lines::{link_line, log_line};
@@ -144,6 +146,9 @@ pub fn check_streams<R: Threads + Sync, P: Pieces + Send>(
     workers: u32,
 ) -> Result<Report, StreamError>
     requires { AreFresh lanes.old }
+    // Its workers are counted first.
+    ensures none { workers ≡ 0 → result ≡ Err NoWorkers }
+    ensures many { worker_limit < workers → result ≡ Err TooManyWorkers }
     // Why there is no report.
     ensures err { IfErr result (IsRefusalOf lanes.new links.items workers) }
     // What it answers, and what a yes means.

@@ -1,6 +1,6 @@
 -- Answers that are told as objects.
 use Rattle.std.proofs.Common.{ℕ, List, Option, Some, None, Result, Ok, Err, subst, sym, inl, inr}
-use Rattle.case_files.specs.CaseReading.{Reads}
+use Rattle.case_files.specs.CaseReading.{Read, Reads}
 use Rattle.command_line.specs.declared.command.Command.{Command}
 use Rattle.command_line.specs.declared.command.Command.TheVariants.{Check, Order, Graph, Run, Draw, Vat, Records, Frame, Frames, Migrate, Salvage, Wire, Join}
 use Rattle.command_run.specs.declared.output.Failed.{Failed}
@@ -24,19 +24,19 @@ module _ {W F E X : Type 0} (to_out : Writing W) (in_file : F → Option (List �
       go (Err (Out x)) (inr refused) w = inr (inr (refused, (w.1.0, (w.0, (w.1.1.0, w.1.1.1, saved w.1.1.0 w.1.1.2)))))
       go (Err (File x)) failed w = inr (inl (failed, inr (w.0, (w.1.0, (w.1.1.0, w.1.1.1, w.1.1.2)))))
 
-  pub tells : {S : Type 0} (gives : Reads S) (command : Command) (old new : S)
-      → CarriesOut gives command old new (λ answers. Writes answers to_out (Wrote in_file file_done) out out_new file file_new r)
-      → CarriesOut gives command old new (λ answers. Tells answers (Adds in_file) file file_new ended)
-  tells gives (Check name workers) old new c = told _ c
-  tells gives (Graph name dot many) old new c = told _ c
-  tells gives (Run name many) old new c = told _ c
-  tells gives (Draw name path first steps is_page many) old new c = told _ c
-  tells gives (Vat name) old new c = (c.0, c.1, told _ c.2)
-  tells gives (Frame hex later) old new c = (c.0, told _ c.1)
-  tells gives (Frames name) old new c = (c.0, c.1, told _ c.2)
-  tells gives (Records name first many) old new c = (c.0, c.1, told _ c.2)
-  tells gives (Order name path) old new c = told _ c
-  tells gives (Migrate name later path) old new c = (c.0, c.1, told _ c.2)
-  tells gives (Salvage name path) old new c = (c.0, c.1, told _ c.2)
-  tells gives (Wire one another has_one out) old new c = told _ c
-  tells gives (Join names path) old new c = told _ c
+  pub tells : {S : Type 0} (gives : Reads S) (holds : S → List ℕ → Option Read) (command : Command) (old new : S)
+      → CarriesOut gives holds command old new (λ answers. Writes answers to_out (Wrote in_file file_done) out out_new file file_new r)
+      → CarriesOut gives holds command old new (λ answers. Tells answers (Adds in_file) file file_new ended)
+  tells gives holds (Check name workers) old new c = told _ c
+  tells gives holds (Graph name dot many) old new c = told _ c
+  tells gives holds (Run name many) old new c = told _ c
+  tells gives holds (Draw name path first steps is_page many) old new c = told _ c
+  tells gives holds (Vat name) old new c = (c.0, c.1, told _ c.2)
+  tells gives holds (Frame hex later) old new c = (c.0, told _ c.1)
+  tells gives holds (Frames name) old new c = (c.0, c.1, told _ c.2)
+  tells gives holds (Records name first many) old new c = (c.0, c.1, told _ c.2)
+  tells gives holds (Order name path) old new c = told _ c
+  tells gives holds (Migrate name later path) old new c = (c.0, c.1, told _ c.2)
+  tells gives holds (Salvage name path) old new c = (c.0, c.1, told _ c.2)
+  tells gives holds (Wire one another has_one out) old new c = told _ c
+  tells gives holds (Join names path) old new c = told _ c

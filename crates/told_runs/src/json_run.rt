@@ -76,7 +76,7 @@ pub fn run_as_json<R: Threads + Wait + Sync, S: Source, W: Write, F: Write>(
     file: &mut F,
 ) -> u8
     requires { HasWorkers command.now }
-    ensures { CarriesOut S.read_gives command.now source.old source.new
+    ensures { CarriesOut S.read_gives S.holds command.now source.old source.new
         (λ answers. Tells answers (Adds F.contents) file.old file.new result) }
 {
     let told = answer_command(rt, alloc, command, source, out, file);
@@ -93,7 +93,7 @@ pub fn run_as_json_with_notes<R: Threads + Wait + Sync, S: SearchingSource, W: W
     file: &mut F,
 ) -> u8
     requires { HasWorkers command.now }
-    ensures { CarriesOut S.read_gives command.now source.old source.new
+    ensures { CarriesOut S.read_gives S.holds command.now source.old source.new
         (λ answers. Tells answers (Adds F.contents) file.old file.new result) }
 {
     let mut hearing = NoteHearing::new();

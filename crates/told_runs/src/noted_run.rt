@@ -65,7 +65,7 @@ pub fn run_with_notes<
     file: &mut F,
 ) -> u8
     requires { HasWorkers command.now }
-    ensures { CarriesOut S.read_gives command.now noted.old.source noted.new.source
+    ensures { CarriesOut S.read_gives S.holds command.now noted.old.source noted.new.source
         (λ answers. WritesOrFails answers (Adds W.contents)
         (Adds F.contents) out.old out.new file.old file.new result) }
 {

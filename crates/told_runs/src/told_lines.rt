@@ -178,7 +178,7 @@ pub fn run_telling<
     file: &mut F,
 ) -> u8
     requires { HasWorkers command.now }
-    ensures { CarriesOut S.read_gives command.now noted.old.source noted.new.source
+    ensures { CarriesOut S.read_gives S.holds command.now noted.old.source noted.new.source
         (λ answers. Tells answers (Adds F.contents) file.old file.new result) }
 {
     let mut hearing = NoteHearing::new();

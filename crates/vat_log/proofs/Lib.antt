@@ -10,3 +10,4 @@ pub mod Respelled
 pub mod Moved
 pub mod Windows
 pub mod Streams
+pub mod Placed

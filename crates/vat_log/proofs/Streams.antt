@@ -1,6 +1,6 @@
 -- A log that comes in pieces, as its stream keeps it: the records that were given, the newest first, and the window.
 use Rattle.std.proofs.Common.{◌≡◌, ℕ, ◌+◌, ◌-◌, ◌^◌, ◌<◌, ◌≤◌, Bool, true, List, [], ◌∷◌, ◌++◌, length, take, drop, reverse, All, Option, Some, Result, Ok, Err, refl, sym, ap, subst, ◌∙◌, ap₂, append_assoc, arith, inl, inr}
-use Rattle.byte_pieces.specs.Coming.{Brings}
+use Rattle.byte_pieces.specs.Coming.{Brings, CameSoFar, MayBeAll}
 use Rattle.std.specs.Int.{w32}
 use Rattle.std.specs.Prelude.{IfSome}
 use Rattle.std.proofs.lemmas.Bool.{cases_lt, le-ltb}
@@ -19,13 +19,14 @@ use Rattle.vat_log.specs.Reader.{IsReadTo}
 use Rattle.vat_log.specs.Reading.{◌>>=◌, Fails, number_at, version_at, header_of, log_within, log_of}
 use Rattle.vat_log.specs.Runs.{IsLongestRun, StopsBy}
 use Rattle.vat_log.specs.Spelling.{log_magic, number_bytes, log_bytes}
-use Rattle.vat_log.specs.Streams.{MayBeAll, StreamStopsBy}
+use Rattle.vat_log.specs.Streams.{CannotBeRead, StreamStopsBy}
 use Rattle.vat_log.specs.Windows.{counted_from, record_at, FaultFrom, IsCut, IsOfBytes, StopFrom, StopsHere}
 use Rattle.vat_log.proofs.LogLaws.{magic_long}
 use Rattle.vat_log.proofs.Moved.{around_range}
+use Rattle.vat_log.proofs.Placed.{fault_placed, record_stays}
 use Rattle.vat_log.proofs.ReadOn.{log_given, one_given}
 use Rattle.vat_log.proofs.Runs.{header_parts, read_none, vat_long}
-use Rattle.vat_log.proofs.Windows.{Holds, bind_err, record_taken, stops_in_all, window_filled}
+use Rattle.vat_log.proofs.Windows.{Holds, bind_err, came_long, record_taken, stops_in_all, window_filled}
 
 -- ---- headers
 
@@ -130,21 +131,22 @@ bad_in_all came window version vat given count begin at e is_over kept lt fails 
     let both = known_stops begin e (came ++ m.more) log known stops in
     subst (λ (b : List ℕ). (log_of b ≡ Err (counted_from begin e)) × IsLongestRun b log) (sym m.parts) both
 
-stream_stops : (came window : List ℕ) (version : LogVersion) (vat : ℕ) (given : List Body) (count begin at : ℕ) (e : LogError) (is_over : Bool) (told : ReadFault) → KeepsWindow came window version vat given count begin at → at < length window
-    → Fails e (record_at version count window at) → (IsCut e → is_over ≡ true) → FaultFrom begin e told → StreamStopsBy told (record { bytes = came; is_over = is_over; log = log_given version vat given })
-stream_stops came window version vat given count begin at e is_over (fault.Bad f) kept lt fails cut from = λ all m.
-    let both = bad_in_all came window version vat given count begin at e is_over kept lt fails from.1 cut all m in
+stream_stops : (so_far : CameSoFar) (window : List ℕ) (version : LogVersion) (vat : ℕ) (given : List Body) (count begin at : ℕ) (e : LogError) (told : ReadFault) → KeepsWindow so_far.bytes window version vat given count begin at → at < length window
+    → Fails e (record_at version count window at) → (IsCut e → so_far.is_over ≡ true) → FaultFrom begin e told → StreamStopsBy told (record { came = so_far; log = log_given version vat given })
+stream_stops so_far window version vat given count begin at e (fault.Bad f) kept lt fails cut from = λ all m.
+    let both = bad_in_all so_far.bytes window version vat given count begin at e so_far.is_over kept lt fails from.1 cut all m in
     (both.0 ∙ ap (λ (d : LogError). Err d) (sym from.0), both.1)
-stream_stops came window version vat given count begin at e is_over fault.CannotRead kept lt fails cut from = tt
-stream_stops came window version vat given count begin at e is_over fault.OutOfMemory kept lt fails cut from = tt
+stream_stops so_far window version vat given count begin at e fault.CannotRead kept lt fails cut from =
+    inr (omega (arith, from, fault_placed begin (length window) e (record_at version count window at) (record_stays version count window at lt) fails, came_long so_far.bytes window (log_given version vat given) begin at kept.1))
+stream_stops so_far window version vat given count begin at e fault.OutOfMemory kept lt fails cut from = tt
 
-pub stops_here : (came window : List ℕ) (version : LogVersion) (vat : ℕ) (given : List Body) (count begin at : ℕ) (e : LogError) (is_over : Bool) (why : Stop) → KeepsWindow came window version vat given count begin at → at < length window
-    → Fails e (record_at version count window at) → StopFrom begin e why → StopsHere why (record { bytes = came; is_over = is_over; log = log_given version vat given })
-stops_here came window version vat given count begin at e is_over stop.Ends kept lt fails from = absurd from
-stops_here came window version vat given count begin at e is_over (stop.Cut told) kept lt fails from =
-    stream_stops came window version vat given count begin at e true told kept lt fails (λ c. refl) from
-stops_here came window version vat given count begin at e is_over (stop.Fault told) kept lt fails from =
-    stream_stops came window version vat given count begin at e is_over told kept lt fails (λ c. absurd (from.1 c)) from.0
+pub stops_here : (so_far : CameSoFar) (window : List ℕ) (version : LogVersion) (vat : ℕ) (given : List Body) (count begin at : ℕ) (e : LogError) (why : Stop) → KeepsWindow so_far.bytes window version vat given count begin at → at < length window
+    → Fails e (record_at version count window at) → StopFrom begin e why → StopsHere why (record { came = so_far; log = log_given version vat given })
+stops_here so_far window version vat given count begin at e stop.Ends kept lt fails from = absurd from
+stops_here so_far window version vat given count begin at e (stop.Cut told) kept lt fails from =
+    stream_stops (record so_far { is_over = true }) window version vat given count begin at e told kept lt fails (λ c. refl) from
+stops_here so_far window version vat given count begin at e (stop.Fault told) kept lt fails from =
+    stream_stops so_far window version vat given count begin at e told kept lt fails (λ c. absurd (from.1 c)) from.0
 
 -- ---- what comes
 
@@ -163,21 +165,6 @@ filled came window version vat given count begin at later longer begin' kept b i
 pub came_more : (rest came longer later : List ℕ) → Brings rest came longer later → length later ≡ length came + (length longer - length rest)
 came_more rest came longer later b = omega (arith, ap length b.behind_rest, length-append rest b.piece, ap length b.behind_all, length-append came b.piece)
 
--- what came before comes first
-pub may_be_same : (bytes later : List ℕ) (is_over : Bool) → later ≡ bytes → MayBeAll bytes is_over later
-may_be_same bytes later is_over same = record { more = []; parts = same ∙ sym (append-nil bytes); over = λ h. refl }
-
-pub may_be_then : (a b c : List ℕ) (p q : Bool) → MayBeAll a p b → (p ≡ true → q ≡ true) → MayBeAll b q c → MayBeAll a p c
-may_be_then a b c p q m over n = record {
-  more = m.more ++ n.more;
-  parts = n.parts ∙ ap (λ (x : List ℕ). x ++ n.more) m.parts ∙ append_assoc a m.more n.more;
-  over = λ h. ap₂ (λ (x y : List ℕ). x ++ y) (m.over h) (n.over (over h));
-}
-
--- a piece comes behind, where it wasn't over
-pub may_be_piece : (rest came longer later : List ℕ) (is_over : Bool) → Brings rest came longer later → (is_over ≡ true → later ≡ came) → MayBeAll came is_over later
-may_be_piece rest came longer later is_over b none = record {
-  more = b.piece;
-  parts = b.behind_all;
-  over = λ h. absurd (omega (arith, ap length (none h), ap length b.behind_all, length-append came b.piece, b.some));
-}
+-- where the next record begins 2^64 bytes from the begin, there are so many
+pub too_long : (so_far : CameSoFar) (window : List ℕ) (log : Log) (begin at : ℕ) → Holds so_far.bytes window log begin at → 2 ^ 64 ≤ begin + at → CannotBeRead so_far
+too_long so_far window log begin at h far = inr (omega (arith, far, came_long so_far.bytes window log begin at h, h.within))

@@ -140,7 +140,7 @@ stops_next e bytes version vat given count at kept lt failed =
 abbrev pub Holds : List ℕ → List ℕ → Log → ℕ → ℕ → Type 0
 Holds came window log begin at = HoldsRest record_limit came window log begin at
 
-came_long : (came window : List ℕ) (log : Log) (begin at : ℕ) → Holds came window log begin at → length came ≡ begin + length window
+pub came_long : (came window : List ℕ) (log : Log) (begin at : ℕ) → Holds came window log begin at → length came ≡ begin + length window
 came_long came window log begin at h = omega (arith, ap length h.parts, length-append (log_bytes log) (drop at window), length-drop at window, h.places, h.within)
 
 -- the log stands in front of all bytes

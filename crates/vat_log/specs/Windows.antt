@@ -48,6 +48,13 @@ abbrev pub fault_of_piece : PieceFault → ReadFault
 fault_of_piece piece.CannotRead = fault.CannotRead
 fault_of_piece piece.OutOfMemory = fault.OutOfMemory
 
+-- the place of a fault, if it has one, and else the begin
+abbrev pub place_of : LogError → ℕ
+place_of (Short at) = at
+place_of (BadKind at) = at
+place_of (ZeroNumber at) = at
+place_of _ = 0
+
 -- a fault of bytes, and no want of memory
 abbrev pub IsOfBytes : LogError → Type 0
 IsOfBytes OutOfMemory = ⊥
@@ -56,7 +63,7 @@ IsOfBytes _ = Unit {0}
 -- Why no more is read where a window that begins at this place has this fault.
 abbrev pub FaultFrom : ℕ → LogError → ReadFault → Type 0
 FaultFrom begin e (fault.Bad told) = (told ≡ counted_from begin e) × IsOfBytes e
-FaultFrom begin e fault.CannotRead = Unit {0}
+FaultFrom begin e fault.CannotRead = 2 ^ 64 ≤ place_of (counted_from begin e)
 FaultFrom begin e fault.OutOfMemory = Unit {0}
 
 -- a field that is cut
@@ -73,5 +80,5 @@ StopFrom begin e (stop.Fault told) = FaultFrom begin e told × (IsCut e → ⊥)
 -- Why a window gives no record: all that came was given, or there is a fault if nothing more comes, or whatever comes.
 abbrev pub StopsHere : Stop → StreamSoFar → Type 0
 StopsHere stop.Ends read = (log_of read.bytes ≡ Ok read.log) × IsLongestRun read.bytes read.log
-StopsHere (stop.Cut told) read = StreamStopsBy told (record read { is_over = true })
+StopsHere (stop.Cut told) read = StreamStopsBy told (record read { came = record read.came { is_over = true } })
 StopsHere (stop.Fault told) read = StreamStopsBy told read

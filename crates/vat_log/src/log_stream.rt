@@ -1,11 +1,12 @@
 //! Reading a log that comes in pieces.
 
-ghost use Rattle.std.specs.Prelude.{◌≡◌, ℕ, ◌+◌, ◌^◌, ◌<◌, ◌≤◌, true, false, Ok, Err, All, [], length, IfOk, IfErr, OnErr, MatchOption};
+ghost use Rattle.std.specs.Prelude.{◌≡◌, ℕ, ◌+◌, ◌^◌, ◌<◌, ◌≤◌, true, false, None, Some, Ok, Err, All, [], length, IfOk, IfErr, OnErr, MatchOption};
+ghost use Rattle.byte_pieces.specs.Coming.{ComesOn, IsFresh, IsPart};
 ghost use Rattle.vat_log.specs.Log.{version_number};
 ghost use Rattle.vat_log.specs.Reading.{header_of, log_of};
 ghost use Rattle.vat_log.specs.Runs.{BeginsWith, IsLongestRun, with_record};
 ghost use Rattle.vat_log.specs.Spelling.{log_bytes};
-ghost use Rattle.vat_log.specs.Streams.{MayBeAll, NoLogBegins, StreamStopsBy};
+ghost use Rattle.vat_log.specs.Streams.{NoLogBegins, StreamStopsBy};
 ghost use Rattle.vat_log.specs.Windows.{StopsHere};
 
 use crate::body::Body;
@@ -31,7 +32,7 @@ const HEADER: usize = 12;
 const PIECE: usize = 262_144;
 
 /// A log that comes in pieces and is read record by record, through a window that has the bytes that aren't read yet. To a
-/// contract it is the bytes that came so far, whether they are all, and the log with the records that were given so far.
+/// contract it is what came so far, and the log with the records that were given so far.
 pub struct LogStream<P: Pieces> {
     pieces: P,
     window: Bytes,
@@ -60,6 +61,7 @@ impl<P: Pieces + Drop> Drop for LogStream<P> {
 
 impl<P: Pieces> Model for LogStream<P> {
     ghost use Rattle.std.specs.Prelude.{◌≡◌, length, reverse};
+    ghost use Rattle.byte_pieces.specs.Coming.{IsPart};
     ghost use Rattle.vat_log.specs.Fits.{record_limit};
     ghost use Rattle.vat_log.specs.Streams.{StreamSoFar};
     ghost use Rattle.vat_log.specs.Windows.{HoldsRest};
@@ -67,13 +69,13 @@ impl<P: Pieces> Model for LogStream<P> {
     ghost Value = { StreamSoFar };
 
     ghost view = { λ stream. record {
-      bytes = P.came stream.pieces;
-      is_over = P.is_over stream.pieces;
+      came = P.so_far stream.pieces;
       log = record { version = stream.version; vat = stream.vat; records = reverse stream.given.items };
     } };
 
-    ghost invariant = { λ stream. (length stream.given.items ≡ stream.count)
-        × HoldsRest record_limit (P.came stream.pieces) stream.window
+    ghost invariant = { λ stream. IsPart (P.so_far stream.pieces)
+        × (length stream.given.items ≡ stream.count)
+        × HoldsRest record_limit (P.so_far stream.pieces).bytes stream.window
         (record { version = stream.version; vat = stream.vat; records = reverse stream.given.items })
         stream.begin stream.at };
 }
@@ -105,11 +107,12 @@ fn read_header(bytes: &[u8]) -> Result<LogHeader, LogError>
 
 /// The first bytes of a log, in which its header is whole, or all where there are fewer.
 fn first_window<P: Pieces>(alloc: Global, pieces: &mut P) -> Result<Bytes, ReadFault>
-    requires { P.came pieces.old ≡ [] }
-    ensures came { IfOk result (λ window. P.came pieces.new ≡ window) }
-    ensures long { IfOk result (λ window. length window < 12 → P.is_over pieces.new ≡ true) }
-    ensures err { IfErr result (λ fault.
-        NoLogBegins fault (P.came pieces.new) (P.is_over pieces.new)) }
+    requires { IsFresh (P.so_far pieces.old) }
+    ensures on { ComesOn (P.so_far pieces.old) (P.so_far pieces.new) }
+    ensures came { IfOk result (λ window. (P.so_far pieces.new).bytes ≡ window) }
+    ensures part { IsPart (P.so_far pieces.new) }
+    ensures long { IfOk result (λ window. length window < 12 → (P.so_far pieces.new).is_over ≡ true) }
+    ensures err { IfErr result (λ fault. NoLogBegins fault (P.so_far pieces.new)) }
 {
     let mut window = Bytes::new();
     while window.len() < HEADER {
@@ -129,11 +132,13 @@ impl<P: Pieces> LogStream<P> {
     /// The fault of the header, by which no log begins: `BadMagic`, or `Short(8)` where the vat is cut; or that the bytes
     /// can't be read, or that memory was refused. The pieces are handed back, too.
     pub fn begin(alloc: Global, pieces: P) -> Result<LogStream<P>, (ReadFault, P)>
-        requires { P.came pieces ≡ [] }
-        ensures header { IfOk result (λ stream. header_of stream.bytes ≡ Ok stream.log) }
-        ensures begun { IfOk result (λ stream. BeginsWith stream.bytes stream.log) }
-        ensures err { IfErr result (λ refused.
-            NoLogBegins refused.0 (P.came refused.1) (P.is_over refused.1)) }
+        requires { IsFresh (P.so_far pieces) }
+        ensures on { IfOk result (λ stream. ComesOn (P.so_far pieces) stream.came) }
+        ensures header { IfOk result (λ stream. header_of stream.came.bytes ≡ Ok stream.log) }
+        ensures begun { IfOk result (λ stream. BeginsWith stream.came.bytes stream.log) }
+        ensures back { IfErr result (λ refused. ComesOn (P.so_far pieces) (P.so_far refused.1)
+            × IsPart (P.so_far refused.1)) }
+        ensures err { IfErr result (λ refused. NoLogBegins refused.0 (P.so_far refused.1)) }
     {
         let mut pieces = pieces;
         match first_window(alloc, &mut pieces) {
@@ -147,15 +152,15 @@ impl<P: Pieces> LogStream<P> {
 
     /// What begins with these bytes, in which the header is whole, or all are there.
     fn headed(pieces: P, window: Bytes) -> Result<LogStream<P>, (LogError, P)>
-        requires came { P.came pieces ≡ window }
-        requires long { length window < 12 → P.is_over pieces ≡ true }
-        ensures bytes { IfOk result (λ stream. stream.bytes ≡ window) }
-        ensures over { IfOk result (λ stream. stream.is_over ≡ P.is_over pieces) }
+        requires came { (P.so_far pieces).bytes ≡ window }
+        requires part { IsPart (P.so_far pieces) }
+        requires long { length window < 12 → (P.so_far pieces).is_over ≡ true }
+        ensures came { IfOk result (λ stream. stream.came ≡ P.so_far pieces) }
         ensures header { IfOk result (λ stream. header_of window ≡ Ok stream.log) }
         ensures begun { IfOk result (λ stream. BeginsWith window stream.log) }
         ensures pieces { IfErr result (λ refused. refused.1 ≡ pieces) }
         ensures err { IfErr result (λ refused.
-            NoLogBegins (ReadFault.Bad refused.0) window (P.is_over pieces)) }
+            NoLogBegins (ReadFault.Bad refused.0) (P.so_far pieces)) }
     {
         are_octets(window.as_slice());
         match read_header(window.as_slice()) {
@@ -207,15 +212,15 @@ impl<P: Pieces> LogStream<P> {
 
     /// How many bytes came behind the records that were given.
     pub fn unread(&self) -> usize
-        ensures { length self.now.bytes ≡ length (log_bytes self.now.log) + result }
+        ensures { length self.now.came.bytes ≡ length (log_bytes self.now.log) + result }
     {
         self.window.len() - self.at
     }
 
     /// From where the bytes come.
     pub fn pieces(&self) -> &P
-        ensures came { P.came result.now ≡ self.now.bytes }
-        ensures over { P.is_over result.now ≡ self.now.is_over }
+        ensures came { P.so_far result.now ≡ self.now.came }
+        ensures part { IsPart self.now.came }
     {
         &self.pieces
     }
@@ -229,14 +234,13 @@ impl<P: Pieces> LogStream<P> {
     /// read, or that memory was refused. The stream stays in front of the record, so it can be asked again.
     pub fn next(&mut self, alloc: Global) -> Result<Option<Record>, ReadFault>
         // What came before still comes first, and where it was over nothing more came.
-        ensures bytes { MayBeAll self.old.bytes self.old.is_over self.new.bytes }
-        ensures over { self.old.is_over ≡ true → self.new.is_over ≡ true }
+        ensures on { ComesOn self.old.came self.new.came }
         // What was given is a run of whole records with which the bytes begin.
-        ensures begun { BeginsWith self.new.bytes self.new.log }
+        ensures begun { BeginsWith self.new.came.bytes self.new.log }
         // A record is the next one; at the end all were given, and no more stand there whole.
         ensures given { IfOk result (λ next. MatchOption next
-            ((self.new.log ≡ self.old.log) × (self.new.is_over ≡ true)
-            × (log_of self.new.bytes ≡ Ok self.old.log) × IsLongestRun self.new.bytes self.old.log)
+            ((self.new.log ≡ self.old.log) × (self.new.came.is_over ≡ true)
+            × (log_of self.new.came.bytes ≡ Ok self.old.log) × IsLongestRun self.new.came.bytes self.old.log)
             (λ entry. self.new.log ≡ with_record entry self.old.log)) }
         // Why there is no next one.
         ensures err { IfErr result (λ fault. (self.new.log ≡ self.old.log) × StreamStopsBy fault self.new) }
@@ -264,10 +268,10 @@ impl<P: Pieces> LogStream<P> {
     /// that memory was refused. The stream stays in front of the record, so it can be asked again.
     pub fn next_ready(&mut self, alloc: Global) -> Result<Option<Record>, ReadFault>
         // What was given is a run of whole records with which the bytes begin.
-        ensures begun { BeginsWith self.new.bytes self.new.log }
+        ensures begun { BeginsWith self.new.came.bytes self.new.log }
         // A record is the next one; where none is given nothing changed, and none stands there whole.
         ensures given { IfOk result (λ next. MatchOption next
-            ((self.new ≡ self.old) × IsLongestRun self.old.bytes self.old.log)
+            ((self.new ≡ self.old) × IsLongestRun self.old.came.bytes self.old.log)
             (λ entry. self.new ≡ record self.old { log = with_record entry self.old.log })) }
         // Why there is no next one, whatever comes.
         ensures err { IfErr result (λ fault. (self.new ≡ self.old) × StreamStopsBy fault self.old) }
@@ -284,7 +288,7 @@ impl<P: Pieces> LogStream<P> {
     fn next_here(&mut self, alloc: Global) -> Result<Record, Stop>
         ensures ok { IfOk result (λ entry. self.new
             ≡ record self.old { log = with_record entry self.old.log }) }
-        ensures begun { BeginsWith self.new.bytes self.new.log }
+        ensures begun { BeginsWith self.new.came.bytes self.new.log }
         ensures err { IfErr result (λ stop. (self.new ≡ self.old) × StopsHere stop self.old) }
     {
         if self.at >= self.window.len() {
@@ -305,12 +309,11 @@ impl<P: Pieces> LogStream<P> {
     #[cold]
     #[inline(never)]
     fn next_behind(&mut self, alloc: Global) -> Result<Option<Record>, ReadFault>
-        ensures bytes { MayBeAll self.old.bytes self.old.is_over self.new.bytes }
-        ensures over { self.old.is_over ≡ true → self.new.is_over ≡ true }
-        ensures begun { BeginsWith self.new.bytes self.new.log }
+        ensures on { ComesOn self.old.came self.new.came }
+        ensures begun { BeginsWith self.new.came.bytes self.new.log }
         ensures given { IfOk result (λ next. MatchOption next
-            ((self.new.log ≡ self.old.log) × (self.new.is_over ≡ true)
-            × (log_of self.new.bytes ≡ Ok self.old.log) × IsLongestRun self.new.bytes self.old.log)
+            ((self.new.log ≡ self.old.log) × (self.new.came.is_over ≡ true)
+            × (log_of self.new.came.bytes ≡ Ok self.old.log) × IsLongestRun self.new.came.bytes self.old.log)
             (λ entry. self.new.log ≡ with_record entry self.old.log)) }
         ensures err { IfErr result (λ fault. (self.new.log ≡ self.old.log) × StreamStopsBy fault self.new) }
     {
@@ -333,13 +336,12 @@ impl<P: Pieces> LogStream<P> {
 
     /// The next record, where no more bytes come.
     fn last(&mut self, alloc: Global) -> Result<Option<Record>, ReadFault>
-        requires { self.old.is_over ≡ true }
-        ensures bytes { self.new.bytes ≡ self.old.bytes }
-        ensures over { self.new.is_over ≡ true }
-        ensures begun { BeginsWith self.new.bytes self.new.log }
+        requires { self.old.came.is_over ≡ true }
+        ensures came { self.new.came ≡ self.old.came }
+        ensures begun { BeginsWith self.new.came.bytes self.new.log }
         ensures given { IfOk result (λ next. MatchOption next
             ((self.new.log ≡ self.old.log)
-            × (log_of self.new.bytes ≡ Ok self.old.log) × IsLongestRun self.new.bytes self.old.log)
+            × (log_of self.new.came.bytes ≡ Ok self.old.log) × IsLongestRun self.new.came.bytes self.old.log)
             (λ entry. self.new.log ≡ with_record entry self.old.log)) }
         ensures err { IfErr result (λ fault. (self.new ≡ self.old) × StreamStopsBy fault self.new) }
     {
@@ -355,13 +357,12 @@ impl<P: Pieces> LogStream<P> {
     /// came: 0 where no more do.
     fn fill(&mut self, alloc: Global, wanted: usize) -> Result<usize, ReadFault>
         ensures log { self.new.log ≡ self.old.log }
-        ensures bytes { MayBeAll self.old.bytes self.old.is_over self.new.bytes }
-        ensures over { self.old.is_over ≡ true → self.new.is_over ≡ true }
-        ensures begun { BeginsWith self.new.bytes self.new.log }
-        ensures more { IfOk result (λ came. length self.new.bytes ≡ length self.old.bytes + came) }
-        ensures none { IfOk result (λ came. came ≡ 0 → self.new.is_over ≡ true) }
+        ensures on { ComesOn self.old.came self.new.came }
+        ensures begun { BeginsWith self.new.came.bytes self.new.log }
+        ensures more { IfOk result (λ came. length self.new.came.bytes ≡ length self.old.came.bytes + came) }
+        ensures none { IfOk result (λ came. came ≡ 0 → self.new.came.is_over ≡ true) }
         ensures err { IfErr result (λ fault. StreamStopsBy fault self.new) }
-        ensures bound { length self.new.bytes < length (log_bytes self.new.log) + 2 ^ 63 }
+        ensures bound { length self.new.came.bytes < length (log_bytes self.new.log) + 2 ^ 63 }
     {
         let unread = self.window.len() - self.at;
         let Some(begin) = self.begin.checked_add(self.at as u64) else {
@@ -387,8 +388,8 @@ impl LogStream<NoMore> {
     ///
     /// The fault of the header, by which no log begins: `BadMagic`, or `Short(8)` where the vat is cut.
     pub fn of(bytes: Bytes) -> Result<LogStream<NoMore>, LogError>
-        ensures bytes { IfOk result (λ stream. stream.bytes ≡ bytes) }
-        ensures over { IfOk result (λ stream. stream.is_over ≡ true) }
+        ensures bytes { IfOk result (λ stream. stream.came.bytes ≡ bytes) }
+        ensures over { IfOk result (λ stream. stream.came.is_over ≡ true) }
         ensures header { IfOk result (λ stream. header_of bytes ≡ Ok stream.log) }
         ensures begun { IfOk result (λ stream. BeginsWith bytes stream.log) }
         ensures err { IfErr result (λ e. (header_of bytes ≡ Err e) × (log_of bytes ≡ Err e)) }

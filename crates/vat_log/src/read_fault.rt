@@ -1,7 +1,7 @@
 //! Why no more is read of a log that comes in pieces.
 
-ghost use Rattle.std.specs.Prelude.{◌≡◌, IfSome};
-ghost use Rattle.vat_log.specs.Windows.{FaultFrom, StopFrom, counted_from, fault_of_piece};
+ghost use Rattle.std.specs.Prelude.{◌≡◌, ◌≤◌, ◌^◌, IfNone, IfSome};
+ghost use Rattle.vat_log.specs.Windows.{FaultFrom, StopFrom, counted_from, fault_of_piece, place_of};
 
 use crate::error::LogError;
 use byte_pieces::PieceFault;
@@ -11,7 +11,7 @@ use byte_pieces::PieceFault;
 pub enum ReadFault {
     /// This is the first fault of its bytes, whatever comes behind those that came. It isn't `OutOfMemory`.
     Bad(LogError),
-    /// Its bytes can't be read.
+    /// Its bytes can't be read, or are 2^64 or more.
     CannotRead,
     /// A growth of memory was refused.
     OutOfMemory,
@@ -32,7 +32,8 @@ impl From<PieceFault> for ReadFault {
 
 /// The fault with its offset counted from so many bytes before; none where that is no number of 64 bits.
 fn counted_from(begin: u64, fault: LogError) -> Option<LogError>
-    ensures { IfSome result (λ e. e ≡ counted_from begin fault) }
+    ensures some { IfSome result (λ e. e ≡ counted_from begin fault) }
+    ensures none { IfNone result (2 ^ 64 ≤ place_of (counted_from begin fault)) }
 {
     match fault {
         LogError::Short(at) => Some(LogError::Short(begin.checked_add(at)?)),

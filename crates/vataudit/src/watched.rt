@@ -18,9 +18,7 @@ pub struct CountedReader<'a, P> {
 }
 
 impl<P: Pieces> Pieces for CountedReader<'_, P> {
-    ghost came = { λ counted. P.came counted.reader };
-
-    ghost is_over = { λ counted. P.is_over counted.reader };
+    ghost so_far = { λ counted. P.so_far counted.reader };
 
     fn more(
         &mut self,

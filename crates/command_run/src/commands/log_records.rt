@@ -1,6 +1,7 @@
 //! The records of a log, line by line.
 
 ghost use Rattle.std.specs.Prelude.{◌≡◌, [], IfOk, OnOk};
+ghost use Rattle.byte_pieces.specs.Coming.{ComesOn};
 ghost use Rattle.case_files.specs.CaseReading.{Read};
 ghost use Rattle.report_lines.specs.Lines.{line};
 ghost use Rattle.report_lines.specs.RecordText.{record_text};
@@ -89,8 +90,9 @@ fn list_stream<P: Pieces, O: Output>(
     out: &mut O,
 ) -> Result<Result<(), ReadFault>, O::Error>
     requires out { O.can_write out.old }
-    requires begun { BeginsWith stream.old.bytes stream.old.log }
+    requires begun { BeginsWith stream.old.came.bytes stream.old.log }
     requires none { stream.old.log.records ≡ [] }
+    ensures on { ComesOn stream.old.came stream.new.came }
     ensures lines { Lists range.from range.count (Adds O.contents) stream.new out.old out.new result }
     ensures more { OnOk result (O.can_write out.new) }
 {
@@ -120,7 +122,7 @@ fn ended<S: Source>(
     listed: Result<(), ReadFault>,
 ) -> Result<(), Fault>
     ensures { (read : Read) × S.read_gives source.old name.now read source.new
-        × ListingEndsSo read listed (S.Reader.came reader.now) (S.Reader.is_over reader.now) result }
+        × ListingEndsSo read listed (S.Reader.so_far reader.now) result }
 {
     let cannot_read = matches!(listed, Err(ReadFault::CannotRead));
     source.close(name, reader, cannot_read)?;
@@ -170,7 +172,7 @@ pub fn say_records<S: Source, O: Output, H: Hears>(
 ) -> Result<u8, O::Error>
     requires { O.can_write out.old }
     ensures { (read : Read) × S.read_gives source.old name.now read source.new
-        × Prints (AnswersLogRecords range.from range.count read)
+        × Prints (AnswersLogRecords (S.holds source.old name.now) range.from range.count read)
         (Wrote O.contents O.is_finished) out.old out.new result }
 {
     match LogStream::begin(alloc, source.open(name)) {

@@ -23,7 +23,7 @@ fn ended<S: Source>(
     reader: &S::Reader,
     found: Result<SlimFinding, ReadFault>,
 ) -> Result<SlimFinding, Fault>
-    requires { IsAudited found (S.Reader.came reader.now) (S.Reader.is_over reader.now) }
+    requires { IsAudited found (S.Reader.so_far reader.now) }
     ensures { (read : Read) × S.read_gives source.old name.now read source.new
         × AnswersSource read (line (answer_text (answer_of result)))
         (answer_status (answer_of result)) }

@@ -16,7 +16,7 @@ loop-place-preserved g c =
       omega (arith, lt),
       λ logs whole. (
           let w = whole_at c.args.lanes.now logs place c.index-lanes-place.result whole (item_at c.args.lanes.now place c.index-lanes-place.result lt c.index-lanes-place.is) in
-          let so = whole_lane c.index-lanes-place.result w.0 (g.S.Reader.Pieces.came c.pieces.result.now) (g.S.Reader.Pieces.is_over c.pieces.result.now) w.2 c.pieces.ensures in
+          let so = whole_lane c.index-lanes-place.result w.0 (g.S.Reader.Pieces.so_far c.pieces.result.now) w.2 c.pieces.ensures in
           let comes = rw c.as_str.ensures.value at (c.in_ok-close_whole.ensures w.0 so.0 so.1) in
           one_closed g.S.Source.read_gives (map string_bytes c.args.names.now) c.args.source.now c.loop-place.source c.close_whole.new.source place (string_bytes c.index-names-place.result) logs w.0
           (name_at c.args.names.now place c.index-names-place.result (let named = c.requires in omega (arith, lt, named)) c.index-names-place.is) w.1 (c.loop-place.invariant.1 logs whole) comes
@@ -29,7 +29,7 @@ returns-in_err-close_whole g c = λ logs whole.
     let place = c.loop-place.place in
     let lt : place < length c.args.lanes.now = (let long = c.loop-place.auto.place-end in let inside = c.loop-place-test.true in omega (arith, long, inside)) in
     let w = whole_at c.args.lanes.now logs place c.index-lanes-place.result whole (item_at c.args.lanes.now place c.index-lanes-place.result lt c.index-lanes-place.is) in
-    let so = whole_lane c.index-lanes-place.result w.0 (g.S.Reader.Pieces.came c.pieces.result.now) (g.S.Reader.Pieces.is_over c.pieces.result.now) w.2 c.pieces.ensures in
+    let so = whole_lane c.index-lanes-place.result w.0 (g.S.Reader.Pieces.so_far c.pieces.result.now) w.2 c.pieces.ensures in
     let comes = rw c.as_str.ensures.value at (c.in_err-close_whole.ensures w.0 so.0 so.1) in
     rw (p.1, p.2) (one_fails g.S.Source.read_gives (map string_bytes c.args.names.now) c.args.source.now c.loop-place.source c.close_whole.new.source place (string_bytes c.index-names-place.result) (take place logs) c.in_err-close_whole.field-0.0
     (name_at c.args.names.now place c.index-names-place.result (let named = c.requires in omega (arith, lt, named)) c.index-names-place.is) (c.loop-place.invariant.1 logs whole) comes)

@@ -12,13 +12,12 @@ returns-in_err-close-clause-comes g c = λ given so.
 
 pub returns-in_default-fault-clause-comes : goal.returns-in_default-fault-clause-comes
 returns-in_default-fault-clause-comes g c = λ given so.
-    let came = g.S.Reader.Pieces.came in
-    let over = g.S.Reader.Pieces.is_over in
+    let so_far = g.S.Reader.Pieces.so_far in
     let file = c.in-Some-Some.order in
     let opened = rw (c.in-Some-Some.is-0, c.in-Some-Some.is-1) at so in
     let closed = rw c.as_str.ensures.value at c.in_ok-close.ensures in
-    let one = order_of_file came over (string_bytes c.in-Some-Some.name) given file opened c.in_default-fault.is in
-    rw (c.in-Some-Some.is-0, one.1) (read_order g.S.Source.read_gives c.args.source.now c.close.new.self (string_bytes c.in-Some-Some.name) (came file.reader) (over file.reader) one.0 false closed one.2)
+    let one = order_of_file so_far (string_bytes c.in-Some-Some.name) given file opened c.in_default-fault.is in
+    rw (c.in-Some-Some.is-0, one.1) (read_order g.S.Source.read_gives c.args.source.now c.close.new.self (string_bytes c.in-Some-Some.name) (so_far file.reader) one.0 false closed one.2)
 
 pub returns-in_err-close-in-CannotRead-clause-comes : goal.returns-in_err-close-in-CannotRead-clause-comes
 returns-in_err-close-in-CannotRead-clause-comes g c = λ given so.
@@ -34,10 +33,9 @@ returns-in_err-close-in-Bad-clause-comes g c = λ given so.
 
 pub returns-in_ok-close-in-Bad-clause-comes : goal.returns-in_ok-close-in-Bad-clause-comes
 returns-in_ok-close-in-Bad-clause-comes g c = λ given so.
-    let came = g.S.Reader.Pieces.came in
-    let over = g.S.Reader.Pieces.is_over in
+    let so_far = g.S.Reader.Pieces.so_far in
     let file = c.in-Some-Some.order in
     let opened = rw (c.in-Some-Some.is-0, c.in-Some-Some.is-1) at so in
     let closed = rw c.as_str-in-Bad.ensures.value at c.in_ok-close-in-Bad.ensures in
-    let bad = fault_of_file came over (string_bytes c.in-Some-Some.name) given file (Bad c.in-Bad.found) opened (c.in-Some.is ∙ ap (λ f. Some f) c.in-Bad.is) in
-    rw (c.in-Some-Some.is-0, c.from.ensures) (bad_order g.S.Source.read_gives c.args.source.now c.close-in-Bad.new.self (string_bytes c.in-Some-Some.name) (came file.reader) (over file.reader) c.in-Bad.found false closed bad)
+    let bad = fault_of_file so_far (string_bytes c.in-Some-Some.name) given file (Bad c.in-Bad.found) opened (c.in-Some.is ∙ ap (λ f. Some f) c.in-Bad.is) in
+    rw (c.in-Some-Some.is-0, c.from.ensures) (bad_order g.S.Source.read_gives c.args.source.now c.close-in-Bad.new.self (string_bytes c.in-Some-Some.name) (so_far file.reader) c.in-Bad.found false closed bad)

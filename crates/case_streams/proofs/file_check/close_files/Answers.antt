@@ -11,7 +11,7 @@ returns-clause-comes g c = λ whole given are opened.
     let gives = g.S.Source.read_gives in
     let names = map string_bytes c.args.names.now in
     let none = c.in_ok-close_headless.ensures.ok in
-    let many = all_named g.S.Reader.Pieces.came g.S.Reader.Pieces.is_over (length c.args.names.now) c.args.logs.now c.requires none.1 in
+    let many = all_named g.S.Reader.Pieces.so_far (length c.args.names.now) c.args.logs.now c.requires none.1 in
     let up = rw c.deref.ensures.value at (c.in_ok-close_logs.ensures whole (rw c.deref.ensures.value are)) in
     let come = all_closed gives names c.args.source.now c.close_logs.new.source (length c.args.logs.now.lanes.items) whole (let long = length-map c.args.names.now string_bytes in omega (arith, many, long)) up in
     inr (files_come gives names (option_map string_bytes c.args.order_name.now) c.args.source.now c.close_order.new.source whole given c.close_logs.new.source c.close_order.result come

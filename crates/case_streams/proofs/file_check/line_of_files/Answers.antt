@@ -11,9 +11,9 @@ pub answer_of-requires-after_bounds : goal.answer_of-requires-after_bounds
 answer_of-requires-after_bounds g c = λ κs lts.
     let logs = c.in_ok-logs.logs in
     let long : length c.check_streams.new.lanes ≡ length logs.lanes.items = c.check_streams.auto.lanes ∙ ap (λ ls. length ls) c.deref_mut.ensures.value in
-    open_again g.S.Reader.Pieces.came g.S.Reader.Pieces.is_over (length c.deref-2.result.now) logs (record { lanes = with_items logs.lanes c.check_streams.new.lanes; headless = logs.headless }) refl
+    open_again g.S.Reader.Pieces.so_far (length c.deref-2.result.now) logs (record { lanes = with_items logs.lanes c.check_streams.new.lanes; headless = logs.headless }) refl
     (ap (λ ls. length ls) (with_items_is logs.lanes c.check_streams.new.lanes (long ∙ sym logs.lanes.ok.0)) ∙ long)
-    (subst (λ (n : ℕ). AreOpen g.S.Reader.Pieces.came g.S.Reader.Pieces.is_over n logs) (ap (λ ns. length ns) (c.deref.ensures.value ∙ sym c.deref-2.ensures.value)) c.in_ok-logs.ensures.all)
+    (subst (λ (n : ℕ). AreOpen g.S.Reader.Pieces.so_far n logs) (ap (λ ns. length ns) (c.deref.ensures.value ∙ sym c.deref-2.ensures.value)) c.in_ok-logs.ensures.all)
 
 pub returns : goal.returns
 returns g c =

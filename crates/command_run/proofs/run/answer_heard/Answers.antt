@@ -22,7 +22,7 @@ returns-in-Records g c =
     rw c.in-Records.is (
       said.0,
       said.1,
-      lines_written (AnswersLogRecords c.in-Records.from c.in-Records.count said.0) (Wrote g.O.Output.contents g.O.Output.is_finished) (Wrote g.F.Output.contents g.F.Output.is_finished) c.args.out.now
+      lines_written (AnswersLogRecords (g.S.Source.holds c.args.source.now c.in-Records.name.now) c.in-Records.from c.in-Records.count said.0) (Wrote g.O.Output.contents g.O.Output.is_finished) (Wrote g.F.Output.contents g.F.Output.is_finished) c.args.out.now
           c.say_records.new.out c.args.file.now c.say_records.result c.of_lines-in-Records.result c.of_lines-in-Records.ensures said.2,
     )
 

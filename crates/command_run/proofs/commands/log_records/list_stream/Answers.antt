@@ -1,4 +1,5 @@
 use Rattle.std.proofs.Common.{◌≡◌, ◌∙◌, ap}
+use Rattle.byte_pieces.proofs.Coming.{comes_same, comes_then}
 use Rattle.vat_log.specs.Runs.{with_record}
 use Rattle.vat_rules.specs.Audit.{edition_of_version}
 use Rattle.command_run.specs.RecordAnswers.{listing}
@@ -11,12 +12,13 @@ loop-event-init g c = (
   none_listed c.args.range.from c.args.range.count c.edition_of_header-edition.result c.args.stream.now (g.O.Output.contents c.args.out.now) c.requires.begun c.requires.none
       (c.edition_of_header-edition.ensures ∙ ap edition_of_version c.header.ensures.version),
   c.requires.out,
+  comes_same c.args.stream.now.came,
 )
 
 pub returns-in_err-put_numbered-in-Ok-Some-clause-lines : goal.returns-in_err-put_numbered-in-Ok-Some-clause-lines
 returns-in_err-put_numbered-in-Ok-Some-clause-lines g c =
     torn_listing _ g.O.Output.contents c.args.range.from c.args.range.count c.loop-event.stream c.next.new.self c.args.out.now c.put_numbered.new.out c.from_residual.result
-    c.loop-event.invariant.0.begins c.next.ensures.bytes c.from_residual.ensures.1
+    c.loop-event.invariant.0.begins c.next.ensures.on c.from_residual.ensures.1
 
 pub loop-event-preserved : goal.loop-event-preserved
 loop-event-preserved g c =
@@ -36,12 +38,14 @@ loop-event-preserved g c =
             one_listed first many edition read old now c.loop-event.invariant.0 next event c.next.ensures.begun is (g.O.Output.contents w.put_numbered.new.out) c.given-number.result c.has.result _
                 c.given-number.ensures c.has.ensures w.if-has.true w.in-Ok.ensures w.in_ok-put_numbered-in-Ok-Some.ensures.line,
             w.in_ok-put_numbered-in-Ok-Some.ensures.more,
+            comes_then c.args.stream.now.came read.came next.came c.loop-event.invariant.2 c.next.ensures.on,
           )
       | else-has w ↦
           rw w.out-is (
             one_passed first many edition read old now c.loop-event.invariant.0 next event c.next.ensures.begun is c.given-number.result c.has.result c.given-number.ensures c.has.ensures
                 w.if-has.false,
             c.loop-event.invariant.1,
+            comes_then c.args.stream.now.came read.came next.came c.loop-event.invariant.2 c.next.ensures.on,
           )
     ]
 

@@ -11,7 +11,7 @@ invariant_of-result g c =
     let octets = subst (All (λ octet. octet < 2 ^ 8)) c.as_slice.ensures c.are_octets.ensures in
     let read = subst (λ (bytes : List ℕ). header_of bytes ≡ Ok (headed header.version header.vat)) c.as_slice-2.ensures c.in-Ok.ensures.ok in
     let holds = holds_header window header.version header.vat octets read in
-    rw c.new.ensures (refl, subst (λ (came : List ℕ). Holds came window (headed header.version header.vat) 0 12) (sym c.requires.came) holds)
+    rw c.new.ensures (c.requires.part, refl, subst (λ (came : List ℕ). Holds came window (headed header.version header.vat) 0 12) (sym c.requires.came) holds)
 
 pub returns-in-Ok-clause-begun : goal.returns-in-Ok-clause-begun
 returns-in-Ok-clause-begun g c =
@@ -26,4 +26,5 @@ pub returns-in-Err-clause-err : goal.returns-in-Err-clause-err
 returns-in-Err-clause-err g c =
     let e = c.in-Err.fault in
     let read = subst (λ (bytes : List ℕ). header_of bytes ≡ Err e) c.as_slice-2.ensures c.in-Err.ensures.err in
-    no_log_begins c.args.window (g.P.Pieces.is_over c.args.pieces) e read c.requires.long
+    let came = g.P.Pieces.so_far c.args.pieces in
+    rw c.requires.came (no_log_begins c.args.window came.is_over e read c.requires.long)

@@ -12,30 +12,30 @@ use Rattle.vat_log.proofs.log_stream.LogStream.next_here.Goals as goal
 pub returns-then-self-len-clause-err : goal.returns-then-self-len-clause-err
 returns-then-self-len-clause-err g c =
     let kept = c.self.inside in
-    let came = g.P.Pieces.came kept.pieces in
+    let came = (g.P.Pieces.so_far kept.pieces).bytes in
     let past : length kept.window ≤ kept.at = omega (arith, c.len.ensures.value) in
-    rw (← c.self.view_is) (refl, read_to_end came kept.window (log_given kept.version kept.vat kept.given.items) kept.begin kept.at c.self.invariant.1 past)
+    rw (← c.self.view_is) (refl, read_to_end came kept.window (log_given kept.version kept.vat kept.given.items) kept.begin kept.at c.self.invariant.1.1 past)
 
 -- a record is given
 
 pub overflow_add-self : goal.overflow_add-self
 overflow_add-self g c =
     let kept = c.self.inside in
-    let few : length (reverse kept.given.items) ≤ record_limit = c.self.invariant.1.fits.counted in
-    omega (arith, c.self.invariant.0, length-reverse kept.given.items, few, limit_is)
+    let few : length (reverse kept.given.items) ≤ record_limit = c.self.invariant.1.1.fits.counted in
+    omega (arith, c.self.invariant.1.0, length-reverse kept.given.items, few, limit_is)
 
 pub invariant_of-self : goal.invariant_of-self
 invariant_of-self g c =
     let kept = c.self.inside in
-    let came = g.P.Pieces.came kept.pieces in
+    let came = (g.P.Pieces.so_far kept.pieces).bytes in
     rw (c.with-self-inside.ensures, c.body.ensures.value)
-    (taken_on came kept.window kept.version kept.vat kept.given.items kept.count kept.begin kept.at c.in-Ok.entry c.in-Ok.after c.self.invariant c.in-Ok.ensures.gives)
+    (c.self.invariant.0, taken_on came kept.window kept.version kept.vat kept.given.items kept.count kept.begin kept.at c.in-Ok.entry c.in-Ok.after c.self.invariant.1 c.in-Ok.ensures.gives)
 
 pub returns-in-Ok-clause-begun : goal.returns-in-Ok-clause-begun
 returns-in-Ok-clause-begun g c =
     let kept = c.self.inside in
-    let came = g.P.Pieces.came kept.pieces in
-    let more = taken_on came kept.window kept.version kept.vat kept.given.items kept.count kept.begin kept.at c.in-Ok.entry c.in-Ok.after c.self.invariant c.in-Ok.ensures.gives in
+    let came = (g.P.Pieces.so_far kept.pieces).bytes in
+    let more = taken_on came kept.window kept.version kept.vat kept.given.items kept.count kept.begin kept.at c.in-Ok.entry c.in-Ok.after c.self.invariant.1 c.in-Ok.ensures.gives in
     rw (c.with-self-inside.ensures, c.body.ensures.value) (begins_with came kept.window _ kept.begin c.in-Ok.after more.1)
 
 -- no record is given
@@ -43,12 +43,12 @@ returns-in-Ok-clause-begun g c =
 pub returns-in-Err-clause-begun : goal.returns-in-Err-clause-begun
 returns-in-Err-clause-begun g c =
     let kept = c.self.inside in
-    let came = g.P.Pieces.came kept.pieces in
-    rw (← c.self.view_is) (begins_with came kept.window (log_given kept.version kept.vat kept.given.items) kept.begin kept.at c.self.invariant.1)
+    let came = (g.P.Pieces.so_far kept.pieces).bytes in
+    rw (← c.self.view_is) (begins_with came kept.window (log_given kept.version kept.vat kept.given.items) kept.begin kept.at c.self.invariant.1.1)
 
 pub returns-in-Err-clause-err : goal.returns-in-Err-clause-err
 returns-in-Err-clause-err g c =
     let kept = c.self.inside in
-    let came = g.P.Pieces.came kept.pieces in
+    let came = (g.P.Pieces.so_far kept.pieces).bytes in
     let lt : kept.at < length kept.window = omega (arith, c.len.ensures.value) in
-    rw (← c.self.view_is) (refl, stops_here came kept.window kept.version kept.vat kept.given.items kept.count kept.begin kept.at c.in-Err.fault (g.P.Pieces.is_over kept.pieces) c.at.result c.self.invariant lt c.in-Err.ensures.gives c.at.ensures)
+    rw (← c.self.view_is) (refl, stops_here (g.P.Pieces.so_far kept.pieces) kept.window kept.version kept.vat kept.given.items kept.count kept.begin kept.at c.in-Err.fault c.at.result c.self.invariant.1 lt c.in-Err.ensures.gives c.at.ensures)

@@ -58,8 +58,8 @@ three_follow P Q a b c x y z f g h = two_follow P Q (a ++ b) c (x ++ y) z (two_f
 -- the questions that a message uses, at its sender and at its receiver
 module _ (k c d : ℕ) (rs ss : List ℕ) (P Q : TableKey → Bool) (same : (n : ℕ) → P (id k true n) ≡ true → Q (id k false n) ≡ true) where
   targets_follow : (m : RpcMessage) → Follows P Q (option_to_list (question_targeted (Wire true k c rs m))) (option_to_list (question_targeted (Wire false k d ss m)))
-  targets_follow (Call q (Promised n path) i x b yourself) = one_follows P Q (id k true n) (id k false n) (same n)
-  targets_follow (Call q (Imported n) i x b yourself) = λ h. h
+  targets_follow (Call head (Promised n path) b) = one_follows P Q (id k true n) (id k false n) (same n)
+  targets_follow (Call head (Imported n) b) = λ h. h
   targets_follow (Disembargo q loopback (Promised n path)) = one_follows P Q (id k true n) (id k false n) (same n)
   targets_follow (Disembargo q loopback (Imported n)) = λ h. h
   targets_follow (Bootstrap q) = λ h. h
@@ -78,11 +78,11 @@ module _ (k c d : ℕ) (rs ss : List ℕ) (P Q : TableKey → Bool) (same : (n :
   finished_follow _ = λ h. h
 
   taken_follow : (m : RpcMessage) → Follows P Q (option_to_list (question_taken (Wire true k c rs m))) (option_to_list (question_taken (Wire false k d ss m)))
-  taken_follow (Return q release (TakeFrom n) light) = one_follows P Q (id k true n) (id k false n) (same n)
-  taken_follow (Return q release (Results payload) light) = λ h. h
-  taken_follow (Return q release Exception light) = λ h. h
-  taken_follow (Return q release Canceled light) = λ h. h
-  taken_follow (Return q release Elsewhere light) = λ h. h
+  taken_follow (Return head (TakeFrom n)) = one_follows P Q (id k true n) (id k false n) (same n)
+  taken_follow (Return head (Results payload)) = λ h. h
+  taken_follow (Return head Exception) = λ h. h
+  taken_follow (Return head Canceled) = λ h. h
+  taken_follow (Return head Elsewhere) = λ h. h
   taken_follow (Bootstrap q) = λ h. h
   taken_follow _ = λ h. h
 
@@ -92,8 +92,8 @@ module _ (k c d : ℕ) (rs ss : List ℕ) (P Q : TableKey → Bool) (same : (n :
 -- the numbers that it uses
 module _ (k c d : ℕ) (rs ss : List ℕ) (P Q : TableKey → Bool) (same : (n : ℕ) → P (id k false n) ≡ true → Q (id k true n) ≡ true) where
   number_targets_follow : (m : RpcMessage) → Follows P Q (option_to_list (number_targeted (Wire true k c rs m))) (option_to_list (number_targeted (Wire false k d ss m)))
-  number_targets_follow (Call q (Imported n) i x b yourself) = one_follows P Q (id k false n) (id k true n) (same n)
-  number_targets_follow (Call q (Promised n path) i x b yourself) = λ h. h
+  number_targets_follow (Call head (Imported n) b) = one_follows P Q (id k false n) (id k true n) (same n)
+  number_targets_follow (Call head (Promised n path) b) = λ h. h
   number_targets_follow (Disembargo q loopback (Imported n)) = one_follows P Q (id k false n) (id k true n) (same n)
   number_targets_follow (Disembargo q loopback (Promised n path)) = λ h. h
   number_targets_follow (Bootstrap q) = λ h. h
@@ -171,13 +171,13 @@ module _ (k : ℕ) (from to : Past) (linked : AreLinked k from to) (same : strea
 
   opens_there : (c d : ℕ) (rs ss : List ℕ) (m : RpcMessage) → OpensFree from (Wire true k c rs m) → OpensFree to (Wire false k d ss m)
   opens_there c d rs ss (Bootstrap q) h = free_there q h
-  opens_there c d rs ss (Call q target i x b yourself) h = free_there q h
+  opens_there c d rs ss (Call head target b) h = free_there head.question h
   opens_there c d rs ss _ h = tt
 
   numbers_there : (c d : ℕ) (rs ss : List ℕ) (m : RpcMessage) → UsesNumbers from (Wire true k c rs m) → UsesNumbers to (Wire false k d ss m)
   numbers_there c d rs ss m h = numbers_follow k c d rs ss (λ i. is_in_life i from) (λ i. is_in_life i to) alive_there m h
 
-  questions_there : (c d : ℕ) (rs ss : List ℕ) (m : RpcMessage) → ((q : ℕ) (release : Bool) → answers q m ≡ true → is_unreturned (id k true q) to ≡ true) → UsesQuestions from (Wire true k c rs m) → UsesQuestions to (Wire false k d ss m)
+  questions_there : (c d : ℕ) (rs ss : List ℕ) (m : RpcMessage) → ((q : ℕ) → answers q m ≡ true → is_unreturned (id k true q) to ≡ true) → UsesQuestions from (Wire true k c rs m) → UsesQuestions to (Wire false k d ss m)
   questions_there c d rs ss m due h = record {
     used = questions_follow k c d rs ss (λ q. is_unfinished q from) (λ q. is_unfinished q to) unfinished_there m h.used;
     returned_once = once m due;
@@ -186,16 +186,16 @@ module _ (k : ℕ) (from to : Past) (linked : AreLinked k from to) (same : strea
     where
       taking : (m : RpcMessage) → IfSome (question_taken (Wire true k c rs m)) (λ q. (is_tail (opening q from) && not (is_taken q from)) ≡ true) →
           IfSome (question_taken (Wire false k d ss m)) (λ q. (is_tail (opening q to) && not (is_taken q to)) ≡ true)
-      taking (Return q release (TakeFrom n) light) g = may_take_there n g
-      taking (Return q release (Results payload) light) g = tt
-      taking (Return q release Exception light) g = tt
-      taking (Return q release Canceled light) g = tt
-      taking (Return q release Elsewhere light) g = tt
+      taking (Return head (TakeFrom n)) g = may_take_there n g
+      taking (Return head (Results payload)) g = tt
+      taking (Return head Exception) g = tt
+      taking (Return head Canceled) g = tt
+      taking (Return head Elsewhere) g = tt
       taking (Bootstrap q) g = tt
       taking _ g = tt
 
-      once : (m : RpcMessage) → ((q : ℕ) (release : Bool) → answers q m ≡ true → is_unreturned (id k true q) to ≡ true) → IfSome (question_returned (Wire false k d ss m)) (λ q. is_unreturned q to ≡ true)
-      once (Return q release outcome light) due = due q release (eq-eqb q q refl)
+      once : (m : RpcMessage) → ((q : ℕ) → answers q m ≡ true → is_unreturned (id k true q) to ≡ true) → IfSome (question_returned (Wire false k d ss m)) (λ q. is_unreturned q to ≡ true)
+      once (Return head outcome) due = due head.answer (eq-eqb head.answer head.answer refl)
       once (Bootstrap q) due = tt
       once _ due = tt
 
@@ -222,8 +222,8 @@ module _ (k : ℕ) (one other : Past) (linked : AreLinked k one other) (m : RpcM
   linked_sent = linked_before k one other (sent ∷ from) to p.sent_there (before_it other received to p.received_there)
       record { to_one = (met.cut.to_one.0, back_under_way); to_other = (m ∷ [], one_under_way) } linked
 
-  due : (q : ℕ) (release : Bool) → answers q m ≡ true → is_unreturned (id k true q) to ≡ true
-  due q release a =
+  due : (q : ℕ) → answers q m ≡ true → is_unreturned (id k true q) to ≡ true
+  due q a =
       return_comes k (sent ∷ from) to met.cut.to_one.0 (m ∷ []) linked_sent one_under_way back_under_way uses_x uses_y free_x free_y [] m sent from q ([], refl) p.sends met.all a
 
   its_opening : OpensFree to received

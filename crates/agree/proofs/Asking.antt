@@ -15,17 +15,17 @@ use Rattle.agree.specs.Streams.{passing, stream, opening_number}
 -- a message opens the question of this number of its sender's
 abbrev pub asks : ℕ → RpcMessage → Bool
 asks n (Bootstrap q) = n == q
-asks n (Call q target interface method params yourself) = n == q
+asks n (Call head target params) = n == head.question
 asks n _ = false
 
 -- returns one of its receiver's
 abbrev pub answers : ℕ → RpcMessage → Bool
-answers n (Return q release outcome light) = n == q
+answers n (Return head outcome) = n == head.answer
 answers n _ = false
 
 -- returns one of its receiver's, and says that no Finish is needed
 abbrev pub answers_lightly : ℕ → RpcMessage → Bool
-answers_lightly n (Return q release outcome true) = n == q
+answers_lightly n (Return head outcome) = head.light && (n == head.answer)
 answers_lightly n _ = false
 
 -- gives back the results of one of its sender's
@@ -40,12 +40,12 @@ ends n _ = false
 
 -- takes the results of one of its sender's
 abbrev pub takes : ℕ → RpcMessage → Bool
-takes n (Return q release (TakeFrom m) light) = n == m
+takes n (Return head (TakeFrom m)) = n == m
 takes n _ = false
 
 -- asks for results to be sent elsewhere
 abbrev pub asks_away : RpcMessage → Bool
-asks_away (Call q target interface method params yourself) = yourself
+asks_away (Call head target params) = head.yourself
 asks_away _ = false
 
 -- what a test says of a message, if there is one
@@ -89,7 +89,7 @@ not_asked false test m e = refl
 
 pub opens_is : (q : TableKey) (e : DecodedRecord) → names q (question_opened e) ≡ passes (asks q.number) (passing q.connection q.ours e)
 opens_is q (Wire t j c rs (Bootstrap n)) = as_asked ((q.connection == j) && beq q.ours t) (asks q.number) (Bootstrap n)
-opens_is q (Wire t j c rs (Call n target i m b yourself)) = as_asked ((q.connection == j) && beq q.ours t) (asks q.number) (Call n target i m b yourself)
+opens_is q (Wire t j c rs (Call head target b)) = as_asked ((q.connection == j) && beq q.ours t) (asks q.number) (Call head target b)
 opens_is q (Wire t j c rs m) = not_asked ((q.connection == j) && beq q.ours t) (asks q.number) m refl
 opens_is q (Host r o) = refl
 opens_is q _ = refl
@@ -108,11 +108,11 @@ finishes_is q (Host r o) = refl
 finishes_is q _ = refl
 
 pub takes_is : (q : TableKey) (e : DecodedRecord) → names q (question_taken e) ≡ passes (takes q.number) (passing q.connection q.ours e)
-takes_is q (Wire t j c rs (Return n release (TakeFrom m) light)) = as_asked ((q.connection == j) && beq q.ours t) (takes q.number) (Return n release (TakeFrom m) light)
-takes_is q (Wire t j c rs (Return n release (Results payload) light)) = not_asked ((q.connection == j) && beq q.ours t) (takes q.number) (Return n release (Results payload) light) refl
-takes_is q (Wire t j c rs (Return n release Exception light)) = not_asked ((q.connection == j) && beq q.ours t) (takes q.number) (Return n release Exception light) refl
-takes_is q (Wire t j c rs (Return n release Canceled light)) = not_asked ((q.connection == j) && beq q.ours t) (takes q.number) (Return n release Canceled light) refl
-takes_is q (Wire t j c rs (Return n release Elsewhere light)) = not_asked ((q.connection == j) && beq q.ours t) (takes q.number) (Return n release Elsewhere light) refl
+takes_is q (Wire t j c rs (Return head (TakeFrom m))) = as_asked ((q.connection == j) && beq q.ours t) (takes q.number) (Return head (TakeFrom m))
+takes_is q (Wire t j c rs (Return head (Results payload))) = not_asked ((q.connection == j) && beq q.ours t) (takes q.number) (Return head (Results payload)) refl
+takes_is q (Wire t j c rs (Return head Exception)) = not_asked ((q.connection == j) && beq q.ours t) (takes q.number) (Return head Exception) refl
+takes_is q (Wire t j c rs (Return head Canceled)) = not_asked ((q.connection == j) && beq q.ours t) (takes q.number) (Return head Canceled) refl
+takes_is q (Wire t j c rs (Return head Elsewhere)) = not_asked ((q.connection == j) && beq q.ours t) (takes q.number) (Return head Elsewhere) refl
 takes_is q (Wire t j c rs (Bootstrap n)) = not_asked ((q.connection == j) && beq q.ours t) (takes q.number) (Bootstrap n) refl
 takes_is q (Wire t j c rs m) = not_asked ((q.connection == j) && beq q.ours t) (takes q.number) m refl
 takes_is q (Host r o) = refl
@@ -122,16 +122,23 @@ turn : (a o t b : Bool) → (a && beq o (not t) && b) ≡ (a && beq (not o) t &&
 turn a o t b = grind (arith, nat_tests)
 
 pub returns_is : (q : TableKey) (e : DecodedRecord) → names q (question_returned e) ≡ passes (answers q.number) (passing q.connection (not q.ours) e)
-returns_is q (Wire t j c rs (Return n release outcome light)) = turn (q.connection == j) q.ours t (q.number == n) ∙ as_asked ((q.connection == j) && beq (not q.ours) t) (answers q.number) (Return n release outcome light)
+returns_is q (Wire t j c rs (Return head outcome)) = turn (q.connection == j) q.ours t (q.number == head.answer) ∙ as_asked ((q.connection == j) && beq (not q.ours) t) (answers q.number) (Return head outcome)
 returns_is q (Wire t j c rs (Bootstrap n)) = not_asked ((q.connection == j) && beq (not q.ours) t) (answers q.number) (Bootstrap n) refl
 returns_is q (Wire t j c rs m) = not_asked ((q.connection == j) && beq (not q.ours) t) (answers q.number) m refl
 returns_is q (Host r o) = refl
 returns_is q _ = refl
 
+light_turn : (q : TableKey) (j n : ℕ) (t light : Bool) → names q (if light then Some (id j (not t) n) else None) ≡ ((q.connection == j) && beq (not q.ours) t && (light && (q.number == n)))
+light_turn q j n t true = turn (q.connection == j) q.ours t (q.number == n)
+light_turn q j n t false = none ((q.connection == j) && beq (not q.ours) t)
+  where
+    none : (b : Bool) → false ≡ (b && false)
+    none true = refl
+    none false = refl
+
 pub lightly_is : (q : TableKey) (e : DecodedRecord) → names q (question_returned_lightly e) ≡ passes (answers_lightly q.number) (passing q.connection (not q.ours) e)
-lightly_is q (Wire t j c rs (Return n release outcome true)) =
-    turn (q.connection == j) q.ours t (q.number == n) ∙ as_asked ((q.connection == j) && beq (not q.ours) t) (answers_lightly q.number) (Return n release outcome true)
-lightly_is q (Wire t j c rs (Return n release outcome false)) = not_asked ((q.connection == j) && beq (not q.ours) t) (answers_lightly q.number) (Return n release outcome false) refl
+lightly_is q (Wire t j c rs (Return head outcome)) =
+    light_turn q j head.answer t head.light ∙ as_asked ((q.connection == j) && beq (not q.ours) t) (answers_lightly q.number) (Return head outcome)
 lightly_is q (Wire t j c rs (Bootstrap n)) = not_asked ((q.connection == j) && beq (not q.ours) t) (answers_lightly q.number) (Bootstrap n) refl
 lightly_is q (Wire t j c rs m) = not_asked ((q.connection == j) && beq (not q.ours) t) (answers_lightly q.number) m refl
 lightly_is q (Host r o) = refl
@@ -181,7 +188,7 @@ taken_stream q past = since_stream q (takes_results q) (takes q.number) (λ befo
 -- ---- what an opening asks
 
 away_is : (t : Bool) (j c : ℕ) (rs : List ℕ) (m : RpcMessage) → asks_elsewhere (Wire t j c rs m) ≡ asks_away m
-away_is t j c rs (Call n target i m b yourself) = refl
+away_is t j c rs (Call head target b) = refl
 away_is t j c rs (Bootstrap n) = refl
 away_is t j c rs _ = refl
 
@@ -292,7 +299,7 @@ waits q t e before = waits_by (opens q before e) (t before e) (point before e) (
 
 -- what opens a question neither returns nor finishes it
 pub opens_no_return : (q : TableKey) (e : DecodedRecord) → names q (question_opened e) ≡ true → names q (question_returned e) ≡ false
-opens_no_return q (Wire s j c rs (Return n release outcome light)) h = absurd (false≢true h)
+opens_no_return q (Wire s j c rs (Return head outcome)) h = absurd (false≢true h)
 opens_no_return q (Wire s j c rs _) h = refl
 opens_no_return q (Host r o) h = refl
 opens_no_return q _ h = refl
@@ -302,7 +309,7 @@ abbrev pub EndsOnce : Past → DecodedRecord → Type 0
 EndsOnce before e = IfSome (question_returned e) (λ q. is_unreturned q before ≡ true) × IfSome (question_finished e) (λ q. is_unfinished q before ≡ true)
 
 pub ends_once : (before : Past) (e : DecodedRecord) → UsesQuestions before e → EndsOnce before e
-ends_once before (Wire s k c rs (Return n release outcome light)) uses = (uses.returned_once, tt)
+ends_once before (Wire s k c rs (Return head outcome)) uses = (uses.returned_once, tt)
 ends_once before (Wire s k c rs (Finish n release)) uses = (tt, (and_parts (is_unfinished (id k s n) before) true uses.used).0)
 ends_once before (Wire s k c rs (Bootstrap n)) uses = (tt, tt)
 ends_once before (Wire s k c rs _) uses = (tt, tt)
@@ -331,10 +338,13 @@ since_so start s t wider [] h = h
 since_so start s t wider (e ∷ before) h =
     so_at (start before e) (s before e) (t before e) (point before e) (last_since start s before) (last_since start t before) (wider before e) (since_so start s t wider before) h
 
+named_lightly : (q i : TableKey) (light : Bool) → names q (if light then Some i else None) ≡ true → names q (Some i) ≡ true
+named_lightly q i true h = h
+named_lightly q i false h = absurd (false≢true h)
+
 -- a Return that says that no Finish is needed is a Return
 light_returns : (q : TableKey) (e : DecodedRecord) → names q (question_returned_lightly e) ≡ true → names q (question_returned e) ≡ true
-light_returns q (Wire s j c rs (Return n release outcome true)) h = h
-light_returns q (Wire s j c rs (Return n release outcome false)) h = absurd (false≢true h)
+light_returns q (Wire s j c rs (Return head outcome)) h = named_lightly q (id j (not s) head.answer) head.light h
 light_returns q (Wire s j c rs (Bootstrap n)) h = absurd (false≢true h)
 light_returns q (Wire s j c rs _) h = absurd (false≢true h)
 light_returns q (Host r o) h = absurd (false≢true h)

@@ -15,7 +15,7 @@ use Rattle.agree.specs.Alive.{Closer, by_return, by_finish, is_same_closer, as_c
 use Rattle.agree.proofs.Asking.{EndsOnce, answers, frees, passes, releases_is, returns_is}
 use Rattle.agree.proofs.Once.{number_if, number_there}
 use Rattle.agree.proofs.Openings.{passing_is}
-use Rattle.agree.proofs.Telling.{told_length, none_closed, finish_finish, return_return, finish_return, return_finish, opening_of, finish_of_none, return_of_none, no_finish_yet, no_return_yet, not_now}
+use Rattle.agree.proofs.Telling.{told_length, none_closed, finish_finish, return_return, finish_return, return_finish, opening_of, closer_if, finish_of_none, return_of_none, no_finish_yet, no_return_yet, not_now}
 
 pub not_not : (b : Bool) → not (not b) ≡ b
 not_not true = refl
@@ -34,9 +34,8 @@ same_some e = cc
 -- a message closes the Return of an opening exactly where it gives back that question's results
 frees_is : (k : ℕ) (s : Bool) (q n : ℕ) (before : Past) (m : RpcMessage) → opening_number (id k s q) before ≡ Some n → is_same_closer (as_closer (telling k s before m)) (Some (by_finish n)) ≡ frees q m
 frees_is k s q n before (Finish r true) e = finish_finish n _ ∙ opening_of k s q r before n e
-frees_is k s q n before (Return r true outcome light) e = return_finish n _
+frees_is k s q n before (Return head outcome) e = let o = opening_number (id k (not s) head.answer) before in closer_if head.release_param_caps o (Some (by_finish n)) (return_finish n o)
 frees_is k s q n before (Finish r false) e = refl
-frees_is k s q n before (Return r false outcome light) e = refl
 frees_is k s q n before _ e = refl
 
 closed_at : (f : RpcMessage → Telling) (c : Option Closer) (ts : List Telling) (test : RpcMessage → Bool) (o : Option RpcMessage) → ((m : RpcMessage) → is_same_closer (as_closer (f m)) c ≡ test m) →
@@ -69,11 +68,12 @@ closed_finish k s q n (e ∷ before) h =
 -- a message that doesn't return a question doesn't close the Call that opened it
 no_answer : (k : ℕ) (o : Bool) (q n : ℕ) (before : Past) (m : RpcMessage) → opening_number (id k o q) before ≡ Some n → answers q m ≡ false →
     is_same_closer (as_closer (telling k (not o) before m)) (Some (by_return n)) ≡ false
-no_answer k o q n before (Return r true outcome light) e h =
-    return_return n _ ∙ ap (λ b. is n (opening_number (id k b r) before)) (not_not o) ∙ opening_of k o q r before n e ∙ h
+no_answer k o q n before (Return head outcome) e h =
+    let r = head.answer in
+    let its = opening_number (id k (not (not o)) r) before in
+    closer_if head.release_param_caps its (Some (by_return n)) (return_return n its ∙ ap (λ b. is n (opening_number (id k b r) before)) (not_not o) ∙ opening_of k o q r before n e ∙ h)
 no_answer k o q n before (Finish r true) e h = finish_return n _
 no_answer k o q n before (Finish r false) e h = refl
-no_answer k o q n before (Return r false outcome light) e h = refl
 no_answer k o q n before _ e h = refl
 
 not_returned : (f : RpcMessage → Telling) (c : Option Closer) (ts : List Telling) (test : RpcMessage → Bool) (p : Option RpcMessage) → ((m : RpcMessage) → test m ≡ false → is_same_closer (as_closer (f m)) c ≡ false) →
@@ -111,11 +111,11 @@ not_closed_return k o q n (e ∷ before) h none =
 
 fresh_of : (k : ℕ) (o : Bool) (past : Past) (c : ℕ) (rs : List ℕ) (m : RpcMessage) → EndsOnce past (Wire o k c rs m) →
     is_closed (tellings k (not o) past) (closer_of (telling k o past m) (length (tellings k o past))) ≡ is_late past (Wire o k c rs m)
-fresh_of k o past c rs (Call q target i m b yourself) uses = no_return_yet k (not o) past (length (tellings k o past))
+fresh_of k o past c rs (Call head target b) uses = no_return_yet k (not o) past (length (tellings k o past))
     (low_by k o past (length (tellings k o past)) (let same = told_length k o past in omega (arith, same)))
-fresh_of k o past c rs (Return q release outcome light) uses =
-    let there = number_there (id k (not o) q) past (and_parts _ _ uses.0).0 in
-    ap (λ x. is_closed (tellings k (not o) past) (option_map by_finish x)) there.1 ∙ closed_finish k (not o) q there.0 past there.1
+fresh_of k o past c rs (Return head outcome) uses =
+    let there = number_there (id k (not o) head.answer) past (and_parts _ _ uses.0).0 in
+    ap (λ x. is_closed (tellings k (not o) past) (option_map by_finish x)) there.1 ∙ closed_finish k (not o) head.answer there.0 past there.1
 fresh_of k o past c rs (Bootstrap q) uses = none_closed (tellings k (not o) past)
 fresh_of k o past c rs m uses = none_closed (tellings k (not o) past)
 

@@ -140,7 +140,7 @@ module _ (k : ℕ) (x y : Past) (to_x to_y : List RpcMessage) (linked : AreLinke
 
     coming_once : (earlier : List RpcMessage) (m : RpcMessage) (sent : DecodedRecord) (from : Past) → GoesOn x (sent ∷ from) → passing k true sent ≡ Some m → stream k true from ≡ stream k false (after_coming k earlier y) →
         EndsOnce (after_coming k earlier y) (as_received k m)
-    coming_once earlier (Return q release outcome light) sent from there sends same = (return_comes earlier (Return q release outcome light) sent from q there sends same (eq-eqb q q refl), tt)
+    coming_once earlier (Return head outcome) sent from there sends same = (return_comes earlier (Return head outcome) sent from head.answer there sends same (eq-eqb head.answer head.answer refl), tt)
     coming_once earlier (Finish q release) sent from there sends same = (tt, finish_comes earlier q release sent from there sends same)
     coming_once earlier (Bootstrap q) sent from there sends same = (tt, tt)
     coming_once earlier _ sent from there sends same = (tt, tt)

@@ -71,8 +71,8 @@ for_return w (Some m) = refl
 
 -- only the Call of that number
 not_the_call : (k : ℕ) (o : Bool) (before : Past) (w len : ℕ) (m : RpcMessage) → (w ≡ len → ⊥) → is_same_closer (Some (by_return w)) (closer_of (telling k o before m) len) ≡ false
-not_the_call k o before w len (Call q target i method params yourself) apart = ne_eqb w len apart
-not_the_call k o before w len (Return q release outcome light) apart = for_return w _
+not_the_call k o before w len (Call head target params) apart = ne_eqb w len apart
+not_the_call k o before w len (Return head outcome) apart = for_return w _
 not_the_call k o before w len (Bootstrap q) apart = refl
 not_the_call k o before w len _ apart = refl
 
@@ -89,13 +89,13 @@ none_yet_returned k o n w closers (e ∷ before) le =
 opener_dies : (k : ℕ) (o : Bool) (n w : ℕ) (q : ℕ) (closers : List Telling) (before : Past) (m : RpcMessage) → asks q m ≡ true → is_closed closers (Some (by_return w)) ≡ false →
     (len : ℕ) → len ≡ w →
     (if is_same_closer (Some (by_return w)) (closer_of (telling k o before m) len) && not (is_closed closers (closer_of (telling k o before m) len)) then introductions_in n m else 0) ≡ introductions_in n m
-opener_dies k o n w q closers before (Call r target i method params yourself) h unclosed len e =
-    dies_so (w == len) (is_closed closers (Some (by_return len))) (introductions_in n (Call r target i method params yourself)) (eq-eqb w len (sym e)) (ap (λ x. is_closed closers (Some (by_return x))) e ∙ unclosed)
+opener_dies k o n w q closers before (Call head target params) h unclosed len e =
+    dies_so (w == len) (is_closed closers (Some (by_return len))) (introductions_in n (Call head target params)) (eq-eqb w len (sym e)) (ap (λ x. is_closed closers (Some (by_return x))) e ∙ unclosed)
 opener_dies k o n w q closers before (Bootstrap r) h unclosed len e = refl
 opener_dies k o n w q closers before _ h unclosed len e = absurd (false≢true h)
 
 asker_on_time : (k : ℕ) (o : Bool) (q : ℕ) (before : Past) (c : ℕ) (rs : List ℕ) (m : RpcMessage) → asks q m ≡ true → is_late before (Wire o k c rs m) ≡ false
-asker_on_time k o q before c rs (Return r release outcome light) h = absurd (false≢true h)
+asker_on_time k o q before c rs (Return head outcome) h = absurd (false≢true h)
 asker_on_time k o q before c rs (Bootstrap r) h = refl
 asker_on_time k o q before c rs _ h = refl
 
@@ -141,8 +141,8 @@ return_gives k o n q w closers (e ∷ before) h unclosed =
 
 not_the_return : (k : ℕ) (o : Bool) (before : Past) (w len : ℕ) (m : RpcMessage) → ((r : ℕ) → answers r m ≡ true → is w (opening_number (id k (not o) r) before) ≡ false) →
     is_same_closer (Some (by_finish w)) (closer_of (telling k o before m) len) ≡ false
-not_the_return k o before w len (Return r release outcome light) none = for_finish w _ ∙ none r (eq-eqb r r refl)
-not_the_return k o before w len (Call q target i method params yourself) none = refl
+not_the_return k o before w len (Return head outcome) none = for_finish w _ ∙ none head.answer (eq-eqb head.answer head.answer refl)
+not_the_return k o before w len (Call head target params) none = refl
 not_the_return k o before w len (Bootstrap q) none = refl
 not_the_return k o before w len _ none = refl
 
@@ -161,16 +161,16 @@ is_there n o e = ap (λ x. is n x) e ∙ eq-eqb n n refl
 return_dies : (k : ℕ) (o : Bool) (n q w : ℕ) (closers : List Telling) (before : Past) (m : RpcMessage) → answers q m ≡ true → opening_number (id k (not o) q) before ≡ Some w →
     is_closed closers (Some (by_finish w)) ≡ false → (len : ℕ) →
     (if is_same_closer (Some (by_finish w)) (closer_of (telling k o before m) len) && not (is_closed closers (closer_of (telling k o before m) len)) then introductions_in n m else 0) ≡ introductions_in n m
-return_dies k o n q w closers before (Return r release outcome light) a h unclosed len =
-    let same : opening_number (id k (not o) r) before ≡ Some w = ap (λ x. opening_number (id k (not o) x) before) (sym (eqb-true q r a)) ∙ h in
-    dies_so (is_same_closer (Some (by_finish w)) (option_map by_finish (opening_number (id k (not o) r) before))) (is_closed closers (option_map by_finish (opening_number (id k (not o) r) before))) (introductions_in n (Return r release outcome light))
+return_dies k o n q w closers before (Return head outcome) a h unclosed len =
+    let same : opening_number (id k (not o) head.answer) before ≡ Some w = ap (λ x. opening_number (id k (not o) x) before) (sym (eqb-true q head.answer a)) ∙ h in
+    dies_so (is_same_closer (Some (by_finish w)) (option_map by_finish (opening_number (id k (not o) head.answer) before))) (is_closed closers (option_map by_finish (opening_number (id k (not o) head.answer) before))) (introductions_in n (Return head outcome))
     (for_finish w _ ∙ is_there w _ same) (ap (λ x. is_closed closers (option_map by_finish x)) same ∙ unclosed)
 return_dies k o n q w closers before (Bootstrap r) a h unclosed len = absurd (false≢true a)
 return_dies k o n q w closers before _ a h unclosed len = absurd (false≢true a)
 
 -- it isn't late where the results weren't given back
 return_on_time : (k : ℕ) (o : Bool) (q : ℕ) (before : Past) (c : ℕ) (rs : List ℕ) (m : RpcMessage) → answers q m ≡ true → is_released (id k (not o) q) before ≡ false → is_late before (Wire o k c rs m) ≡ false
-return_on_time k o q before c rs (Return r release outcome light) a none = ap (λ x. is_released (id k (not o) x) before) (sym (eqb-true q r a)) ∙ none
+return_on_time k o q before c rs (Return head outcome) a none = ap (λ x. is_released (id k (not o) x) before) (sym (eqb-true q head.answer a)) ∙ none
 return_on_time k o q before c rs (Bootstrap r) a none = absurd (false≢true a)
 return_on_time k o q before c rs _ a none = absurd (false≢true a)
 
@@ -187,8 +187,8 @@ none_at i (Some p) h = absurd (false≢true (sym h))
 -- of this question, or of another
 other_return : (k : ℕ) (o : Bool) (q w : ℕ) (before : Past) (m : RpcMessage) → opening_number (id k (not o) q) before ≡ Some w → answers q m ≡ false →
     (r : ℕ) → answers r m ≡ true → is w (opening_number (id k (not o) r) before) ≡ false
-other_return k o q w before (Return x release outcome light) h none r a =
-    ap (λ y. is w (opening_number (id k (not o) y) before)) (eqb-true r x a) ∙ opening_of k (not o) q x before w h ∙ none
+other_return k o q w before (Return head outcome) h none r a =
+    ap (λ y. is w (opening_number (id k (not o) y) before)) (eqb-true r head.answer a) ∙ opening_of k (not o) q head.answer before w h ∙ none
 other_return k o q w before (Bootstrap x) h none r a = absurd (false≢true a)
 other_return k o q w before _ h none r a = absurd (false≢true a)
 

@@ -1,7 +1,7 @@
 -- A question that was returned lightly at its asker is returned lightly at the other end.
-use Rattle.std.proofs.Common.{◌≡◌, refl, sym, ◌∙◌, ap, subst, ℕ, [], ◌∷◌, ◌++◌, length, Bool, true, false, Option, Some, None, if◌then◌else◌, arith, inl, inr, eqb-true}
+use Rattle.std.proofs.Common.{◌≡◌, refl, sym, ◌∙◌, ap, subst, ℕ, ◌==◌, [], ◌∷◌, ◌++◌, length, Bool, true, false, Option, Some, None, if◌then◌else◌, arith, inl, inr, eqb-true}
 use Rattle.std.specs.Prelude.{is_some}
-use Rattle.std.proofs.lemmas.Bool.{false≢true, cases_Bool}
+use Rattle.std.proofs.lemmas.Bool.{false≢true, cases_Bool, and_parts}
 use Rattle.agree.specs.Types.{RpcMessage, Bootstrap, Return, DecodedRecord, Wire, Host, TableKey}
 use Rattle.decoded_records.specs.Past.{Past, Point, point, id, names, last_since, Each}
 use Rattle.decoded_records.specs.Questions.{question_opened, question_returned_lightly, opens, returns_lightly, is_returned_lightly}
@@ -55,7 +55,7 @@ comes_still false true p rest e f = refl
 comes_still false false p rest e f = f
 
 light_opens_none : (q : TableKey) (e : DecodedRecord) → names q (question_returned_lightly e) ≡ true → names q (question_opened e) ≡ false
-light_opens_none q (Wire s j c rs (Return n release outcome light)) h = refl
+light_opens_none q (Wire s j c rs (Return head outcome)) h = refl
 light_opens_none q (Wire s j c rs (Bootstrap n)) h = absurd (false≢true h)
 light_opens_none q (Wire s j c rs _) h = absurd (false≢true h)
 light_opens_none q (Host r o) h = absurd (false≢true h)
@@ -81,9 +81,8 @@ lightly_still q e before light (y ∷ later) same = elim (cases_Bool (names q (q
 -- such a Return belongs to one opening at both ends
 agree_lightly : (k q : ℕ) (one other : Past) → AgreeOnOpenings k one other → (m : RpcMessage) → answers_lightly q m ≡ true → (from to : Past) (sent received : DecodedRecord) →
     IsPassed k m one other from to sent received → opening_number (id k false q) from ≡ opening_number (id k true q) to
-agree_lightly k q one other agree (Return n release outcome true) h from to sent received p =
-    subst (λ x. opening_number (id k false x) from ≡ opening_number (id k true x) to) (sym (eqb-true q n h)) (agree n release outcome true from to sent received p)
-agree_lightly k q one other agree (Return n release outcome false) h from to sent received p = absurd (false≢true h)
+agree_lightly k q one other agree (Return head outcome) h from to sent received p =
+    subst (λ x. opening_number (id k false x) from ≡ opening_number (id k true x) to) (sym (eqb-true q head.answer (and_parts head.light (q == head.answer) h).1)) (agree head outcome from to sent received p)
 agree_lightly k q one other agree (Bootstrap n) h from to sent received p = absurd (false≢true h)
 agree_lightly k q one other agree _ h from to sent received p = absurd (false≢true h)
 

@@ -11,9 +11,10 @@ use Rattle.decoded_records.specs.Questions.{question_opened, question_returned, 
 use Rattle.decoded_records.specs.Lives.{introductions_at, introduces, gives_back, introduced_count, released_count, held, GivesBackHeld}
 use Rattle.decoded_records.specs.Uses.{UsesQuestions}
 use Rattle.vat_view.proofs.Counting.{no_more_went}
+use Rattle.vat_view.proofs.Describing.{given_none}
 use Rattle.agree.specs.Streams.{passing, opening_number}
-use Rattle.agree.specs.Told.{telling, tellings}
-use Rattle.agree.specs.Alive.{by_return, by_finish, as_closer, introductions_in, alive_in, releases_in, releases_in_all, alive, let_go}
+use Rattle.agree.specs.Told.{Telling, telling, tellings}
+use Rattle.agree.specs.Alive.{Closer, by_return, by_finish, as_closer, introductions_in, alive_in, releases_in, releases_in_all, alive, let_go}
 use Rattle.agree.proofs.Asking.{EndsOnce, ends_once, asks, answers, opens_is, returns_is}
 use Rattle.agree.proofs.Once.{number_there}
 use Rattle.agree.proofs.Openings.{passing_is}
@@ -69,16 +70,24 @@ self : (k n r : ℕ) (o : Bool) → same_id (id k o n) (id k (not (not o)) r) �
 self k n r true = ap (λ b. b && true && (n == r)) (eq-eqb k k refl)
 self k n r false = ap (λ b. b && true && (n == r)) (eq-eqb k k refl)
 
+-- what a Return gives back dies, where it gives back
+gives_if : (i : TableKey) (n : ℕ) (closers ts : List Telling) (b : Bool) (o : Option Point) (c : Option Closer) → dies n closers c ts ≡ count_by (same_id i) (introductions_at o) →
+    count_by (same_id i) (introductions_at (if b then o else None)) ≡ dies n closers (if b then c else None) ts
+gives_if i n closers ts true o c same = sym same
+gives_if i n closers ts false o c same = sym (dies_none n closers ts)
+
 gives_of : (k : ℕ) (o : Bool) (n : ℕ) (past : Past) (c : ℕ) (rs : List ℕ) (m : RpcMessage) → Each EndsOnce past → EndsOnce past (Wire (not o) k c rs m) →
     gives_back (id k o n) past (Wire (not o) k c rs m) ≡ releases_in n m + dies n (tellings k (not o) past) (as_closer (telling k (not o) past m)) (tellings k o past)
 gives_of k o n past c rs (Release r count) each uses =
     let none = dies_none n (tellings k (not o) past) (tellings k o past) in
     let same : gives_back (id k o n) past (Wire (not o) k c rs (Release r count)) ≡ releases_in n (Release r count) = ap (λ b. if b then count else 0) (self k n r o) in
     omega (arith, none, same)
-gives_of k o n past c rs (Return q true outcome light) each uses =
-    only _ _ (sym (subst (λ b. is_unreturned (id k b q) past ≡ true → dies n (tellings k (not o) past) (option_map by_return (opening_number (id k b q) past)) (tellings k o past)
-    ≡ count_by (same_id (id k o n)) (introductions_at (opening (id k b q) past))) (sym (not_not o)) (return_died k o n q past) uses.0))
-gives_of k o n past c rs (Return q false outcome light) each uses = only _ _ (sym (dies_none n (tellings k (not o) past) (tellings k o past)))
+gives_of k o n past c rs (Return head outcome) each uses =
+    let q = head.answer in
+    let its : TableKey = id k (not (not o)) q in
+    let died = subst (λ b. is_unreturned (id k b q) past ≡ true → dies n (tellings k (not o) past) (option_map by_return (opening_number (id k b q) past)) (tellings k o past)
+    ≡ count_by (same_id (id k o n)) (introductions_at (opening (id k b q) past))) (sym (not_not o)) (return_died k o n q past) uses.0 in
+    only _ _ (gives_if (id k o n) n (tellings k (not o) past) (tellings k o past) head.release_param_caps (opening its past) (option_map by_return (opening_number its past)) died)
 gives_of k o n past c rs (Finish q true) each uses = only _ _ (sym (finish_died k o n q past each uses.1))
 gives_of k o n past c rs (Finish q false) each uses = only _ _ (sym (dies_none n (tellings k (not o) past) (tellings k o past)))
 gives_of k o n past c rs (Bootstrap q) each uses = only _ _ (sym (dies_none n (tellings k (not o) past) (tellings k o past)))
@@ -125,8 +134,8 @@ not_that g b count e = ap (λ x. if x && b then count else 0) e
 
 gives_no : (k : ℕ) (o : Bool) (n : ℕ) (past : Past) (t : Bool) (j c : ℕ) (rs : List ℕ) (m : RpcMessage) → ((k == j) && beq (not o) t) ≡ false → gives_back (id k o n) past (Wire t j c rs m) ≡ 0
 gives_no k o n past t j c rs (Release r count) h = not_that ((k == j) && beq o (not t)) (n == r) count (ways (k == j) o t h)
-gives_no k o n past t j c rs (Return q true outcome light) h = other_opening k o n j (not t) q past (ways (k == j) o t h)
-gives_no k o n past t j c rs (Return q false outcome light) h = refl
+gives_no k o n past t j c rs (Return head outcome) h =
+    given_none (id k o n) (opening (id j (not t) head.answer) past) head.release_param_caps (other_opening k o n j (not t) head.answer past (ways (k == j) o t h))
 gives_no k o n past t j c rs (Finish q true) h = other_return k o n j t q past (ways (k == j) o t h)
 gives_no k o n past t j c rs (Finish q false) h = refl
 gives_no k o n past t j c rs (Bootstrap q) h = refl

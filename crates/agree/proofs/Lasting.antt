@@ -18,7 +18,7 @@ use Rattle.agree.proofs.Covered.{held_at_cut}
 
 -- what they agree on holds of what came earlier
 pub agree_before : (k : ℕ) (one other a b : Past) → GoesOn one a → GoesOn other b → AgreeOnOpenings k one other → AgreeOnOpenings k a b
-agree_before k one other a b e f agree q release outcome light from to sent received p = agree q release outcome light from to sent received record {
+agree_before k one other a b e f agree head outcome from to sent received p = agree head outcome from to sent received record {
   sent_there = through one a (sent ∷ from) e p.sent_there;
   received_there = through other b (received ∷ to) f p.received_there;
   sends = p.sends;

@@ -13,7 +13,7 @@ use Rattle.agree.proofs.Telling.{none_or_some, told_of, stream_of}
 -- what a message speaks of is the same at both ends
 same_opening : (k : ℕ) (one other from to : Past) (sent received : DecodedRecord) (m : RpcMessage) → AgreeOnOpenings k one other → IsPassed k m one other from to sent received →
     stream k true from ≡ stream k false to → speaks_of k true from m ≡ speaks_of k false to m
-same_opening k one other from to sent received (Return q release outcome light) agree p same = agree q release outcome light from to sent received p
+same_opening k one other from to sent received (Return head outcome) agree p same = agree head outcome from to sent received p
 same_opening k one other from to sent received (Finish q release) agree p same =
     number_stream (id k true q) from ∙ ap (λ l. last_number (asks q) l) same ∙ sym (number_stream (id k false q) to)
 same_opening k one other from to sent received (Bootstrap q) agree p same = refl

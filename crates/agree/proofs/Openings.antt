@@ -3,7 +3,7 @@ use Rattle.std.proofs.Common.{◌≡◌, refl, sym, ◌∙◌, ap, ℕ, ◌+◌,
 use Rattle.std.specs.Bool.{beq}
 use Rattle.std.proofs.lemmas.Bool.{false≢true, eq-eqb}
 use Rattle.std.proofs.lemmas.Bool.Decides.{nat_tests}
-use Rattle.agree.specs.Types.{RpcMessage, Bootstrap, Return, Outcome, DecodedRecord, Host, Wire}
+use Rattle.agree.specs.Types.{RpcMessage, Bootstrap, Return, ReturnHead, Outcome, DecodedRecord, Host, Wire}
 use Rattle.decoded_records.specs.Past.{Past, id, Each}
 use Rattle.decoded_records.specs.Questions.{returns, is_released, is_late}
 use Rattle.decoded_records.specs.Uses.{OpensFree, UsesQuestions}
@@ -38,39 +38,39 @@ passing_is k s m (Wire t j c rs n) h =
 passing_is k s m (Host r o) h = absurd (let no : ⊥ = cc in no)
 passing_is k s m _ h = absurd (let no : ⊥ = cc in no)
 
-late_is : (k : ℕ) (s : Bool) (q : ℕ) (release : Bool) (outcome : Outcome) (light : Bool) (before : Past) (e : DecodedRecord) → passing k s e ≡ Some (Return q release outcome light) →
-    is_late before e ≡ is_released (id k (not s) q) before
-late_is k s q release outcome light before e h = ap (λ x. is_late before x) (passing_is k s (Return q release outcome light) e h).2
+late_is : (k : ℕ) (s : Bool) (head : ReturnHead) (outcome : Outcome) (before : Past) (e : DecodedRecord) → passing k s e ≡ Some (Return head outcome) →
+    is_late before e ≡ is_released (id k (not s) head.answer) before
+late_is k s head outcome before e h = ap (λ x. is_late before x) (passing_is k s (Return head outcome) e h).2
 
 small : (b : Bool) → one_if b ≤ 1
 small b = grind (arith, nat_tests)
 
-module _ (k q : ℕ) (release : Bool) (outcome : Outcome) (light : Bool) (one other from to : Past) (sent received : DecodedRecord) (uses : Each (ReturnsDue (id k false q)) one) (free : Each (OpensIdle (id k true q)) other)
-    (p : IsPassed k (Return q release outcome light) one other from to sent received) (met : IsMet k from to) where
+module _ (k : ℕ) (head : ReturnHead) (outcome : Outcome) (one other from to : Past) (sent received : DecodedRecord) (uses : Each (ReturnsDue (id k false head.answer)) one) (free : Each (OpensIdle (id k true head.answer)) other)
+    (p : IsPassed k (Return head outcome) one other from to sent received) (met : IsMet k from to) where
   -- where a Return left and came, no opening of its question is on its way to the one who returns
-  none_opened : count (asks q) met.cut.to_one.0 ≡ 0
+  none_opened : count (asks head.answer) met.cut.to_one.0 ≡ 0
   none_opened =
-      let back : returns (id k false q) from sent ≡ true = returns_is (id k false q) sent ∙ ap (λ o. passes (answers q) o) p.sends ∙ eq-eqb q q refl in
-      let waits = ap (λ b. one_if b) (each_at (ReturnsDue (id k false q)) one uses from sent p.sent_there back) in
-      let fewer = fewer_returns (id k false q) from (each_before (ReturnsDue (id k false q)) one from (before_it one sent from p.sent_there) uses) in
-      let more = more_returns (id k true q) to (each_before (OpensIdle (id k true q)) other to (before_it other received to p.received_there) free) in
-      let parts : count (asks q) (stream k true to) ≡ count (asks q) met.cut.to_one.0 + count (asks q) (stream k false from) =
-      ap (λ l. count (asks q) l) met.cut.to_one.1 ∙ count-append (asks q) met.cut.to_one.0 (stream k false from) in
-      omega (arith, waits, fewer, more, small (is_due (id k true q) (returns (id k true q)) to), ap (λ l. count (answers q) l) met.all, parts)
+      let back : returns (id k false head.answer) from sent ≡ true = returns_is (id k false head.answer) sent ∙ ap (λ o. passes (answers head.answer) o) p.sends ∙ eq-eqb head.answer head.answer refl in
+      let waits = ap (λ b. one_if b) (each_at (ReturnsDue (id k false head.answer)) one uses from sent p.sent_there back) in
+      let fewer = fewer_returns (id k false head.answer) from (each_before (ReturnsDue (id k false head.answer)) one from (before_it one sent from p.sent_there) uses) in
+      let more = more_returns (id k true head.answer) to (each_before (OpensIdle (id k true head.answer)) other to (before_it other received to p.received_there) free) in
+      let parts : count (asks head.answer) (stream k true to) ≡ count (asks head.answer) met.cut.to_one.0 + count (asks head.answer) (stream k false from) =
+      ap (λ l. count (asks head.answer) l) met.cut.to_one.1 ∙ count-append (asks head.answer) met.cut.to_one.0 (stream k false from) in
+      omega (arith, waits, fewer, more, small (is_due (id k true head.answer) (returns (id k true head.answer)) to), ap (λ l. count (answers head.answer) l) met.all, parts)
 
   -- a Return belongs to one opening at both ends
-  pub returns_agree : opening_number (id k false q) from ≡ opening_number (id k true q) to
+  pub returns_agree : opening_number (id k false head.answer) from ≡ opening_number (id k true head.answer) to
   returns_agree =
-      number_stream (id k false q) from ∙ sym (last_number_same (asks q) met.cut.to_one.0 (stream k false from) none_opened)
-      ∙ ap (λ l. last_number (asks q) l) (sym met.cut.to_one.1) ∙ sym (number_stream (id k true q) to)
+      number_stream (id k false head.answer) from ∙ sym (last_number_same (asks head.answer) met.cut.to_one.0 (stream k false from) none_opened)
+      ∙ ap (λ l. last_number (asks head.answer) l) (sym met.cut.to_one.1) ∙ sym (number_stream (id k true head.answer) to)
 
   -- a Return late at its sender is late at its receiver
   pub late_agree : is_late from sent ≡ true → is_late to received ≡ true
   late_agree late =
-      late_is k false q release outcome light to received p.receives ∙ released_stream (id k true q) to
-      ∙ ap (λ l. came_since (asks q) (frees q) l) met.cut.to_one.1
-      ∙ since_more (asks q) (frees q) met.cut.to_one.0 (stream k false from) none_opened
-      (sym (released_stream (id k false q) from) ∙ sym (late_is k true q release outcome light from sent p.sends) ∙ late)
+      late_is k false head outcome to received p.receives ∙ released_stream (id k true head.answer) to
+      ∙ ap (λ l. came_since (asks head.answer) (frees head.answer) l) met.cut.to_one.1
+      ∙ since_more (asks head.answer) (frees head.answer) met.cut.to_one.0 (stream k false from) none_opened
+      (sym (released_stream (id k false head.answer) from) ∙ sym (late_is k true head outcome from sent p.sends) ∙ late)
 
 -- ---- of logs that are linked
 
@@ -85,8 +85,8 @@ module _ (k : ℕ) (one other : Past) (linked : AreLinked k one other) where
 
   module _ (uses : (q : ℕ) → Each (ReturnsDue (id k false q)) one) (free : (q : ℕ) → Each (OpensIdle (id k true q)) other) where
     pub openings_so : AgreeOnOpenings k one other
-    openings_so q release outcome light from to sent received p =
-        returns_agree k q release outcome light one other from to sent received (uses q) (free q) p (met (Return q release outcome light) from to sent received p)
+    openings_so head outcome from to sent received p =
+        returns_agree k head outcome one other from to sent received (uses head.answer) (free head.answer) p (met (Return head outcome) from to sent received p)
 
     never : (m : RpcMessage) (from to : Past) (sent received : DecodedRecord) → IsPassed k m one other from to sent received → ((c : ℕ) (rs : List ℕ) → is_late from (Wire true k c rs m) ≡ false) →
         is_late from sent ≡ true → is_late to received ≡ true
@@ -94,8 +94,8 @@ module _ (k : ℕ) (one other : Past) (linked : AreLinked k one other) where
         let s = passing_is k true m sent p.sends in absurd (false≢true (sym (not_late s.0 s.1) ∙ sym (ap (λ x. is_late from x) s.2) ∙ late))
 
     pub late_so : AgreeOnLate k one other
-    late_so (Return q release outcome light) from to sent received p late =
-        late_agree k q release outcome light one other from to sent received (uses q) (free q) p (met (Return q release outcome light) from to sent received p) late
+    late_so (Return head outcome) from to sent received p late =
+        late_agree k head outcome one other from to sent received (uses head.answer) (free head.answer) p (met (Return head outcome) from to sent received p) late
     late_so (Bootstrap q) from to sent received p late = never (Bootstrap q) from to sent received p (λ c rs. refl) late
     late_so m from to sent received p late = never m from to sent received p (λ c rs. refl) late
 

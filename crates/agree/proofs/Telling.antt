@@ -41,7 +41,7 @@ grows k s e past = grown (passing k s e) (stream k s past)
 
 one_asked : (q r : ℕ) (m : RpcMessage) → asks q m ≡ true → asks r m ≡ true → q ≡ r
 one_asked q r (Bootstrap n) h g = eqb-true q n h ∙ sym (eqb-true r n g)
-one_asked q r (Call n target i m b yourself) h g = eqb-true q n h ∙ sym (eqb-true r n g)
+one_asked q r (Call head target b) h g = eqb-true q head.question h ∙ sym (eqb-true r head.question g)
 one_asked q r _ h g = absurd (false≢true h)
 
 same_some : {A : Type 0} {x y : A} → Some x ≡ Some y → x ≡ y
@@ -116,12 +116,16 @@ pub not_now : (f : RpcMessage → Telling) (c : Option Closer) (ts : List Tellin
 not_now f c ts None none rest = rest
 not_now f c ts (Some m) none rest = or_from _ _ (none m) rest
 
+-- what a Return doesn't close where it gives back it doesn't close
+pub closer_if : (b : Bool) (o : Option ℕ) (c : Option Closer) → is_same_closer (option_map by_return o) c ≡ false → is_same_closer (if b then option_map by_return o else None) c ≡ false
+closer_if true o c apart = apart
+closer_if false o c apart = refl
+
 -- what was told closes nothing of an opening to come
 pub finish_of_none : (k : ℕ) (s : Bool) (before : Past) (n : ℕ) (m : RpcMessage) → length (stream k s before) ≤ n → is_same_closer (as_closer (telling k s before m)) (Some (by_finish n)) ≡ false
 finish_of_none k s before n (Finish q true) le = finish_finish n _ ∙ not_yet (id k s q) before n le
-finish_of_none k s before n (Return q true outcome light) le = return_finish n _
+finish_of_none k s before n (Return head outcome) le = let o = opening_number (id k (not s) head.answer) before in closer_if head.release_param_caps o (Some (by_finish n)) (return_finish n o)
 finish_of_none k s before n (Finish q false) le = refl
-finish_of_none k s before n (Return q false outcome light) le = refl
 finish_of_none k s before n _ le = refl
 
 pub no_finish_yet : (k : ℕ) (s : Bool) (past : Past) (n : ℕ) → length (stream k s past) ≤ n → is_closed (tellings k s past) (Some (by_finish n)) ≡ false
@@ -132,9 +136,9 @@ no_finish_yet k s (e ∷ before) n le =
 
 pub return_of_none : (k : ℕ) (s : Bool) (before : Past) (n : ℕ) (m : RpcMessage) → length (stream k (not s) before) ≤ n → is_same_closer (as_closer (telling k s before m)) (Some (by_return n)) ≡ false
 return_of_none k s before n (Finish q true) le = finish_return n _
-return_of_none k s before n (Return q true outcome light) le = return_return n _ ∙ not_yet (id k (not s) q) before n le
+return_of_none k s before n (Return head outcome) le =
+    let o = opening_number (id k (not s) head.answer) before in closer_if head.release_param_caps o (Some (by_return n)) (return_return n o ∙ not_yet (id k (not s) head.answer) before n le)
 return_of_none k s before n (Finish q false) le = refl
-return_of_none k s before n (Return q false outcome light) le = refl
 return_of_none k s before n _ le = refl
 
 pub no_return_yet : (k : ℕ) (s : Bool) (past : Past) (n : ℕ) → length (stream k (not s) past) ≤ n → is_closed (tellings k s past) (Some (by_return n)) ≡ false

@@ -1,6 +1,6 @@
 -- What the logs of two ends of a connection agree on.
-use Rattle.std.specs.Prelude.{◌≡◌, ℕ, Bool, true, false}
-use Rattle.agree.specs.Types.{RpcMessage, Outcome, Return, DecodedRecord}
+use Rattle.std.specs.Prelude.{◌≡◌, ℕ, true, false}
+use Rattle.agree.specs.Types.{RpcMessage, Outcome, Return, ReturnHead, DecodedRecord}
 use Rattle.decoded_records.specs.Past.{Past, id}
 use Rattle.decoded_records.specs.Questions.{is_late}
 use Rattle.agree.specs.Streams.{IsPassed, IsCut, opening_number}
@@ -18,8 +18,8 @@ pub record AreLinked (k : ℕ) (one other : Past) : Type 0 where
 
 -- a Return that one sent the other belongs to one opening at both ends
 abbrev pub AgreeOnOpenings : ℕ → Past → Past → Type 0
-AgreeOnOpenings k one other = (q : ℕ) (release : Bool) (outcome : Outcome) (light : Bool) (from to : Past) (sent received : DecodedRecord) →
-    IsPassed k (Return q release outcome light) one other from to sent received → opening_number (id k false q) from ≡ opening_number (id k true q) to
+AgreeOnOpenings k one other = (head : ReturnHead) (outcome : Outcome) (from to : Past) (sent received : DecodedRecord) →
+    IsPassed k (Return head outcome) one other from to sent received → opening_number (id k false head.answer) from ≡ opening_number (id k true head.answer) to
 
 -- a message that is a Return late at its sender is late at its receiver
 abbrev pub AgreeOnLate : ℕ → Past → Past → Type 0

@@ -21,14 +21,14 @@ is_same_closer _ _ = false
 -- what a message is as a closer: a Return with releaseParamCaps true closes the Call that opened its question, a Finish
 -- with releaseResultCaps true the Return of its opening
 abbrev pub as_closer : Telling → Option Closer
-as_closer (Return q true outcome light, opening) = option_map by_return opening
+as_closer (Return head outcome, opening) = if head.release_param_caps then option_map by_return opening else None
 as_closer (Finish q true, opening) = option_map by_finish opening
 as_closer _ = None
 
 -- what closes a message of this number: a Call its Return, a Return the Finish of its opening
 abbrev pub closer_of : Telling → ℕ → Option Closer
-closer_of (Call q target interface method params yourself, opening) number = Some (by_return number)
-closer_of (Return q release outcome light, opening) number = option_map by_finish opening
+closer_of (Call head target params, opening) number = Some (by_return number)
+closer_of (Return head outcome, opening) number = option_map by_finish opening
 closer_of _ number = None
 
 -- one of these messages is that closer

@@ -12,7 +12,7 @@ Telling = RpcMessage × Option ℕ
 
 -- which opening a message speaks of: a Return that of a question of its receiver's, a Finish of one of its sender's
 abbrev pub speaks_of : ℕ → Bool → Past → RpcMessage → Option ℕ
-speaks_of k s before (Return q release outcome light) = opening_number (id k (not s) q) before
+speaks_of k s before (Return head outcome) = opening_number (id k (not s) head.answer) before
 speaks_of k s before (Finish q release) = opening_number (id k s q) before
 speaks_of k s before _ = None
 

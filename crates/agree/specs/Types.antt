@@ -4,6 +4,7 @@ pub use Rattle.rpc_view.specs.declared.message.Descriptor.TheVariants.{NoCap, Se
 pub use Rattle.rpc_view.specs.declared.message.Target.TheVariants.{Imported, Promised}
 pub use Rattle.rpc_view.specs.declared.message.Outcome.{Outcome}
 pub use Rattle.rpc_view.specs.declared.message.Outcome.TheVariants.{Results, Exception, Canceled, Elsewhere, TakeFrom}
+pub use Rattle.rpc_view.specs.declared.message.ReturnHead.{ReturnHead}
 pub use Rattle.rpc_view.specs.declared.message.RpcMessage.{RpcMessage}
 pub use Rattle.rpc_view.specs.declared.message.RpcMessage.TheVariants.{Bootstrap, Call, Return, Finish, Release, Disembargo}
 pub use Rattle.decoded_records.specs.declared.decoded.DecodedRecord.{DecodedRecord}

@@ -37,12 +37,12 @@ pub unnamed : (v d : ℕ) (e : DecodedRecord) (s : Step) → contains d (new_cal
 unnamed v d (Make c r interface method) s h = other_if (c == d) _ h
 unnamed v d (Wire true k c rs (Bootstrap q)) s h = other_if (c == d) _ h
 unnamed v d (Wire false k c rs (Bootstrap q)) s h = other_if (c == d) _ h
-unnamed v d (Wire false k c rs (Call q target interface method params yourself)) s h = other_if (c == d) _ h
+unnamed v d (Wire false k c rs (Call head target params)) s h = other_if (c == d) _ h
 unnamed v d e s h = refl
 
 unbrought : (d : ℕ) (es : Past) (e : DecodedRecord) → contains d (new_calls e) ≡ false → brings d es e ≡ None
 unbrought d es (Make c r interface method) h = other_if (c == d) _ h
-unbrought d es (Wire false k c rs (Call q target interface method params yourself)) h = other_if (c == d) _ h
+unbrought d es (Wire false k c rs (Call head target params)) h = other_if (c == d) _ h
 unbrought d es e h = refl
 
 was_here : (c : ℕ) (es : Past) (e : DecodedRecord) → brings c es e ≡ None → is_at_vat c (e ∷ es) ≡ true → (takes c es e ≡ false) × (is_at_vat c es ≡ true)
@@ -90,9 +90,9 @@ bringing : (c : ℕ) (es : Past) (e : DecodedRecord) → Refers es e → is_some
 bringing c es (Make d r interface method) refers h =
     let asked : Request = record { goal = view_of_reference es r; interface = interface; method = method } in
     (fresh d c es (Make d r interface method) refers refl (some_if (d == c) asked h), refl, refl)
-bringing c es (Wire false k d rs (Call q target interface method params yourself)) refers h =
-    let e = Wire false k d rs (Call q target interface method params yourself) in
-    let asked : Request = record { goal = view_of_target es e; interface = interface; method = method } in
+bringing c es (Wire false k d rs (Call head target params)) refers h =
+    let e = Wire false k d rs (Call head target params) in
+    let asked : Request = record { goal = view_of_target es e; interface = head.interface; method = head.method } in
     (fresh d c es e refers refl (some_if (d == c) asked h), refl, refl)
 bringing c es e refers h = absurd (false≢true h)
 

@@ -268,18 +268,18 @@ module _ (v number : ℕ) (es : Past) (own before : List Step) (old new : OrderT
   turned (Break r) s t = broken r s t
   turned (Field r c path) s t = named_field r c path s t
   turned (Wire true k c rs (Bootstrap q)) s t = booted k c rs q s t
-  turned (Wire true k c rs (Call q target interface method params yourself)) s t =
-      sent_on k c rs (Call q target interface method params yourself) s refl (t.good rule.Here) refl (λ d same. left_if (c == d) (last_answer (moves d) es) same) refl t.done t
+  turned (Wire true k c rs (Call head target params)) s t =
+      sent_on k c rs (Call head target params) s refl (t.good rule.Here) refl (λ d same. left_if (c == d) (last_answer (moves d) es) same) refl t.done t
   turned (Wire false k c rs (Bootstrap q)) s t = received k c rs (Bootstrap q) s refl (λ d a here. if_same (c == d) (option_and_then call_in_message (message_of_step a)) here) refl t.done t
-  turned (Wire false k c rs (Call q target interface method params yourself)) s t =
-      received k c rs (Call q target interface method params yourself) s refl (λ d a here. if_same (c == d) (option_and_then call_in_message (message_of_step a)) here) refl t.done t
-  turned (Wire true k c rs (Return q release outcome light)) s t = sent_quietly k c rs (Return q release outcome light) s refl refl t.done t
+  turned (Wire false k c rs (Call head target params)) s t =
+      received k c rs (Call head target params) s refl (λ d a here. if_same (c == d) (option_and_then call_in_message (message_of_step a)) here) refl t.done t
+  turned (Wire true k c rs (Return head outcome)) s t = sent_quietly k c rs (Return head outcome) s refl refl t.done t
   turned (Wire true k c rs (Finish q release)) s t = sent_quietly k c rs (Finish q release) s refl refl t.done t
   turned (Wire true k c rs (Resolve n resolution)) s t = sent_quietly k c rs (Resolve n resolution) s refl refl t.done t
   turned (Wire true k c rs (Release n count)) s t = sent_quietly k c rs (Release n count) s refl refl t.done t
   turned (Wire true k c rs (Disembargo n loopback target)) s t = sent_quietly k c rs (Disembargo n loopback target) s refl refl t.done t
   turned (Wire true k c rs Abort) s t = sent_quietly k c rs Abort s refl refl t.done t
-  turned (Wire false k c rs (Return q release outcome light)) s t = received_quietly k c rs (Return q release outcome light) s refl refl t.done t
+  turned (Wire false k c rs (Return head outcome)) s t = received_quietly k c rs (Return head outcome) s refl refl t.done t
   turned (Wire false k c rs (Finish q release)) s t = received_quietly k c rs (Finish q release) s refl refl t.done t
   turned (Wire false k c rs (Resolve n resolution)) s t = received_quietly k c rs (Resolve n resolution) s refl refl t.done t
   turned (Wire false k c rs (Release n count)) s t = received_quietly k c rs (Release n count) s refl refl t.done t

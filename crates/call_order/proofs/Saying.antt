@@ -5,7 +5,7 @@ use Rattle.std.proofs.lemmas.Bool.{false≢true}
 use Rattle.call_trace.specs.Naming.{Naming, naming}
 use Rattle.call_trace.specs.Part.{resolves_released, heard_late, Says}
 use Rattle.call_trace.specs.Said.{message_of_record, say_call, say_return, say_taken, say_resolve, caps_named, promise_named, call_answered, caps_at_paths}
-use Rattle.call_trace.specs.Types.{Results, Exception, Canceled, Elsewhere, TakeFrom, Outcome, RpcMessage, Bootstrap, Call, Return, Finish, Resolve, Release, Disembargo, Abort, DecodedRecord, Host, Vow, Fulfil, Break, Make, Field, Deliver, Answer, AnswerBy, Fault, Wire, Name, Cap, Message, Step}
+use Rattle.call_trace.specs.Types.{Results, Exception, Canceled, Elsewhere, TakeFrom, Outcome, RpcMessage, Bootstrap, Call, Return, ReturnHead, Finish, Resolve, Release, Disembargo, Abort, DecodedRecord, Host, Vow, Fulfil, Break, Make, Field, Deliver, Answer, AnswerBy, Fault, Wire, Name, Cap, Message, Step}
 use Rattle.call_trace.proofs.AsSent.{read, heard, says_heard}
 use Rattle.call_trace.proofs.Naming.{mapped_is, then_is}
 use Rattle.call_trace.proofs.Reading.{with_is}
@@ -40,10 +40,10 @@ deed_in (Fulfil r to) = deed.Other
 deed_in (Break r) = deed.Other
 deed_in (Field r c path) = deed.Other
 deed_in (Wire true k c rs (Bootstrap q)) = deed.Send k c
-deed_in (Wire true k c rs (Call q target interface method params yourself)) = deed.Send k c
+deed_in (Wire true k c rs (Call head target params)) = deed.Send k c
 deed_in (Wire false k c rs (Bootstrap q)) = deed.Receive k c
-deed_in (Wire false k c rs (Call q target interface method params yourself)) = deed.Receive k c
-deed_in (Wire sent k c rs (Return q release outcome light)) = deed.Other
+deed_in (Wire false k c rs (Call head target params)) = deed.Receive k c
+deed_in (Wire sent k c rs (Return head outcome)) = deed.Other
 deed_in (Wire sent k c rs (Finish q release)) = deed.Other
 deed_in (Wire sent k c rs (Resolve n resolution)) = deed.Other
 deed_in (Wire sent k c rs (Release n count)) = deed.Other
@@ -66,8 +66,8 @@ noted_none d c h = at (c == 0) h
 
 sent_deed : (k c : ℕ) (rs : List ℕ) (m : RpcMessage) → notes_call (Wire true k c rs m) ≡ true → passed (deed.Send k c) c ≡ deed_in (Wire true k c rs m)
 sent_deed k c rs (Bootstrap q) noted = noted_some (deed.Send k c) c noted
-sent_deed k c rs (Call q target interface method params yourself) noted = noted_some (deed.Send k c) c noted
-sent_deed k c rs (Return q release outcome light) noted = noted_none (deed.Send k c) c noted
+sent_deed k c rs (Call head target params) noted = noted_some (deed.Send k c) c noted
+sent_deed k c rs (Return head outcome) noted = noted_none (deed.Send k c) c noted
 sent_deed k c rs (Finish q release) noted = noted_none (deed.Send k c) c noted
 sent_deed k c rs (Resolve n resolution) noted = noted_none (deed.Send k c) c noted
 sent_deed k c rs (Release n count) noted = noted_none (deed.Send k c) c noted
@@ -76,8 +76,8 @@ sent_deed k c rs Abort noted = noted_none (deed.Send k c) c noted
 
 received_deed : (k c : ℕ) (rs : List ℕ) (m : RpcMessage) → notes_call (Wire false k c rs m) ≡ true → passed (deed.Receive k c) c ≡ deed_in (Wire false k c rs m)
 received_deed k c rs (Bootstrap q) noted = noted_some (deed.Receive k c) c noted
-received_deed k c rs (Call q target interface method params yourself) noted = noted_some (deed.Receive k c) c noted
-received_deed k c rs (Return q release outcome light) noted = noted_none (deed.Receive k c) c noted
+received_deed k c rs (Call head target params) noted = noted_some (deed.Receive k c) c noted
+received_deed k c rs (Return head outcome) noted = noted_none (deed.Receive k c) c noted
 received_deed k c rs (Finish q release) noted = noted_none (deed.Receive k c) c noted
 received_deed k c rs (Resolve n resolution) noted = noted_none (deed.Receive k c) c noted
 received_deed k c rs (Release n count) noted = noted_none (deed.Receive k c) c noted
@@ -138,8 +138,8 @@ resolve_none promise (cap.Field c path ∷ rest) = refl
 -- a message of these is neither a Bootstrap nor a Call
 abbrev pub has_no_call : RpcMessage → Bool
 has_no_call (Bootstrap q) = false
-has_no_call (Call q target interface method params yourself) = false
-has_no_call (Return q release outcome light) = true
+has_no_call (Call head target params) = false
+has_no_call (Return head outcome) = true
 has_no_call (Finish q release) = true
 has_no_call (Resolve n resolution) = true
 has_no_call (Release n count) = true
@@ -147,21 +147,21 @@ has_no_call (Disembargo n loopback target) = true
 has_no_call Abort = true
 
 module _ (names : Naming) (es : Past) (sent : Bool) (k c : ℕ) (rs : List ℕ) where
-  returned_none : (q : ℕ) (release : Bool) (outcome : Outcome) (light : Bool) (said : Message) → message_of_record names es (Wire sent k c rs (Return q release outcome light)) ≡ Some said → call_in_message said ≡ None
-  returned_none q release (Results payload) light said h =
-      let e = Wire sent k c rs (Return q release (Results payload) light) in
-      then_none (λ name. say_return (is_late es e) payload.fields name (caps_named names es e)) (return_none (is_late es e) payload.fields (caps_named names es e)) (call_answered names es k sent q) said h
-  returned_none q release Exception light said h = mapped_none message.Failed (λ c. refl) (call_answered names es k sent q) said h
-  returned_none q release Canceled light said h = mapped_none message.Failed (λ c. refl) (call_answered names es k sent q) said h
-  returned_none q release Elsewhere light said h = mapped_none message.Elsewhere (λ c. refl) (call_answered names es k sent q) said h
-  returned_none q release (TakeFrom n) light said h =
-      let e = Wire sent k c rs (Return q release (TakeFrom n) light) in
-      then_none _ (λ name m. taken_none _ _ name m) (call_answered names es k sent q) said h
+  returned_none : (head : ReturnHead) (outcome : Outcome) (said : Message) → message_of_record names es (Wire sent k c rs (Return head outcome)) ≡ Some said → call_in_message said ≡ None
+  returned_none head (Results payload) said h =
+      let e = Wire sent k c rs (Return head (Results payload)) in
+      then_none (λ name. say_return (is_late es e) payload.fields name (caps_named names es e)) (return_none (is_late es e) payload.fields (caps_named names es e)) (call_answered names es k sent head.answer) said h
+  returned_none head Exception said h = mapped_none message.Failed (λ c. refl) (call_answered names es k sent head.answer) said h
+  returned_none head Canceled said h = mapped_none message.Failed (λ c. refl) (call_answered names es k sent head.answer) said h
+  returned_none head Elsewhere said h = mapped_none message.Elsewhere (λ c. refl) (call_answered names es k sent head.answer) said h
+  returned_none head (TakeFrom n) said h =
+      let e = Wire sent k c rs (Return head (TakeFrom n)) in
+      then_none _ (λ name m. taken_none _ _ name m) (call_answered names es k sent head.answer) said h
 
   pub said_none : (m : RpcMessage) (said : Message) → has_no_call m ≡ true → message_of_record names es (Wire sent k c rs m) ≡ Some said → call_in_message said ≡ None
   said_none (Bootstrap q) said none h = absurd (false≢true none)
-  said_none (Call q target interface method params yourself) said none h = absurd (false≢true none)
-  said_none (Return q release outcome light) said none h = returned_none q release outcome light said h
+  said_none (Call head target params) said none h = absurd (false≢true none)
+  said_none (Return head outcome) said none h = returned_none head outcome said h
   said_none (Finish q release) said none h = said_is (message.Plain plain.Finish) refl said h
   said_none (Resolve n resolution) said none h =
       let e = Wire sent k c rs (Resolve n resolution) in
@@ -184,10 +184,10 @@ call_said names c interface method (Some caps) (Some name) None said known h = a
 
 pub said_call : (names : Naming) (es : Past) (sent : Bool) (k c : ℕ) (rs : List ℕ) (m : RpcMessage) (said : Message) → has_no_call m ≡ false → message_of_record names es (Wire sent k c rs m) ≡ Some said → IsCallSaid names c said
 said_call names es sent k c rs (Bootstrap q) said call h = let x = mapped_is message.Boot (names.call c) said h in (x.0, x.1, ap call_in_message (sym x.2))
-said_call names es sent k c rs (Call q target interface method params yourself) said call h =
-    let e = Wire sent k c rs (Call q target interface method params yourself) in
-    call_said names c interface method (caps_named names es e) (names.call c) (option_and_then names.cap (view_of_target es e)) said refl h
-said_call names es sent k c rs (Return q release outcome light) said call h = absurd (false≢true (sym call))
+said_call names es sent k c rs (Call head target params) said call h =
+    let e = Wire sent k c rs (Call head target params) in
+    call_said names c head.interface head.method (caps_named names es e) (names.call c) (option_and_then names.cap (view_of_target es e)) said refl h
+said_call names es sent k c rs (Return head outcome) said call h = absurd (false≢true (sym call))
 said_call names es sent k c rs (Finish q release) said call h = absurd (false≢true (sym call))
 said_call names es sent k c rs (Resolve n resolution) said call h = absurd (false≢true (sym call))
 said_call names es sent k c rs (Release n count) said call h = absurd (false≢true (sym call))

@@ -6,7 +6,7 @@ use Rattle.decoded_records.specs.Views.{view_of_target}
 use Rattle.call_trace.specs.Naming.{Naming}
 use Rattle.call_trace.specs.Part.{resolves_released, heard_late, ReadsAsSent, SaysReceive}
 use Rattle.call_trace.specs.Said.{message_of_record, say_call, say_return, say_taken, say_resolve, caps_named, promise_named, call_answered, caps_at_paths}
-use Rattle.call_trace.specs.Types.{Results, Exception, Canceled, Elsewhere, TakeFrom, Bootstrap, Call, Return, Finish, Resolve, Release, Disembargo, Abort, DecodedRecord, Wire, Name, Cap, Message, Step}
+use Rattle.call_trace.specs.Types.{Results, Exception, Canceled, Elsewhere, TakeFrom, Bootstrap, Call, Return, ReturnHead, Finish, Resolve, Release, Disembargo, Abort, DecodedRecord, Wire, Name, Cap, Message, Step}
 use Rattle.run_model.specs.declared.cap.Cap.TheVariants as cap
 use Rattle.run_model.specs.declared.message.Message.TheVariants as message
 use Rattle.run_model.specs.declared.plain.Plain.TheVariants as plain
@@ -84,7 +84,7 @@ is_taking m = false
 
 -- a record is a Return that takes results
 abbrev pub takes_from : DecodedRecord → Bool
-takes_from (Wire sent k c rs (Return q release (TakeFrom n) light)) = true
+takes_from (Wire sent k c rs (Return head (TakeFrom n))) = true
 takes_from e = false
 
 mapped_takes : {A : Type 0} (f : A → Message) → ((x : A) → is_taking (f x) ≡ false) → (o : Option A) (m : Message) → option_map f o ≡ Some m → is_taking m ≡ false
@@ -110,16 +110,16 @@ resolve_takes promise (c ∷ rest) = refl
 
 takes_nothing : (names : Naming) (es : Past) (e : DecodedRecord) (m : Message) → takes_from e ≡ false → message_of_record names es e ≡ Some m → is_taking m ≡ false
 takes_nothing names es (Wire sent k c rs (Bootstrap q)) m none h = mapped_takes message.Boot (λ c. refl) (names.call c) m h
-takes_nothing names es (Wire sent k c rs (Call q target interface method params yourself)) m none h =
-    let e = Wire sent k c rs (Call q target interface method params yourself) in
-    call_takes interface method (caps_named names es e) (names.call c) (option_and_then names.cap (view_of_target es e)) m h
-takes_nothing names es (Wire sent k c rs (Return q release (Results payload) light)) m none h =
-    let e = Wire sent k c rs (Return q release (Results payload) light) in
-    then_takes (λ name. say_return (is_late es e) payload.fields name (caps_named names es e)) (return_takes (is_late es e) payload.fields (caps_named names es e)) (call_answered names es k sent q) m h
-takes_nothing names es (Wire sent k c rs (Return q release Exception light)) m none h = mapped_takes message.Failed (λ c. refl) (call_answered names es k sent q) m h
-takes_nothing names es (Wire sent k c rs (Return q release Canceled light)) m none h = mapped_takes message.Failed (λ c. refl) (call_answered names es k sent q) m h
-takes_nothing names es (Wire sent k c rs (Return q release Elsewhere light)) m none h = mapped_takes message.Elsewhere (λ c. refl) (call_answered names es k sent q) m h
-takes_nothing names es (Wire sent k c rs (Return q release (TakeFrom n) light)) m none h = absurd (let no : ⊥ = cc in no)
+takes_nothing names es (Wire sent k c rs (Call head target params)) m none h =
+    let e = Wire sent k c rs (Call head target params) in
+    call_takes head.interface head.method (caps_named names es e) (names.call c) (option_and_then names.cap (view_of_target es e)) m h
+takes_nothing names es (Wire sent k c rs (Return head (Results payload))) m none h =
+    let e = Wire sent k c rs (Return head (Results payload)) in
+    then_takes (λ name. say_return (is_late es e) payload.fields name (caps_named names es e)) (return_takes (is_late es e) payload.fields (caps_named names es e)) (call_answered names es k sent head.answer) m h
+takes_nothing names es (Wire sent k c rs (Return head Exception)) m none h = mapped_takes message.Failed (λ c. refl) (call_answered names es k sent head.answer) m h
+takes_nothing names es (Wire sent k c rs (Return head Canceled)) m none h = mapped_takes message.Failed (λ c. refl) (call_answered names es k sent head.answer) m h
+takes_nothing names es (Wire sent k c rs (Return head Elsewhere)) m none h = mapped_takes message.Elsewhere (λ c. refl) (call_answered names es k sent head.answer) m h
+takes_nothing names es (Wire sent k c rs (Return head (TakeFrom n))) m none h = absurd (let no : ⊥ = cc in no)
 takes_nothing names es (Wire sent k c rs (Resolve n resolution)) m none h =
     let caps = caps_named names es (Wire sent k c rs (Resolve n resolution)) in
     then_takes (λ promise. option_map (say_resolve promise) caps) (λ promise. mapped_takes (say_resolve promise) (resolve_takes promise) caps) (promise_named names es k sent n) m h
@@ -181,12 +181,12 @@ pub record TakesResults (names : Naming) (es : Past) (k q n : ℕ) (said : Messa
   pub by_named : names.call by ≡ Some by_name
   pub is : said ≡ message.Taken name by_name
 
-pub taken_parts : (names : Naming) (es : Past) (k c : ℕ) (rs : List ℕ) (q : ℕ) (release : Bool) (n : ℕ) (light : Bool) (said : Message) →
-    message_of_record names es (Wire false k c rs (Return q release (TakeFrom n) light)) ≡ Some said → TakesResults names es k q n said
-taken_parts names es k c rs q release n light said h =
+pub taken_parts : (names : Naming) (es : Past) (k c : ℕ) (rs : List ℕ) (head : ReturnHead) (n : ℕ) (said : Message) →
+    message_of_record names es (Wire false k c rs (Return head (TakeFrom n))) ≡ Some said → TakesResults names es k head.answer n said
+taken_parts names es k c rs head n said h =
     let from = option_and_then names.call (call_of (id k false n) es) in
-    let name = first (λ name. say_taken false name from) (call_answered names es k false q) said h in
-    let call = first names.call (call_of (id k true q) es) name.0 name.1 in
+    let name = first (λ name. say_taken false name from) (call_answered names es k false head.answer) said h in
+    let call = first names.call (call_of (id k true head.answer) es) name.0 name.1 in
     let other = mapped (λ by. message.Taken name.0 by) from said name.2 in
     let by = first names.call (call_of (id k false n) es) other.0 other.1 in
     record {

@@ -18,7 +18,7 @@ use Rattle.decoded_records.specs.Past.{Past, Point, point, Each, id, last_where}
 use Rattle.decoded_records.specs.Questions.{opens, opening, is_over, is_opened, is_returned, is_finished, is_unfinished, is_unreturned, noted_call, call_at, call_of}
 use Rattle.decoded_records.specs.Bindings.{Refers}
 use Rattle.decoded_records.specs.declared.table_key.TableKey.{TableKey}
-use Rattle.call_trace.specs.Types.{Outcome, RpcMessage, Bootstrap, Call, Return, DecodedRecord, Wire, Name, Cap, Message, Step}
+use Rattle.call_trace.specs.Types.{Outcome, RpcMessage, Bootstrap, Call, Return, ReturnHead, DecodedRecord, Wire, Name, Cap, Message, Step}
 use Rattle.call_trace.specs.Naming.{naming, call_named, message_at, message_of_step}
 use Rattle.call_trace.specs.Said.{message_of_record, say_call, caps_named}
 use Rattle.call_trace.specs.Part.{Says, PairsOff}
@@ -115,11 +115,11 @@ asker_names v before earlier s k c rs (Bootstrap p) q h says =
     let M = mapped_is (λ M. step.Send v k M) (message_of_record names before e) s says in
     let boot = mapped_is message.Boot (names.call c) M.0 M.1 in
     record { message = M.0; name = boot.0; sent = ap message_of_step (sym M.2); calls = ap call_in_message (sym boot.2); named = boot.1 }
-asker_names v before earlier s k c rs (Call p target interface method params yourself) q h says =
-    let e = Wire true k c rs (Call p target interface method params yourself) in
+asker_names v before earlier s k c rs (Call head target params) q h says =
+    let e = Wire true k c rs (Call head target params) in
     let names = naming v (e ∷ before) (s ∷ earlier) in
     let M = mapped_is (λ M. step.Send v k M) (message_of_record names before e) s says in
-    let name = call_said interface method (caps_named names before e) (names.call c) (option_and_then names.cap (view_of_target before e)) M.0 M.1 in
+    let name = call_said head.interface head.method (caps_named names before e) (names.call c) (option_and_then names.cap (view_of_target before e)) M.0 M.1 in
     record { message = M.0; name = name.0; sent = ap message_of_step (sym M.2); calls = name.2; named = name.1 }
 asker_names v before earlier s k c rs m q h says = absurd (let no : ⊥ = cc in no)
 
@@ -128,7 +128,7 @@ pub answerer_names : (w : ℕ) (before : Past) (earlier : List Step) (s : Step) 
 answerer_names w before earlier s k c rs (Bootstrap p) q M name h is calls =
     ap (λ b. option_or (if b then option_and_then call_in_message (message_of_step s) else None) (call_named w before earlier c)) (eq-eqb c c refl)
     ∙ ap (λ o. option_or (option_and_then call_in_message o) (call_named w before earlier c)) is ∙ ap (λ o. option_or o (call_named w before earlier c)) calls
-answerer_names w before earlier s k c rs (Call p target interface method params yourself) q M name h is calls =
+answerer_names w before earlier s k c rs (Call head target params) q M name h is calls =
     ap (λ b. option_or (if b then option_and_then call_in_message (message_of_step s) else None) (call_named w before earlier c)) (eq-eqb c c refl)
     ∙ ap (λ o. option_or (option_and_then call_in_message o) (call_named w before earlier c)) is ∙ ap (λ o. option_or o (call_named w before earlier c)) calls
 answerer_names w before earlier s k c rs m q M name h is calls = absurd (let no : ⊥ = cc in no)
@@ -246,21 +246,21 @@ module _ (k v w : ℕ) (one : Past) (its_steps : List Step) (other : Past) (step
       )
 
   -- and so the question of its receiver's that a Return answers
-  pub answer_is_one : (q : ℕ) (release : Bool) (outcome : Outcome) (light : Bool) (c : ℕ) (name : Name) → m ≡ Return q release outcome light → is_unreturned (id k true q) other ≡ true → call_of (id k false q) from ≡ Some c →
-      call_named v one its_steps c ≡ Some name → (d : ℕ) × (call_of (id k true q) other ≡ Some d) × (call_named w other steps d ≡ Some name)
-  answer_is_one q release outcome light c name is used h named =
-      let answered = call_in_use (id k false q) from c h in
-      let n = opening_of_call (id k false q) from c answered in
+  pub answer_is_one : (head : ReturnHead) (outcome : Outcome) (c : ℕ) (name : Name) → m ≡ Return head outcome → is_unreturned (id k true head.answer) other ≡ true → call_of (id k false head.answer) from ≡ Some c →
+      call_named v one its_steps c ≡ Some name → (d : ℕ) × (call_of (id k true head.answer) other ≡ Some d) × (call_named w other steps d ≡ Some name)
+  answer_is_one head outcome c name is used h named =
+      let answered = call_in_use (id k false head.answer) from c h in
+      let n = opening_of_call (id k false head.answer) from c answered in
       let agree = (good_agree k one (e ∷ other) met.one_good (good, met.other_good) linked).there.openings in
-      let same_opening = agree q release outcome light from other sent e (subst (λ m. IsPassed k m one (e ∷ other) from other sent e) is passed) in
+      let same_opening = agree head outcome from other sent e (subst (λ m. IsPassed k m one (e ∷ other) from other sent e) is passed) in
       let nothing : passing k true e ≡ None = other_way k false m e passed.receives in
       let link : GoesOn (stream k true other) (stream k false one) = subst (λ o. GoesOn (cons_option o (stream k true other)) (stream k false one)) nothing linked.cut.to_one in
-      let r = question_named k w v other steps one its_steps met.other_paired met.one_paired (all_refer other met.other_good) (all_refer one met.one_good) met.back link q n.0 other from ([], refl)
+      let r = question_named k w v other steps one its_steps met.other_paired met.one_paired (all_refer other met.other_good) (all_refer one met.one_good) met.back link head.answer n.0 other from ([], refl)
       (before_it one sent from passed.sent_there) (sym same_opening ∙ n.1) n.1 in
       let same : r.theirs ≡ c = same_some r.theirs c (sym r.answered ∙ answered) in
       let as_named : r.name ≡ name = same_some r.name name (sym r.answerer_names ∙ ap (call_named v one its_steps) same ∙ named) in (
         r.mine,
-        ap (λ b. if b then None else call_at (opening (id k true q) other))
-            (unreturned_used (is_opened (id k true q) other) (is_returned (id k true q) other) (is_finished (id k true q) other) used) ∙ r.asked,
+        ap (λ b. if b then None else call_at (opening (id k true head.answer) other))
+            (unreturned_used (is_opened (id k true head.answer) other) (is_returned (id k true head.answer) other) (is_finished (id k true head.answer) other) used) ∙ r.asked,
         r.asker_names ∙ ap (λ n. Some n) as_named,
       )

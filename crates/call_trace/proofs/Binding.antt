@@ -148,25 +148,25 @@ may_bind m bound h = h
 -- nothing, where a Return comes late
 late_binds : (names : Naming) (es : Past) (k c : ℕ) (rs : List ℕ) (m : RpcMessage) (M : Message) (before : Past) (d : ℕ) (references : List ℕ) → is_late before (Wire false k d references m) ≡ true →
     message_of_record names es (Wire true k c rs m) ≡ Some M → MayBind M []
-late_binds names es k c rs (Return q release (Results payload) light) M before d references late h =
-    let e = Wire true k c rs (Return q release (Results payload) light) in
-    let name = then_is (λ name. say_return (is_late es e) payload.fields name (caps_named names es e)) (call_answered names es k true q) M h in
+late_binds names es k c rs (Return head (Results payload)) M before d references late h =
+    let e = Wire true k c rs (Return head (Results payload)) in
+    let name = then_is (λ name. say_return (is_late es e) payload.fields name (caps_named names es e)) (call_answered names es k true head.answer) M h in
     at (is_late es e) name.0 (caps_named names es e) name.2
   where
     at : (b : Bool) (name : Name) (caps : Option (List Cap)) → say_return b payload.fields name caps ≡ Some M → MayBind M []
     at true name caps h = let same : message.Late name ≡ M = cc in subst (λ M. MayBind M []) same refl
     at false name None h = absurd (let no : ⊥ = cc in no)
     at false name (Some caps) h = let same : message.Return name (caps_at_paths caps payload.fields) caps ≡ M = cc in subst (λ M. MayBind M []) same (inr refl)
-late_binds names es k c rs (Return q release Exception light) M before d references late h =
-    let name = mapped_is message.Failed (call_answered names es k true q) M h in subst (λ M. MayBind M []) name.2 refl
-late_binds names es k c rs (Return q release Canceled light) M before d references late h =
-    let name = mapped_is message.Failed (call_answered names es k true q) M h in subst (λ M. MayBind M []) name.2 refl
-late_binds names es k c rs (Return q release Elsewhere light) M before d references late h =
-    let name = mapped_is message.Elsewhere (call_answered names es k true q) M h in subst (λ M. MayBind M []) name.2 refl
-late_binds names es k c rs (Return q release (TakeFrom n) light) M before d references late h =
-    let gone = is_late es (Wire true k c rs (Return q release (TakeFrom n) light)) in
+late_binds names es k c rs (Return head Exception) M before d references late h =
+    let name = mapped_is message.Failed (call_answered names es k true head.answer) M h in subst (λ M. MayBind M []) name.2 refl
+late_binds names es k c rs (Return head Canceled) M before d references late h =
+    let name = mapped_is message.Failed (call_answered names es k true head.answer) M h in subst (λ M. MayBind M []) name.2 refl
+late_binds names es k c rs (Return head Elsewhere) M before d references late h =
+    let name = mapped_is message.Elsewhere (call_answered names es k true head.answer) M h in subst (λ M. MayBind M []) name.2 refl
+late_binds names es k c rs (Return head (TakeFrom n)) M before d references late h =
+    let gone = is_late es (Wire true k c rs (Return head (TakeFrom n))) in
     let by = option_and_then names.call (call_of (id k true n) es) in
-    let name = then_is (λ name. say_taken gone name by) (call_answered names es k true q) M h in
+    let name = then_is (λ name. say_taken gone name by) (call_answered names es k true head.answer) M h in
     at gone name.0 by name.2
   where
     at : (b : Bool) (name : Name) (by : Option Name) → say_taken b name by ≡ Some M → MayBind M []

@@ -143,22 +143,22 @@ module _ (names : Naming) (es : Past) (k c : ℕ) (rs : List ℕ) (named_caps : 
 
   brings : (m : RpcMessage) (M : Message) (place : ℕ) (view : View) → message_of_record names es (Wire true k c rs m) ≡ Some M → is_late es (Wire true k c rs m) ≡ false →
       view_of_descriptor es (Wire true k c rs m) place ≡ Some view → Brought m M place view
-  brings (Call q target interface method params yourself) M place view h late was =
-      let e = Wire true k c rs (Call q target interface method params yourself) in
+  brings (Call head target params) M place view h late was =
+      let e = Wire true k c rs (Call head target params) in
       let d = then_is (descriptor_view (view_of_reference es) es e) (slice_get (descriptors e) place) view was in
-      let cs = caps_there interface method (caps_named names es e) _ _ M h in
-      let x = at_place (Call q target interface method params yourself) place view d.0 d.1 d.2 cs.0 cs.1 in (
+      let cs = caps_there head.interface head.method (caps_named names es e) _ _ M h in
+      let x = at_place (Call head target params) place view d.0 d.1 d.2 cs.0 cs.1 in (
         x.0,
         x.1,
-        call_brings interface method place (caps_named names es e) _ _ M x.0 h
+        call_brings head.interface head.method place (caps_named names es e) _ _ M x.0 h
             (λ other is. let same : ◌≡◌ {A = Option (List Cap)} (Some cs.0) (Some other) = sym cs.1 ∙ is in let list : cs.0 ≡ other = cc in ap (λ l. slice_get l place) (sym list) ∙ x.2),
       )
-  brings (Return q release (Results payload) light) M place view h late was =
-      let e = Wire true k c rs (Return q release (Results payload) light) in
+  brings (Return head (Results payload)) M place view h late was =
+      let e = Wire true k c rs (Return head (Results payload)) in
       let d = then_is (descriptor_view (view_of_reference es) es e) (slice_get (descriptors e) place) view was in
-      let name = then_is (λ name. say_return (is_late es e) payload.fields name (caps_named names es e)) (call_answered names es k true q) M h in
+      let name = then_is (λ name. say_return (is_late es e) payload.fields name (caps_named names es e)) (call_answered names es k true head.answer) M h in
       let cs = results_there (is_late es e) payload.fields name.0 (caps_named names es e) M late name.2 in
-      let x = at_place (Return q release (Results payload) light) place view d.0 d.1 d.2 cs.0 cs.1 in (
+      let x = at_place (Return head (Results payload)) place view d.0 d.1 d.2 cs.0 cs.1 in (
         x.0,
         x.1,
         return_brings (is_late es e) payload.fields name.0 (caps_named names es e) place M x.0 late name.2

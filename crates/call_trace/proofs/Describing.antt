@@ -119,23 +119,23 @@ taken_brings false name by m h = let other = mapped_is (λ by. message.Taken nam
 pub says_brings : (names : Naming) (es : Past) (k c : ℕ) (rs : List ℕ) (m : RpcMessage) (M : Message) → is_late es (Wire true k c rs m) ≡ false → message_of_record names es (Wire true k c rs m) ≡ Some M →
     (caps : List Cap) × (caps_named names es (Wire true k c rs m) ≡ Some caps) × Brings caps M
 says_brings names es k c rs (Bootstrap q) M late h = let name = mapped_is message.Boot (names.call c) M h in nothing_is (message.Boot name.0) M refl (ap (λ m. Some m) name.2)
-says_brings names es k c rs (Call q target interface method params yourself) M late h =
-    let e = Wire true k c rs (Call q target interface method params yourself) in
-    call_is interface method (caps_named names es e) (names.call c) (option_and_then names.cap (view_of_target es e)) M h
-says_brings names es k c rs (Return q release (Results payload) light) M late h =
-    let e = Wire true k c rs (Return q release (Results payload) light) in
-    let name = then_is (λ name. say_return (is_late es e) payload.fields name (caps_named names es e)) (call_answered names es k true q) M h in
+says_brings names es k c rs (Call head target params) M late h =
+    let e = Wire true k c rs (Call head target params) in
+    call_is head.interface head.method (caps_named names es e) (names.call c) (option_and_then names.cap (view_of_target es e)) M h
+says_brings names es k c rs (Return head (Results payload)) M late h =
+    let e = Wire true k c rs (Return head (Results payload)) in
+    let name = then_is (λ name. say_return (is_late es e) payload.fields name (caps_named names es e)) (call_answered names es k true head.answer) M h in
     return_is (is_late es e) payload.fields name.0 (caps_named names es e) M late name.2
-says_brings names es k c rs (Return q release Exception light) M late h =
-    let name = mapped_is message.Failed (call_answered names es k true q) M h in nothing_is (message.Failed name.0) M refl (ap (λ m. Some m) name.2)
-says_brings names es k c rs (Return q release Canceled light) M late h =
-    let name = mapped_is message.Failed (call_answered names es k true q) M h in nothing_is (message.Failed name.0) M refl (ap (λ m. Some m) name.2)
-says_brings names es k c rs (Return q release Elsewhere light) M late h =
-    let name = mapped_is message.Elsewhere (call_answered names es k true q) M h in nothing_is (message.Elsewhere name.0) M refl (ap (λ m. Some m) name.2)
-says_brings names es k c rs (Return q release (TakeFrom n) light) M late h =
-    let gone = is_late es (Wire true k c rs (Return q release (TakeFrom n) light)) in
+says_brings names es k c rs (Return head Exception) M late h =
+    let name = mapped_is message.Failed (call_answered names es k true head.answer) M h in nothing_is (message.Failed name.0) M refl (ap (λ m. Some m) name.2)
+says_brings names es k c rs (Return head Canceled) M late h =
+    let name = mapped_is message.Failed (call_answered names es k true head.answer) M h in nothing_is (message.Failed name.0) M refl (ap (λ m. Some m) name.2)
+says_brings names es k c rs (Return head Elsewhere) M late h =
+    let name = mapped_is message.Elsewhere (call_answered names es k true head.answer) M h in nothing_is (message.Elsewhere name.0) M refl (ap (λ m. Some m) name.2)
+says_brings names es k c rs (Return head (TakeFrom n)) M late h =
+    let gone = is_late es (Wire true k c rs (Return head (TakeFrom n))) in
     let by = option_and_then names.call (call_of (id k true n) es) in
-    let name = then_is (λ name. say_taken gone name by) (call_answered names es k true q) M h in
+    let name = then_is (λ name. say_taken gone name by) (call_answered names es k true head.answer) M h in
     taken_brings gone name.0 by M name.2
 says_brings names es k c rs (Resolve n (Capped d)) M late h =
     let e = Wire true k c rs (Resolve n (Capped d)) in
@@ -234,20 +234,20 @@ one_cap o x y p q = let same : ◌≡◌ {A = Option Cap} (Some x) (Some y) = sy
 
 -- descriptors have no place in a message that names a new call at its sender
 unnamed : (v k c : ℕ) (rs : List ℕ) (m : RpcMessage) (j : ℕ) (d : Descriptor) (s : Step) → slice_get (descriptors_of m) j ≡ Some d → (call : ℕ) → names_call v call (Wire true k c rs m) s ≡ None
-unnamed v k c rs (Call q target interface method params yourself) j d s there call = refl
-unnamed v k c rs (Return q release (Results payload) light) j d s there call = refl
+unnamed v k c rs (Call head target params) j d s there call = refl
+unnamed v k c rs (Return head (Results payload)) j d s there call = refl
 unnamed v k c rs (Resolve n resolution) j d s there call = refl
 unnamed v k c rs m j d s there call = absurd (let no : ⊥ = cc in no)
 
 -- nor has a target
 untargeted : (v k c : ℕ) (rs : List ℕ) (m : RpcMessage) (t : Target) (s : Step) → target_of m ≡ Some t → (call : ℕ) → names_call v call (Wire true k c rs m) s ≡ None
-untargeted v k c rs (Call q target interface method params yourself) t s is call = refl
+untargeted v k c rs (Call head target params) t s is call = refl
 untargeted v k c rs (Disembargo n loopback target) t s is call = refl
 untargeted v k c rs m t s is call = absurd (let no : ⊥ = cc in no)
 
 -- and what has a target is no Return
 target_in_time : (before : Past) (k d : ℕ) (references : List ℕ) (m : RpcMessage) (t : Target) → target_of m ≡ Some t → is_late before (Wire false k d references m) ≡ false
-target_in_time before k d references (Call q target interface method params yourself) t is = refl
+target_in_time before k d references (Call head target params) t is = refl
 target_in_time before k d references (Disembargo n loopback target) t is = refl
 target_in_time before k d references m t is = absurd (let no : ⊥ = cc in no)
 
@@ -290,7 +290,7 @@ target_used k d references m other uses q path is =
     (and_parts (test (id k false q)) true (sym (ap (λ o. list_all test (option_to_list o)) (named k d references m q path is)) ∙ first)).0
   where
     named : (k d : ℕ) (references : List ℕ) (m : RpcMessage) (q : ℕ) (path : List ℕ) → target_of m ≡ Some (Promised q path) → question_targeted (Wire false k d references m) ≡ Some (id k false q)
-    named k d references (Call n target interface method params yourself) q path is = let same : target ≡ Promised q path = cc in ap (λ t. question_targeted (Wire false k d references (Call n t interface method params yourself))) same
+    named k d references (Call head target params) q path is = let same : target ≡ Promised q path = cc in ap (λ t. question_targeted (Wire false k d references (Call head t params))) same
     named k d references (Disembargo n loopback target) q path is = let same : target ≡ Promised q path = cc in ap (λ t. question_targeted (Wire false k d references (Disembargo n loopback t))) same
     named k d references m q path is = absurd (let no : ⊥ = cc in no)
 

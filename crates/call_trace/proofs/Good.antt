@@ -36,9 +36,9 @@ step_may_come v es steps before (Answer c results) s w goods good own says = ans
 step_may_come v es steps before (AnswerBy c by) s w goods good own says = answer_by_may_come v es steps before c by s w goods good says
 step_may_come v es steps before (Fault c) s w goods good own says = fault_may_come v es steps before c s w goods good says
 step_may_come v es steps before (Wire true k c rs (Bootstrap q)) s w goods good own says = own_may_come v es steps before (Wire true k c rs (Bootstrap q)) s w good refl says
-step_may_come v es steps before (Wire true k c rs (Call q target interface method params yourself)) s w goods good own says =
-    sent_call_may_come v es steps before k c rs q target interface method params yourself s w goods good says
-step_may_come v es steps before (Wire true k c rs (Return q release outcome light)) s w goods good own says = return_comes v es steps before w goods k c rs q release outcome light s good says
+step_may_come v es steps before (Wire true k c rs (Call head target params)) s w goods good own says =
+    sent_call_may_come v es steps before k c rs head target params s w goods good says
+step_may_come v es steps before (Wire true k c rs (Return head outcome)) s w goods good own says = return_comes v es steps before w goods k c rs head outcome s good says
 step_may_come v es steps before (Wire true k c rs (Finish q release)) s w goods good own says = own_may_come v es steps before (Wire true k c rs (Finish q release)) s w good refl says
 step_may_come v es steps before (Wire true k c rs (Resolve n resolution)) s w goods good own says = resolve_comes v es steps before w goods k c rs n resolution s good says
 step_may_come v es steps before (Wire true k c rs (Release n count)) s w goods good own says = own_may_come v es steps before (Wire true k c rs (Release n count)) s w good refl says

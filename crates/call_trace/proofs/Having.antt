@@ -70,8 +70,8 @@ call_got v es steps (Wire true k d rs (Bootstrap q)) s c name path says h =
     subst (Gets v (cap.Field name path)) (ap (λ m. step.Send v k m) boot.2 ∙ sent.2) (refl, (path, ap (λ n. cap.Field n path) (sym same)))
 call_got v es steps (Wire false k d rs (Bootstrap q)) s c name path says h =
     received_gets _ es (Wire false k d rs (Bootstrap q)) k rs s name path says (chosen_is (d == c) (option_and_then call_in_message (message_of_step s)) name h).1
-call_got v es steps (Wire false k d rs (Call q target interface method params yourself)) s c name path says h =
-    received_gets _ es (Wire false k d rs (Call q target interface method params yourself)) k rs s name path says (chosen_is (d == c) (option_and_then call_in_message (message_of_step s)) name h).1
+call_got v es steps (Wire false k d rs (Call head target params)) s c name path says h =
+    received_gets _ es (Wire false k d rs (Call head target params)) k rs s name path says (chosen_is (d == c) (option_and_then call_in_message (message_of_step s)) name h).1
 call_got v es steps e s c name path says h = absurd (let no : ⊥ = cc in no)
 
 calls_had : (before : List Step) (v : ℕ) (es : Past) (steps : List Step) → PairsOff v es steps → AllByRecursion (StandsIn before) steps → (c : ℕ) (name : Name) → call_named v es steps c ≡ Some name → (path : List ℕ) → Has before v (cap.Field name path)

@@ -131,11 +131,11 @@ pub binding_names : (v c : ℕ) (e : DecodedRecord) (s : Step) (o : Option Name)
 binding_names v c (Make d r interface method) s o = one_of d c (call v d) (call v c) o (λ e. ap (call v) e)
 binding_names v c (Wire true k d references (Bootstrap q)) s o = one_of d c (call v d) (call v c) o (λ e. ap (call v) e)
 binding_names v c (Wire false k d references (Bootstrap q)) s o = called_one d c (option_and_then call_in_message (message_of_step s)) o
-binding_names v c (Wire false k d references (Call q target interface method params yourself)) s o = called_one d c (option_and_then call_in_message (message_of_step s)) o
-binding_names v c (Wire true k d references (Call q target interface method params yourself)) s o = refl
-binding_names v c (Wire sent k d references (Return q release outcome light)) s o = at sent
+binding_names v c (Wire false k d references (Call head target params)) s o = called_one d c (option_and_then call_in_message (message_of_step s)) o
+binding_names v c (Wire true k d references (Call head target params)) s o = refl
+binding_names v c (Wire sent k d references (Return head outcome)) s o = at sent
   where
-    at : (sent : Bool) → bound_call (call_bound_by v (Wire sent k d references (Return q release outcome light)) (message_of_step s)) c o ≡ option_or (names_call v c (Wire sent k d references (Return q release outcome light)) s) o
+    at : (sent : Bool) → bound_call (call_bound_by v (Wire sent k d references (Return head outcome)) (message_of_step s)) c o ≡ option_or (names_call v c (Wire sent k d references (Return head outcome)) s) o
     at true = refl
     at false = refl
 binding_names v c (Wire sent k d references (Finish q release)) s o = at sent
@@ -187,8 +187,8 @@ binding_own v (AnswerBy d by) m own = refl
 binding_own v (Fault d) m own = refl
 binding_own v (Wire false k d references message) m own = absurd (let no : ⊥ = cc in no)
 binding_own v (Wire true k d references (Bootstrap q)) m own = refl
-binding_own v (Wire true k d references (Call q target interface method params yourself)) m own = refl
-binding_own v (Wire true k d references (Return q release outcome light)) m own = refl
+binding_own v (Wire true k d references (Call head target params)) m own = refl
+binding_own v (Wire true k d references (Return head outcome)) m own = refl
 binding_own v (Wire true k d references (Finish q release)) m own = refl
 binding_own v (Wire true k d references (Resolve n resolution)) m own = refl
 binding_own v (Wire true k d references (Release n count)) m own = refl

@@ -278,20 +278,20 @@ resolve_said promise (c ∷ rest) = refl
 
 no_boot_said : (names : Naming) (es : Past) (sent : Bool) (k c : ℕ) (rs : List ℕ) (m : RpcMessage) (M : Message) → opens_boot m ≡ false → message_of_record names es (Wire sent k c rs m) ≡ Some M → is_boot M ≡ false
 no_boot_said names es sent k c rs (Bootstrap q) M other h = absurd (let no : ⊥ = cc in no)
-no_boot_said names es sent k c rs (Call q target interface method params yourself) M other h =
-    let e = Wire sent k c rs (Call q target interface method params yourself) in
-    call_said interface method (caps_named names es e) (names.call c) (option_and_then names.cap (view_of_target es e)) M h
-no_boot_said names es sent k c rs (Return q release (Results payload) light) M other h =
-    let e = Wire sent k c rs (Return q release (Results payload) light) in
-    let name = then_is (λ name. say_return (is_late es e) payload.fields name (caps_named names es e)) (call_answered names es k sent q) M h in
+no_boot_said names es sent k c rs (Call head target params) M other h =
+    let e = Wire sent k c rs (Call head target params) in
+    call_said head.interface head.method (caps_named names es e) (names.call c) (option_and_then names.cap (view_of_target es e)) M h
+no_boot_said names es sent k c rs (Return head (Results payload)) M other h =
+    let e = Wire sent k c rs (Return head (Results payload)) in
+    let name = then_is (λ name. say_return (is_late es e) payload.fields name (caps_named names es e)) (call_answered names es k sent head.answer) M h in
     return_said (is_late es e) payload.fields name.0 (caps_named names es e) M name.2
-no_boot_said names es sent k c rs (Return q release Exception light) M other h = ap is_boot (sym (mapped_is message.Failed (call_answered names es k sent q) M h).2)
-no_boot_said names es sent k c rs (Return q release Canceled light) M other h = ap is_boot (sym (mapped_is message.Failed (call_answered names es k sent q) M h).2)
-no_boot_said names es sent k c rs (Return q release Elsewhere light) M other h = ap is_boot (sym (mapped_is message.Elsewhere (call_answered names es k sent q) M h).2)
-no_boot_said names es sent k c rs (Return q release (TakeFrom n) light) M other h =
-    let late = sent && is_late es (Wire sent k c rs (Return q release (TakeFrom n) light)) in
+no_boot_said names es sent k c rs (Return head Exception) M other h = ap is_boot (sym (mapped_is message.Failed (call_answered names es k sent head.answer) M h).2)
+no_boot_said names es sent k c rs (Return head Canceled) M other h = ap is_boot (sym (mapped_is message.Failed (call_answered names es k sent head.answer) M h).2)
+no_boot_said names es sent k c rs (Return head Elsewhere) M other h = ap is_boot (sym (mapped_is message.Elsewhere (call_answered names es k sent head.answer) M h).2)
+no_boot_said names es sent k c rs (Return head (TakeFrom n)) M other h =
+    let late = sent && is_late es (Wire sent k c rs (Return head (TakeFrom n))) in
     let by = option_and_then names.call (call_of (id k sent n) es) in
-    let name = then_is (λ name. say_taken late name by) (call_answered names es k sent q) M h in
+    let name = then_is (λ name. say_taken late name by) (call_answered names es k sent head.answer) M h in
     taken_said late name.0 by M name.2
 no_boot_said names es sent k c rs (Resolve n resolution) M other h =
     let e = Wire sent k c rs (Resolve n resolution) in

@@ -36,7 +36,7 @@ names_new : (v c : ℕ) (e : DecodedRecord) (s : Step) (name : Name) → names_c
 names_new v c (Make d r interface method) s name h = one_there (d == c) (chosen (d == c) _ name h)
 names_new v c (Wire true k d references (Bootstrap q)) s name h = one_there (d == c) (chosen (d == c) _ name h)
 names_new v c (Wire false k d references (Bootstrap q)) s name h = one_there (d == c) (chosen (d == c) _ name h)
-names_new v c (Wire false k d references (Call q target interface method params yourself)) s name h = one_there (d == c) (chosen (d == c) _ name h)
+names_new v c (Wire false k d references (Call head target params)) s name h = one_there (d == c) (chosen (d == c) _ name h)
 names_new v c e s name h = absurd (let no : ⊥ = cc in no)
 
 either_true : (a b : Bool) → (a ≡ true) ⊎ (b ≡ true) → (a || b) ≡ true
@@ -175,11 +175,11 @@ names_some v es steps (Wire false k d references (Bootstrap q)) s c says there =
     let names = naming v (e ∷ es) (s ∷ steps) in
     if_own (d == c) _ (is_one (d == c) there)
     (received_call names es e k references s says refl (λ m h. let name = mapped_is message.Boot (names.call d) m h in (name.0, ap call_in_message (sym name.2))))
-names_some v es steps (Wire false k d references (Call q target interface method params yourself)) s c says there =
-    let e = Wire false k d references (Call q target interface method params yourself) in
+names_some v es steps (Wire false k d references (Call head target params)) s c says there =
+    let e = Wire false k d references (Call head target params) in
     let names = naming v (e ∷ es) (s ∷ steps) in
     if_own (d == c) _ (is_one (d == c) there)
-    (received_call names es e k references s says refl (λ m h. say_call_is interface method (caps_named names es e) (names.call d) (option_and_then names.cap (view_of_target es e)) m h))
+    (received_call names es e k references s says refl (λ m h. say_call_is head.interface head.method (caps_named names es e) (names.call d) (option_and_then names.cap (view_of_target es e)) m h))
 names_some v es steps e s c says there = absurd (let no : ⊥ = cc in no)
 
 pub calls_named : (v : ℕ) (es : Past) (steps : List Step) → PairsOff v es steps → (c : ℕ) → is_bound_call es c ≡ true → Has (call_named v es steps c)

@@ -14,27 +14,28 @@ use Rattle.run_model.specs.Right.{ReachesObject, IsConnected}
 use Rattle.run_model.specs.Early.{early}
 use Rattle.call_trace.specs.Part.{IsPart}
 use Rattle.call_trace.specs.InLife.{UsesLives}
+use Rattle.rpc_view.specs.Message.{plain_call, plain_return}
 
 abbrev pub log_1 : List DecodedRecord
 log_1 =
     (Wire true 0 1 [] (Bootstrap 0)) ∷
     (Field 1 1 []) ∷
     (Make 2 1 4660 2) ∷
-    (Wire true 0 2 [] (Call 1 (Promised 0 []) 4660 2 (record { descriptors = []; fields = [] }) false)) ∷
-    (Wire false 0 0 (2 ∷ []) (Return 0 true (Results (record { descriptors = ((SenderHosted 0) ∷ []); fields = (([], 0) ∷ []) })) false)) ∷
-    (Wire false 0 0 [] (Return 1 true (Results (record { descriptors = []; fields = [] })) false)) ∷
+    (Wire true 0 2 [] (Call (plain_call 1 4660 2) (Promised 0 []) (record { descriptors = []; fields = [] }))) ∷
+    (Wire false 0 0 (2 ∷ []) (Return (plain_return 0 true) (Results (record { descriptors = ((SenderHosted 0) ∷ []); fields = (([], 0) ∷ []) })))) ∷
+    (Wire false 0 0 [] (Return (plain_return 1 true) (Results (record { descriptors = []; fields = [] })))) ∷
     []
 
 abbrev pub log_2 : List DecodedRecord
 log_2 =
     (Host 1 7) ∷
     (Wire false 0 1 [] (Bootstrap 0)) ∷
-    (Wire false 0 2 [] (Call 1 (Promised 0 []) 4660 2 (record { descriptors = []; fields = [] }) false)) ∷
+    (Wire false 0 2 [] (Call (plain_call 1 4660 2) (Promised 0 []) (record { descriptors = []; fields = [] }))) ∷
     (Answer 1 ((1, []) ∷ [])) ∷
     (Deliver 2 7) ∷
-    (Wire true 0 0 (1 ∷ []) (Return 0 true (Results (record { descriptors = ((SenderHosted 0) ∷ []); fields = (([], 0) ∷ []) })) false)) ∷
+    (Wire true 0 0 (1 ∷ []) (Return (plain_return 0 true) (Results (record { descriptors = ((SenderHosted 0) ∷ []); fields = (([], 0) ∷ []) })))) ∷
     (Answer 2 []) ∷
-    (Wire true 0 0 [] (Return 1 true (Results (record { descriptors = []; fields = [] })) false)) ∷
+    (Wire true 0 0 [] (Return (plain_return 1 true) (Results (record { descriptors = []; fields = [] })))) ∷
     []
 
 abbrev pub run : List Step

@@ -16,7 +16,7 @@ use Rattle.vat_rules.specs.Judged.{IsGood}
 use Rattle.vat_rules.specs.Ways.{LeadsTo, AreOneThere}
 use Rattle.vat_rules.specs.declared.rule.Rule.TheVariants as rule
 use Rattle.rpc_view.specs.declared.message.Payload.{Payload}
-use Rattle.call_trace.specs.Types.{RpcMessage, Target, Results, Exception, Canceled, Elsewhere, TakeFrom, Bootstrap, Call, Return, Finish, Resolve, Release, Disembargo, Abort, DecodedRecord, Host, Vow, Fulfil, Break, Make, Field, Deliver, Answer, AnswerBy, Fault, Wire, View, Object, Name, Cap, Message, Step}
+use Rattle.call_trace.specs.Types.{RpcMessage, Target, Results, Exception, Canceled, Elsewhere, TakeFrom, Bootstrap, Call, CallHead, Return, Finish, Resolve, Release, Disembargo, Abort, DecodedRecord, Host, Vow, Fulfil, Break, Make, Field, Deliver, Answer, AnswerBy, Fault, Wire, View, Object, Name, Cap, Message, Step}
 use Rattle.call_trace.specs.Naming.{Naming, naming, call_named, cap_named}
 use Rattle.call_trace.specs.Said.{message_of_record, say_call, say_return, say_taken, say_resolve, caps_named, promise_named, call_answered, all_there, caps_at_paths}
 use Rattle.call_trace.specs.Part.{reference_named, promise_in, result_named, resolves_released, heard_late, Says, PairsOff}
@@ -288,7 +288,7 @@ receive_stays v k (message.Call c target interface method caps) bound h name = a
 receive_stays v k m bound h name = refl
 
 abbrev carries_call : RpcMessage → Bool
-carries_call (Call q target interface method params yourself) = true
+carries_call (Call head target params) = true
 carries_call m = false
 
 return_no_call : (late : Bool) (fields : List (List ℕ × ℕ)) (name : Name) (caps : Option (List Cap)) (m : Message) → say_return late fields name caps ≡ Some m → call_in m ≡ false
@@ -308,18 +308,18 @@ resolve_no_call promise [] = refl
 said_no_call : (names : Naming) (es : Past) (sent : Bool) (k c : ℕ) (rs : List ℕ) (m : RpcMessage) (sent_message : Message) → carries_call m ≡ false →
     message_of_record names es (Wire sent k c rs m) ≡ Some sent_message → call_in sent_message ≡ false
 said_no_call names es sent k c rs (Bootstrap q) M isnt h = ap call_in (sym (mapped_is message.Boot (names.call c) M h).2)
-said_no_call names es sent k c rs (Call q target interface method params yourself) M isnt h = absurd (false≢true (sym isnt))
-said_no_call names es sent k c rs (Return q release (Results payload) light) M isnt h =
-    let e = Wire sent k c rs (Return q release (Results payload) light) in
-    let name = then_is (λ name. say_return (is_late es e) payload.fields name (caps_named names es e)) (call_answered names es k sent q) M h in
+said_no_call names es sent k c rs (Call head target params) M isnt h = absurd (false≢true (sym isnt))
+said_no_call names es sent k c rs (Return head (Results payload)) M isnt h =
+    let e = Wire sent k c rs (Return head (Results payload)) in
+    let name = then_is (λ name. say_return (is_late es e) payload.fields name (caps_named names es e)) (call_answered names es k sent head.answer) M h in
     return_no_call (is_late es e) payload.fields name.0 (caps_named names es e) M name.2
-said_no_call names es sent k c rs (Return q release Exception light) M isnt h = ap call_in (sym (mapped_is message.Failed (call_answered names es k sent q) M h).2)
-said_no_call names es sent k c rs (Return q release Canceled light) M isnt h = ap call_in (sym (mapped_is message.Failed (call_answered names es k sent q) M h).2)
-said_no_call names es sent k c rs (Return q release Elsewhere light) M isnt h = ap call_in (sym (mapped_is message.Elsewhere (call_answered names es k sent q) M h).2)
-said_no_call names es sent k c rs (Return q release (TakeFrom n) light) M isnt h =
-    let late = sent && is_late es (Wire sent k c rs (Return q release (TakeFrom n) light)) in
+said_no_call names es sent k c rs (Return head Exception) M isnt h = ap call_in (sym (mapped_is message.Failed (call_answered names es k sent head.answer) M h).2)
+said_no_call names es sent k c rs (Return head Canceled) M isnt h = ap call_in (sym (mapped_is message.Failed (call_answered names es k sent head.answer) M h).2)
+said_no_call names es sent k c rs (Return head Elsewhere) M isnt h = ap call_in (sym (mapped_is message.Elsewhere (call_answered names es k sent head.answer) M h).2)
+said_no_call names es sent k c rs (Return head (TakeFrom n)) M isnt h =
+    let late = sent && is_late es (Wire sent k c rs (Return head (TakeFrom n))) in
     let by = option_and_then names.call (call_of (id k sent n) es) in
-    let name = then_is (λ name. say_taken late name by) (call_answered names es k sent q) M h in
+    let name = then_is (λ name. say_taken late name by) (call_answered names es k sent head.answer) M h in
     taken_no_call late name.0 by M name.2
 said_no_call names es sent k c rs (Resolve n resolution) M isnt h =
     let e = Wire sent k c rs (Resolve n resolution) in
@@ -380,27 +380,27 @@ module _ (v : ℕ) (es : Past) (steps earlier : List Step) (w : IsWithin v es st
             inr (subst (λ n. at_vat steps n v ≡ None) (one_answer a.0 name.0 (call_named v es steps d) a.1 name.1) (nowhere_more a.0 (arrived_spent earlier w.linked a.0 v a.2)))
       ])
 
-  call_sent_effect : (k d : ℕ) (rs : List ℕ) (q : ℕ) (target : Target) (interface method : ℕ) (params : Payload) (yourself : Bool) (s : Step) → is_at_vat d es ≡ true →
-      Says v es steps (Wire true k d rs (Call q target interface method params yourself)) s → Effect v es steps (Wire true k d rs (Call q target interface method params yourself)) s
-  call_sent_effect k d rs q target interface method params yourself s here says =
-      let e = Wire true k d rs (Call q target interface method params yourself) in
+  call_sent_effect : (k d : ℕ) (rs : List ℕ) (head : CallHead) (target : Target) (params : Payload) (s : Step) → is_at_vat d es ≡ true →
+      Says v es steps (Wire true k d rs (Call head target params)) s → Effect v es steps (Wire true k d rs (Call head target params)) s
+  call_sent_effect k d rs head target params s here says =
+      let e = Wire true k d rs (Call head target params) in
       let names = naming v (e ∷ es) (s ∷ steps) in
       let sent = mapped_is (λ m. step.Send v k m) (message_of_record names es e) s says in
-      let call_is = call_said interface method (caps_named names es e) (names.call d) (option_and_then names.cap (view_of_target es e)) sent.0 sent.1 in
-      let is : s ≡ step.Send v k (message.Call call_is.call call_is.to interface method call_is.caps) = sym sent.2 ∙ ap (λ m. step.Send v k m) call_is.is in
+      let call_is = call_said head.interface head.method (caps_named names es e) (names.call d) (option_and_then names.cap (view_of_target es e)) sent.0 sent.1 in
+      let is : s ≡ step.Send v k (message.Call call_is.call call_is.to head.interface head.method call_is.caps) = sym sent.2 ∙ ap (λ m. step.Send v k m) call_is.is in
       goes d call_is.call (λ c. refl) (λ c. refl) call_is.named (λ other. ap (move_of other v) is) (inl here)
 
-  call_received_effect : (k d : ℕ) (rs : List ℕ) (q : ℕ) (target : Target) (interface method : ℕ) (params : Payload) (yourself : Bool) (s : Step) → IsLinked earlier s →
-      Says v es steps (Wire false k d rs (Call q target interface method params yourself)) s → Effect v es steps (Wire false k d rs (Call q target interface method params yourself)) s
-  call_received_effect k d rs q target interface method params yourself s linked says =
-      let e = Wire false k d rs (Call q target interface method params yourself) in
+  call_received_effect : (k d : ℕ) (rs : List ℕ) (head : CallHead) (target : Target) (params : Payload) (s : Step) → IsLinked earlier s →
+      Says v es steps (Wire false k d rs (Call head target params)) s → Effect v es steps (Wire false k d rs (Call head target params)) s
+  call_received_effect k d rs head target params s linked says =
+      let e = Wire false k d rs (Call head target params) in
       let names = naming v (e ∷ es) (s ∷ steps) in
       let goal = view_of_target es e in
-      let call_is = call_said interface method (caps_named names es e) (names.call d) (option_and_then names.cap goal) (read es e says.message) (says_read says refl) in
-      let was = read_call es e says.message call_is.call call_is.to interface method call_is.caps call_is.is in
-      let is : s ≡ step.Receive v k (message.Call call_is.call call_is.to interface method call_is.caps) says.bound = says.step ∙ ap (λ m. step.Receive v k m says.bound) was in
-      let nowhere = at_no_vat earlier w.legal w.linked call_is.call v k v call_is.to interface method call_is.caps says.bound (subst (IsLinked earlier) is linked) in
-      comes d call_is.call (record { goal = goal; interface = interface; method = method }) (asked_by_parts call_is.to interface method) (λ c. refl)
+      let call_is = call_said head.interface head.method (caps_named names es e) (names.call d) (option_and_then names.cap goal) (read es e says.message) (says_read says refl) in
+      let was = read_call es e says.message call_is.call call_is.to head.interface head.method call_is.caps call_is.is in
+      let is : s ≡ step.Receive v k (message.Call call_is.call call_is.to head.interface head.method call_is.caps) says.bound = says.step ∙ ap (λ m. step.Receive v k m says.bound) was in
+      let nowhere = at_no_vat earlier w.legal w.linked call_is.call v k v call_is.to head.interface head.method call_is.caps says.bound (subst (IsLinked earlier) is linked) in
+      comes d call_is.call (record { goal = goal; interface = head.interface; method = head.method }) (asked_by_parts call_is.to head.interface head.method) (λ c. refl)
       call_is.named (λ other. ap (move_of other v) is) (at_own call_is.call v earlier steps w.own ∙ nowhere) (call_is.targeted, refl, refl)
 
   sent_effect : (k d : ℕ) (rs : List ℕ) (m : RpcMessage) (s : Step) → carries_call m ≡ false → Says v es steps (Wire true k d rs m) s → Effect v es steps (Wire true k d rs m) s
@@ -447,9 +447,9 @@ module _ (v : ℕ) (es : Past) (steps earlier : List Step) (w : IsWithin v es st
       let other = mapped_is (λ other. step.AnswerBy v name.0 other) (call_named v es steps by) s name.2 in
       quiet (λ c. refl) (λ name. ap (move_of name v) (sym other.2))
   effect (Fault d) s legal linked good says = fault_effect d s (and_parts (is_at_vat d es || is_served d es) (not (is_settled d es)) (good rule.Answer)).0 says
-  effect (Wire true k d rs (Call q target interface method params yourself)) s legal linked good says = call_sent_effect k d rs q target interface method params yourself s (good rule.Here) says
+  effect (Wire true k d rs (Call head target params)) s legal linked good says = call_sent_effect k d rs head target params s (good rule.Here) says
   effect (Wire true k d rs m) s legal linked good says = sent_effect k d rs m s refl says
-  effect (Wire false k d rs (Call q target interface method params yourself)) s legal linked good says = call_received_effect k d rs q target interface method params yourself s linked says
+  effect (Wire false k d rs (Call head target params)) s legal linked good says = call_received_effect k d rs head target params s linked says
   effect (Wire false k d rs m) s legal linked good says = received_effect k d rs m s refl (λ c. refl) says
 
 -- ---- one record more
@@ -636,20 +636,20 @@ goes_by : (names : View → Option Cap) (es : Past) (here : Asked) (interface me
 goes_by names es here interface method to None said goal = absurd said
 goes_by names es here interface method to (Some a) said goal = (goal.0, goal.1 ∙ sym said.1, goal.2 ∙ sym said.2)
 
-pub sent_call_may_come : (v : ℕ) (es : Past) (steps before : List Step) (k c : ℕ) (rs : List ℕ) (q : ℕ) (target : Target) (interface method : ℕ) (params : Payload) (yourself : Bool) (s : Step) →
-    IsWithin v es steps before → Each IsGood es → IsGood es (Wire true k c rs (Call q target interface method params yourself)) → Says v es steps (Wire true k c rs (Call q target interface method params yourself)) s → MayCome before s
-sent_call_may_come v es steps before k c rs q target interface method params yourself s w goods good says =
-    let e = Wire true k c rs (Call q target interface method params yourself) in
+pub sent_call_may_come : (v : ℕ) (es : Past) (steps before : List Step) (k c : ℕ) (rs : List ℕ) (head : CallHead) (target : Target) (params : Payload) (s : Step) →
+    IsWithin v es steps before → Each IsGood es → IsGood es (Wire true k c rs (Call head target params)) → Says v es steps (Wire true k c rs (Call head target params)) s → MayCome before s
+sent_call_may_come v es steps before k c rs head target params s w goods good says =
+    let e = Wire true k c rs (Call head target params) in
     let names = naming v (e ∷ es) (s ∷ steps) in
     let sent = mapped_is (λ m. step.Send v k m) (message_of_record names es e) s says in
-    let m = call_said interface method (caps_named names es e) (names.call c) (option_and_then names.cap (view_of_target es e)) sent.0 sent.1 in
-    let is : step.Send v k (message.Call m.call m.to interface method m.caps) ≡ s = ap (λ m. step.Send v k m) (sym m.is) ∙ sent.2 in
+    let m = call_said head.interface head.method (caps_named names es e) (names.call c) (option_and_then names.cap (view_of_target es e)) sent.0 sent.1 in
+    let is : step.Send v k (message.Call m.call m.to head.interface head.method m.caps) ≡ s = ap (λ m. step.Send v k m) (sym m.is) ∙ sent.2 in
     let t = is_there v es steps before w goods c (good rule.Here) in
-    let goal = goes_by (cap_named v es steps) es t.here interface method (view_of_target es e) (request_of c es) t.asks (good rule.Goal) in
-    let known = target_known es k c rs q target interface method params yourself (all_sound (e ∷ es) (good, goods)) in
+    let goal = goes_by (cap_named v es steps) es t.here head.interface head.method (view_of_target es e) (request_of c es) t.asks (good rule.Goal) in
+    let known = target_known es k c rs head target params (all_sound (e ∷ es) (good, goods)) in
     let targeted = known_named v es steps before w e s (good rule.Ref) (view_of_target es e) known m.to m.targeted in
     let meets = goal_meets v es steps before w t.here (request_of c es) (view_of_target es e) m.to t.asks targeted goal.0 in
-    let P : Asked → Type 0 = λ asked. Meets before asked.goal m.to × (interface ≡ asked.interface) × (method ≡ asked.method) in
+    let P : Asked → Type 0 = λ asked. Meets before asked.goal m.to × (head.interface ≡ asked.interface) × (head.method ≡ asked.method) in
     subst (MayCome before) is
     (subst (λ n. IsSomeAnd (at_vat before n v) P) (one_answer t.name m.call (call_named v es steps c) t.named m.named)
     (subst (λ o. IsSomeAnd o P) (sym t.there) (meets, goal.1, goal.2)))

@@ -16,7 +16,7 @@ use Rattle.decoded_records.specs.Lives.{begins, is_in_life}
 use Rattle.decoded_records.specs.Questions.{is_late, is_unfinished, is_unreturned, call_of}
 use Rattle.decoded_records.specs.Views.{view_of_reference, view_of_number, view_of_target, view_given}
 use Rattle.rpc_view.specs.declared.message.Payload.{Payload}
-use Rattle.call_trace.specs.Types.{Target, Outcome, Results, Exception, Canceled, Elsewhere, TakeFrom, Resolution, RpcMessage, Bootstrap, Call, Return, Finish, Resolve, Release, Disembargo, Abort, DecodedRecord, Wire, Name, Cap, Message, Step}
+use Rattle.call_trace.specs.Types.{Target, Outcome, Results, Exception, Canceled, Elsewhere, TakeFrom, Resolution, RpcMessage, Bootstrap, Call, CallHead, Return, ReturnHead, Finish, Resolve, Release, Disembargo, Abort, DecodedRecord, Wire, Name, Cap, Message, Step}
 use Rattle.call_trace.specs.Naming.{Naming, naming, cap_named, call_named, message_at}
 use Rattle.call_trace.specs.Said.{message_of_record, say_call, say_return, say_taken, say_resolve, caps_named, promise_named, call_answered, caps_at_paths}
 use Rattle.call_trace.specs.Part.{resolves_released, ReadsAsSent}
@@ -80,10 +80,10 @@ pub record IsReadAlike (mine : Naming) (from : Past) (sent : DecodedRecord) (the
   pub caps : is_late other e ≡ false → (cs : List Cap) → caps_named mine from sent ≡ Some cs → caps_named theirs other e ≡ Some cs
   pub target : (t : Cap) → option_and_then mine.cap (view_of_target from sent) ≡ Some t → option_and_then theirs.cap (view_of_target other e) ≡ Some t
   pub late : is_late from sent ≡ true → is_late other e ≡ true
-  pub answers : (q : ℕ) (release : Bool) (outcome : Outcome) (light : Bool) → m ≡ Return q release outcome light → (name : Name) → call_answered mine from k true q ≡ Some name → call_answered theirs other k false q ≡ Some name
-  pub taken : (q : ℕ) (release : Bool) (n : ℕ) (light : Bool) → m ≡ Return q release (TakeFrom n) light → (by : Name) → option_and_then mine.call (call_of (id k true n) from) ≡ Some by →
+  pub answers : (head : ReturnHead) (outcome : Outcome) → m ≡ Return head outcome → (name : Name) → call_answered mine from k true head.answer ≡ Some name → call_answered theirs other k false head.answer ≡ Some name
+  pub taken : (head : ReturnHead) (n : ℕ) → m ≡ Return head (TakeFrom n) → (by : Name) → option_and_then mine.call (call_of (id k true n) from) ≡ Some by →
       option_and_then theirs.call (call_of (id k false n) other) ≡ Some by
-  pub takes : (q : ℕ) (release : Bool) (n : ℕ) (light : Bool) → m ≡ Return q release (TakeFrom n) light → (by : Name) × (option_and_then theirs.call (call_of (id k false n) other) ≡ Some by)
+  pub takes : (head : ReturnHead) (n : ℕ) → m ≡ Return head (TakeFrom n) → (by : Name) × (option_and_then theirs.call (call_of (id k false n) other) ≡ Some by)
   pub promise : (n : ℕ) (x : Cap) → promise_named mine from k true n ≡ Some x → promise_named theirs other k false n ≡ Some (if not (is_in_life (id k false n) other) then cap.Nothing else x)
 
 module _ (mine : Naming) (from : Past) (theirs : Naming) (other : Past) (k d c : ℕ) (noted references : List ℕ) (M : Message) where
@@ -99,57 +99,57 @@ module _ (mine : Naming) (from : Past) (theirs : Naming) (other : Past) (k d c :
       let name = mapped_is message.Boot (mine.call d) M h in
       ap (λ o. option_map message.Boot o) (alike.calls name.0 (ap call_in_message (sym name.2)) q (eq-eqb q q refl)) ∙ ap (λ m. Some (read other e m)) name.2
 
-  call_read : (q : ℕ) (target : Target) (interface method : ℕ) (params : Payload) (yourself : Bool) → Alike (Call q target interface method params yourself) → IsRead (Call q target interface method params yourself)
-  call_read q target interface method params yourself alike h =
-      let m = Call q target interface method params yourself in
+  call_read : (head : CallHead) (target : Target) (params : Payload) → Alike (Call head target params) → IsRead (Call head target params)
+  call_read head target params alike h =
+      let m = Call head target params in
       let sent = Wire true k d noted m in
       let e = Wire false k c references m in
-      let p = call_parts interface method (caps_named mine from sent) (mine.call d) (option_and_then mine.cap (view_of_target from sent)) M h in
-      ap₂ (λ caps name. say_call interface method caps name (option_and_then theirs.cap (view_of_target other e))) (alike.caps refl p.0 p.3) (alike.calls p.1 (ap call_in_message (sym p.6)) q (eq-eqb q q refl))
-      ∙ ap (λ t. say_call interface method (Some p.0) (Some p.1) t) (alike.target p.2 p.5) ∙ ap (λ m. Some (read other e m)) p.6
+      let p = call_parts head.interface head.method (caps_named mine from sent) (mine.call d) (option_and_then mine.cap (view_of_target from sent)) M h in
+      ap₂ (λ caps name. say_call head.interface head.method caps name (option_and_then theirs.cap (view_of_target other e))) (alike.caps refl p.0 p.3) (alike.calls p.1 (ap call_in_message (sym p.6)) head.question (eq-eqb head.question head.question refl))
+      ∙ ap (λ t. say_call head.interface head.method (Some p.0) (Some p.1) t) (alike.target p.2 p.5) ∙ ap (λ m. Some (read other e m)) p.6
 
-  results_read : (q : ℕ) (release : Bool) (payload : Payload) (light : Bool) → Alike (Return q release (Results payload) light) → IsRead (Return q release (Results payload) light)
-  results_read q release payload light alike h =
-      let m = Return q release (Results payload) light in
+  results_read : (head : ReturnHead) (payload : Payload) → Alike (Return head (Results payload)) → IsRead (Return head (Results payload))
+  results_read head payload alike h =
+      let m = Return head (Results payload) in
       let sent = Wire true k d noted m in
       let e = Wire false k c references m in
-      let name = then_is (λ name. say_return (is_late from sent) payload.fields name (caps_named mine from sent)) (call_answered mine from k true q) M h in
-      ap (λ o. option_and_then (λ name. say_return (is_late other e) payload.fields name (caps_named theirs other e)) o) (alike.answers q release (Results payload) light refl name.0 name.1)
+      let name = then_is (λ name. say_return (is_late from sent) payload.fields name (caps_named mine from sent)) (call_answered mine from k true head.answer) M h in
+      ap (λ o. option_and_then (λ name. say_return (is_late other e) payload.fields name (caps_named theirs other e)) o) (alike.answers head (Results payload) refl name.0 name.1)
       ∙ return_read other e (is_late from sent) (is_late other e) payload.fields name.0 (caps_named mine from sent) (caps_named theirs other e) M alike.late alike.caps refl name.2
 
   -- a Return that says its call alone
-  bare_read : (q : ℕ) (release : Bool) (outcome : Outcome) (light : Bool) (answer : Name → Message) → ((name : Name) → answer name ≡ read other (Wire false k c references (Return q release outcome light)) (answer name)) →
-      Alike (Return q release outcome light) → option_map answer (call_answered mine from k true q) ≡ Some M →
-      option_map answer (call_answered theirs other k false q) ≡ Some (read other (Wire false k c references (Return q release outcome light)) M)
-  bare_read q release outcome light answer same alike h =
-      let e = Wire false k c references (Return q release outcome light) in
-      let name = mapped_is answer (call_answered mine from k true q) M h in
-      ap (λ o. option_map answer o) (alike.answers q release outcome light refl name.0 name.1) ∙ ap (λ m. Some m) (same name.0) ∙ ap (λ m. Some (read other e m)) name.2
+  bare_read : (head : ReturnHead) (outcome : Outcome) (answer : Name → Message) → ((name : Name) → answer name ≡ read other (Wire false k c references (Return head outcome)) (answer name)) →
+      Alike (Return head outcome) → option_map answer (call_answered mine from k true head.answer) ≡ Some M →
+      option_map answer (call_answered theirs other k false head.answer) ≡ Some (read other (Wire false k c references (Return head outcome)) M)
+  bare_read head outcome answer same alike h =
+      let e = Wire false k c references (Return head outcome) in
+      let name = mapped_is answer (call_answered mine from k true head.answer) M h in
+      ap (λ o. option_map answer o) (alike.answers head outcome refl name.0 name.1) ∙ ap (λ m. Some m) (same name.0) ∙ ap (λ m. Some (read other e m)) name.2
 
   -- one that takes the results of another call: it is read whole, or was late where it was sent
-  module _ (q : ℕ) (release : Bool) (n : ℕ) (light : Bool) (alike : Alike (Return q release (TakeFrom n) light)) where
+  module _ (head : ReturnHead) (n : ℕ) (alike : Alike (Return head (TakeFrom n))) where
     abbrev taking : DecodedRecord
-    taking = Wire false k c references (Return q release (TakeFrom n) light)
+    taking = Wire false k c references (Return head (TakeFrom n))
 
-    taken_said : (name by : Name) → call_answered mine from k true q ≡ Some name → option_and_then theirs.call (call_of (id k false n) other) ≡ Some by → message_of_record theirs other taking ≡ Some (message.Taken name by)
+    taken_said : (name by : Name) → call_answered mine from k true head.answer ≡ Some name → option_and_then theirs.call (call_of (id k false n) other) ≡ Some by → message_of_record theirs other taking ≡ Some (message.Taken name by)
     taken_said name by answered from_named =
-        ap (λ o. option_and_then (λ name. say_taken false name (option_and_then theirs.call (call_of (id k false n) other))) o) (alike.answers q release (TakeFrom n) light refl name answered)
+        ap (λ o. option_and_then (λ name. say_taken false name (option_and_then theirs.call (call_of (id k false n) other))) o) (alike.answers head (TakeFrom n) refl name answered)
         ∙ ap (λ o. say_taken false name o) from_named
 
-    taken_read : (gone : Bool) → is_late from (Wire true k d noted (Return q release (TakeFrom n) light)) ≡ gone → (name : Name) → call_answered mine from k true q ≡ Some name →
+    taken_read : (gone : Bool) → is_late from (Wire true k d noted (Return head (TakeFrom n))) ≡ gone → (name : Name) → call_answered mine from k true head.answer ≡ Some name →
         say_taken gone name (option_and_then mine.call (call_of (id k true n) from)) ≡ Some M → ReadsAsSent theirs other taking M
     taken_read true gone name answered h =
-        let by = alike.takes q release n light refl in
+        let by = alike.takes head n refl in
         let is : message.Late name ≡ M = cc in
         subst (ReadsAsSent theirs other taking) is (reads_late theirs other taking name by.0 (alike.late gone) (taken_said name by.0 answered by.1))
     taken_read false gone name answered h =
         let by = mapped_is (λ by. message.Taken name by) (option_and_then mine.call (call_of (id k true n) from)) M h in
-        subst (ReadsAsSent theirs other taking) by.2 (taken_said name by.0 answered (alike.taken q release n light refl by.0 by.1))
+        subst (ReadsAsSent theirs other taking) by.2 (taken_said name by.0 answered (alike.taken head n refl by.0 by.1))
 
-    taking_read : message_of_record mine from (Wire true k d noted (Return q release (TakeFrom n) light)) ≡ Some M → ReadsAsSent theirs other taking M
+    taking_read : message_of_record mine from (Wire true k d noted (Return head (TakeFrom n))) ≡ Some M → ReadsAsSent theirs other taking M
     taking_read h =
-        let gone = is_late from (Wire true k d noted (Return q release (TakeFrom n) light)) in
-        let name = then_is (λ name. say_taken gone name (option_and_then mine.call (call_of (id k true n) from))) (call_answered mine from k true q) M h in
+        let gone = is_late from (Wire true k d noted (Return head (TakeFrom n))) in
+        let name = then_is (λ name. say_taken gone name (option_and_then mine.call (call_of (id k true n) from))) (call_answered mine from k true head.answer) M h in
         taken_read gone refl name.0 name.1 name.2
 
   resolved_read : (n : ℕ) (resolution : Resolution) → Alike (Resolve n resolution) → IsRead (Resolve n resolution)
@@ -171,12 +171,12 @@ module _ (mine : Naming) (from : Past) (theirs : Naming) (other : Past) (k d c :
 
   pub read_as_said : (m : RpcMessage) → Alike m → message_of_record mine from (Wire true k d noted m) ≡ Some M → ReadsAsSent theirs other (Wire false k c references m) M
   read_as_said (Bootstrap q) alike h = so (Bootstrap q) (boot_read q alike h)
-  read_as_said (Call q target interface method params yourself) alike h = so (Call q target interface method params yourself) (call_read q target interface method params yourself alike h)
-  read_as_said (Return q release (Results payload) light) alike h = so (Return q release (Results payload) light) (results_read q release payload light alike h)
-  read_as_said (Return q release Exception light) alike h = so (Return q release Exception light) (bare_read q release Exception light message.Failed (λ name. refl) alike h)
-  read_as_said (Return q release Canceled light) alike h = so (Return q release Canceled light) (bare_read q release Canceled light message.Failed (λ name. refl) alike h)
-  read_as_said (Return q release Elsewhere light) alike h = so (Return q release Elsewhere light) (bare_read q release Elsewhere light message.Elsewhere (λ name. refl) alike h)
-  read_as_said (Return q release (TakeFrom n) light) alike h = taking_read q release n light alike h
+  read_as_said (Call head target params) alike h = so (Call head target params) (call_read head target params alike h)
+  read_as_said (Return head (Results payload)) alike h = so (Return head (Results payload)) (results_read head payload alike h)
+  read_as_said (Return head Exception) alike h = so (Return head Exception) (bare_read head Exception message.Failed (λ name. refl) alike h)
+  read_as_said (Return head Canceled) alike h = so (Return head Canceled) (bare_read head Canceled message.Failed (λ name. refl) alike h)
+  read_as_said (Return head Elsewhere) alike h = so (Return head Elsewhere) (bare_read head Elsewhere message.Elsewhere (λ name. refl) alike h)
+  read_as_said (Return head (TakeFrom n)) alike h = taking_read head n alike h
   read_as_said (Resolve n resolution) alike h = so (Resolve n resolution) (resolved_read n resolution alike h)
   read_as_said (Finish q release) alike h = so (Finish q release) (plain_read (Wire false k c references (Finish q release)) (message.Plain plain.Finish) refl h)
   read_as_said (Release n count) alike h = so (Release n count) (plain_read (Wire false k c references (Release n count)) (message.Plain plain.Release) refl h)
@@ -223,14 +223,14 @@ module _ (k v : ℕ) (one : Past) (its_steps : List Step) (w : ℕ) (other : Pas
   ]
 
   -- the call that a Return answers is named alike
-  answers_alike : (r : Step) (q : ℕ) (release : Bool) (outcome : Outcome) (light : Bool) → m ≡ Return q release outcome light → is_unreturned (id k true q) other ≡ true → (name : Name) →
-      call_answered (naming v (sent ∷ from) (s ∷ its_from)) from k true q ≡ Some name → call_answered (naming w (e ∷ other) (r ∷ steps)) other k false q ≡ Some name
-  answers_alike r q release outcome light is used name named =
-      let c = then_is (call_named v (sent ∷ from) (s ∷ its_from)) (call_of (id k false q) from) name named in
+  answers_alike : (r : Step) (head : ReturnHead) (outcome : Outcome) → m ≡ Return head outcome → is_unreturned (id k true head.answer) other ≡ true → (name : Name) →
+      call_answered (naming v (sent ∷ from) (s ∷ its_from)) from k true head.answer ≡ Some name → call_answered (naming w (e ∷ other) (r ∷ steps)) other k false head.answer ≡ Some name
+  answers_alike r head outcome is used name named =
+      let c = then_is (call_named v (sent ∷ from) (s ∷ its_from)) (call_of (id k false head.answer) from) name named in
       let lasts =
       call_lasts v one (sent ∷ from) its_steps (s ∷ its_from) h.passed.sent_there (h.added, h.whole) (pairs_as_long v one its_steps h.met.one_paired)
       (pairs_as_long v (sent ∷ from) (s ∷ its_from) h.paired) (all_refer one h.met.one_good) c.0 name c.2 in
-      let d = answer_is_one k v w one its_steps other steps m from sent e h.met h.linked h.good h.passed q release outcome light c.0 name is used c.1 lasts in
+      let d = answer_is_one k v w one its_steps other steps m from sent e h.met h.linked h.good h.passed head outcome c.0 name is used c.1 lasts in
       ap (λ o. option_and_then (call_named w (e ∷ other) (r ∷ steps)) o) d.1 ∙ call_keeps w (e ∷ []) other (r ∷ []) steps refl (h.good rule.Ref, tt) d.0 name d.2
 
   -- the call whose results a Return takes is named alike, and has a name in any case
@@ -252,11 +252,11 @@ module _ (k v : ℕ) (one : Past) (its_steps : List Step) (w : ℕ) (other : Pas
 
 -- ---- together
 
-taken_waiting : (k c q n : ℕ) (references : List ℕ) (release light : Bool) (es : Past) → IsGood es (Wire false k c references (Return q release (TakeFrom n) light)) → is_unfinished (id k false n) es ≡ true
-taken_waiting k c q n references release light es good = taken_unfinished es false k c references q release n light (good rule.QUse)
+taken_waiting : (k c : ℕ) (head : ReturnHead) (n : ℕ) (references : List ℕ) (es : Past) → IsGood es (Wire false k c references (Return head (TakeFrom n))) → is_unfinished (id k false n) es ≡ true
+taken_waiting k c head n references es good = taken_unfinished es false k c references head n (good rule.QUse)
 
-returns_waiting : (k c q : ℕ) (references : List ℕ) (release : Bool) (outcome : Outcome) (light : Bool) (es : Past) → IsGood es (Wire false k c references (Return q release outcome light)) → is_unreturned (id k true q) es ≡ true
-returns_waiting k c q references release outcome light es good = (good rule.QUse).returned_once
+returns_waiting : (k c : ℕ) (head : ReturnHead) (references : List ℕ) (outcome : Outcome) (es : Past) → IsGood es (Wire false k c references (Return head outcome)) → is_unreturned (id k true head.answer) es ≡ true
+returns_waiting k c head references outcome es good = (good rule.QUse).returned_once
 
 module _ (k v w c : ℕ) (one : Past) (its_steps : List Step) (other : Past) (steps : List Step) (references : List ℕ) (m : RpcMessage) (from : Past) (sent : DecodedRecord) (message : Message) where
   abbrev received : DecodedRecord
@@ -272,16 +272,16 @@ module _ (k v w c : ℕ) (one : Past) (its_steps : List Step) (other : Past) (st
       let went = passing_is k true m sent h.passed.sends in
       let late = (good_agree k one (received ∷ other) h.met.one_good (h.good, h.met.other_good) h.linked).there.late m from other sent received h.passed in
       let alike : IsReadAlike mine from sent theirs other received k c m message = record {
-        calls = λ name is q asks. answerer_names w other steps r k c references m q message name asks refl is;
+        calls = λ name is head.answer asks. answerer_names w other steps r k c references m head.answer message name asks refl is;
         caps = λ in_time cs named. caps_are_one k v one its_steps w other steps c references m from its_from s message sent bound in_time h cs named;
         target = λ t named. targets_are_one k v one its_steps w other steps c references m from its_from s message sent bound h t named;
         late = late;
-        answers = λ q release outcome light is name named. answers_alike k v one its_steps w other steps received m from its_from sent s message h r q release outcome light is
-            (returns_waiting k c q references release outcome light other (subst (λ m. IsGood other (Wire false k c references m)) is h.good)) name named;
-        taken = λ q release n light is by named. taken_alike k v one its_steps w other steps received m from its_from sent s message h r n
-            (taken_waiting k c q n references release light other (subst (λ m. IsGood other (Wire false k c references m)) is h.good)) by named;
-        takes = λ q release n light is. taken_there k v one its_steps w other steps received m from its_from sent s message h r n
-            (taken_waiting k c q n references release light other (subst (λ m. IsGood other (Wire false k c references m)) is h.good));
+        answers = λ head outcome is name named. answers_alike k v one its_steps w other steps received m from its_from sent s message h r head outcome is
+            (returns_waiting k c head references outcome other (subst (λ m. IsGood other (Wire false k c references m)) is h.good)) name named;
+        taken = λ head n is by named. taken_alike k v one its_steps w other steps received m from its_from sent s message h r n
+            (taken_waiting k c head n references other (subst (λ m. IsGood other (Wire false k c references m)) is h.good)) by named;
+        takes = λ head n is. taken_there k v one its_steps w other steps received m from its_from sent s message h r n
+            (taken_waiting k c head n references other (subst (λ m. IsGood other (Wire false k c references m)) is h.good));
         promise = promise_alike k v one its_steps w other steps received m from its_from sent s message h r;
       } in
       read_as_said mine from theirs other k went.0 c went.1 references message m (subst (λ x. IsReadAlike mine from x theirs other received k c m message) went.2 alike)

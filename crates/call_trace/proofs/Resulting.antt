@@ -22,7 +22,7 @@ use Rattle.vat_rules.specs.Types.{Later}
 use Rattle.vat_rules.specs.Ways.{LeadsOnTo, BecameThere, WentOn}
 use Rattle.vat_rules.specs.declared.rule.Rule.TheVariants as rule
 use Rattle.rpc_view.specs.declared.message.Payload.{Payload}
-use Rattle.call_trace.specs.Types.{Descriptor, NoCap, Outcome, Results, Exception, Canceled, Elsewhere, TakeFrom, Resolution, RpcMessage, Return, Resolve, DecodedRecord, Answer, AnswerBy, Wire, View, FieldOf, Name, Cap, Message, Step}
+use Rattle.call_trace.specs.Types.{Descriptor, NoCap, Outcome, Results, Exception, Canceled, Elsewhere, TakeFrom, Resolution, RpcMessage, Return, ReturnHead, Resolve, DecodedRecord, Answer, AnswerBy, Wire, View, FieldOf, Name, Cap, Message, Step}
 use Rattle.call_trace.specs.Naming.{Naming, naming, cap_at, call_named, cap_named}
 use Rattle.call_trace.specs.Said.{all_there, say_return, say_taken, say_resolve, descriptor_named, caps_named, promise_named, call_answered, caps_at_paths, message_of_record}
 use Rattle.call_trace.specs.Part.{result_named, Says, PairsOff}
@@ -94,16 +94,16 @@ answer_told v es steps c results s says =
     let caps = mapped_is (λ caps. step.Answer v name.0 caps) (all_there (map (result_named names es) results)) s name.2 in
     (name.0, name.1, inl (ap (answers_call name.0) (sym caps.2) ∙ own_same name.0))
 
-results_told : (v call : ℕ) (es : Past) (steps : List Step) (k c : ℕ) (rs : List ℕ) (q : ℕ) (release : Bool) (payload : Payload) (light : Bool) (s : Step) → Says v es steps (Wire false k c rs (Return q release (Results payload) light)) s →
-    is call (call_at (opening (id k true q) es)) ≡ true → is_late es (Wire false k c rs (Return q release (Results payload) light)) ≡ false →
-    (name : Name) × (call_named v (Wire false k c rs (Return q release (Results payload) light) ∷ es) (s ∷ steps) call ≡ Some name) × TellsResults name s
-results_told v call es steps k c rs q release payload light s says own late =
-    let e = Wire false k c rs (Return q release (Results payload) light) in
+results_told : (v call : ℕ) (es : Past) (steps : List Step) (k c : ℕ) (rs : List ℕ) (head : ReturnHead) (payload : Payload) (s : Step) → Says v es steps (Wire false k c rs (Return head (Results payload))) s →
+    is call (call_at (opening (id k true head.answer) es)) ≡ true → is_late es (Wire false k c rs (Return head (Results payload))) ≡ false →
+    (name : Name) × (call_named v (Wire false k c rs (Return head (Results payload)) ∷ es) (s ∷ steps) call ≡ Some name) × TellsResults name s
+results_told v call es steps k c rs head payload s says own late =
+    let e = Wire false k c rs (Return head (Results payload)) in
     let names = naming v (e ∷ es) (s ∷ steps) in
     let caps = caps_named names es e in
-    let name = then_is (λ name. say_return (is_late es e) payload.fields name caps) (call_answered names es k false q) (read es e says.message) (says_read says refl) in
-    let asked = then_is names.call (call_of (id k true q) es) name.0 name.1 in
-    let same = call_is (is_over (id k true q) es) (call_at (opening (id k true q) es)) call asked.0 own asked.1 in
+    let name = then_is (λ name. say_return (is_late es e) payload.fields name caps) (call_answered names es k false head.answer) (read es e says.message) (says_read says refl) in
+    let asked = then_is names.call (call_of (id k true head.answer) es) name.0 name.1 in
+    let same = call_is (is_over (id k true head.answer) es) (call_at (opening (id k true head.answer) es)) call asked.0 own asked.1 in
     let told = return_said (is_late es e) payload.fields name.0 caps (read es e says.message) late name.2 in
     let came = read_return es e says.message name.0 (caps_at_paths told.0 payload.fields) told.0 told.2 in
     (name.0, ap names.call (sym same) ∙ asked.2, inr (inr (v, k, caps_at_paths told.0 payload.fields, told.0, says.bound, says.step ∙ ap (λ m. step.Receive v k m says.bound) came)))
@@ -130,17 +130,17 @@ by_told v es steps c by s says =
     let own : hands name.0 other.0 (step.AnswerBy v name.0 other.0) ≡ true = ap₂ (λ a b. a && b) (own_same name.0) (own_same other.0) in
     (name.0, other.0, name.1, other.1, inl (subst (λ s. hands name.0 other.0 s ≡ true) other.2 own))
 
-taken_told : (v call by : ℕ) (es : Past) (steps : List Step) (k c : ℕ) (rs : List ℕ) (q : ℕ) (release : Bool) (n : ℕ) (light : Bool) (s : Step) → Says v es steps (Wire false k c rs (Return q release (TakeFrom n) light)) s →
-    is call (call_at (opening (id k true q) es)) ≡ true → is_late es (Wire false k c rs (Return q release (TakeFrom n) light)) ≡ false → call_of (id k false n) es ≡ Some by →
-    AreTakenNames v (Wire false k c rs (Return q release (TakeFrom n) light) ∷ es) (s ∷ steps) call by s
-taken_told v call by es steps k c rs q release n light s says own late from =
-    let e = Wire false k c rs (Return q release (TakeFrom n) light) in
+taken_told : (v call by : ℕ) (es : Past) (steps : List Step) (k c : ℕ) (rs : List ℕ) (head : ReturnHead) (n : ℕ) (s : Step) → Says v es steps (Wire false k c rs (Return head (TakeFrom n))) s →
+    is call (call_at (opening (id k true head.answer) es)) ≡ true → is_late es (Wire false k c rs (Return head (TakeFrom n))) ≡ false → call_of (id k false n) es ≡ Some by →
+    AreTakenNames v (Wire false k c rs (Return head (TakeFrom n)) ∷ es) (s ∷ steps) call by s
+taken_told v call by es steps k c rs head n s says own late from =
+    let e = Wire false k c rs (Return head (TakeFrom n)) in
     let names = naming v (e ∷ es) (s ∷ steps) in
     let heard_so = says_heard says in
-    let t = taken_parts names es k c rs q release n light heard_so.0 heard_so.1 in
+    let t = taken_parts names es k c rs head n heard_so.0 heard_so.1 in
     let came = in_time (is_late es e) says.message (message.Taken t.name t.by_name) (message.Late t.name) late
     (taken_heard es e says.message t.name t.by_name (subst (λ m. heard es e says.message m ≡ read es e says.message) t.is heard_so.2)) in
-    let same = call_is (is_over (id k true q) es) (call_at (opening (id k true q) es)) call t.call own t.answered in
+    let same = call_is (is_over (id k true head.answer) es) (call_at (opening (id k true head.answer) es)) call t.call own t.answered in
     let same_by : t.by ≡ by = some_same (sym t.taken ∙ from) in (
       t.name,
       t.by_name,
@@ -163,22 +163,22 @@ answerer_told v call by es steps (AnswerBy c other) s says h =
     let t = answerer_is (c == call) (Some other) by h in
     subst (λ call. AreTakenNames v (AnswerBy c other ∷ es) (s ∷ steps) call by s) (eqb-true c call t.0)
     (subst (λ by. AreTakenNames v (AnswerBy c other ∷ es) (s ∷ steps) c by s) (some_same t.1) (by_told v es steps c other s says))
-answerer_told v call by es steps (Wire false k c rs (Return q release (TakeFrom n) light)) s says h =
-    let e = Wire false k c rs (Return q release (TakeFrom n) light) in
-    let t = answerer_is (is call (call_at (opening (id k true q) es))) (call_taken_from es e) by h in
+answerer_told v call by es steps (Wire false k c rs (Return head (TakeFrom n))) s says h =
+    let e = Wire false k c rs (Return head (TakeFrom n)) in
+    let t = answerer_is (is call (call_at (opening (id k true head.answer) es))) (call_taken_from es e) by h in
     let on = taken_in_time (is_late es e) (call_of (id k false n) es) by t.1 in
-    taken_told v call by es steps k c rs q release n light s says t.0 on.0 on.1
+    taken_told v call by es steps k c rs head n s says t.0 on.0 on.1
 answerer_told v call by es steps e s says h = absurd (none_some h)
 
 known_told : (v call : ℕ) (es : Past) (steps : List Step) (e : DecodedRecord) (s : Step) → Says v es steps e s → knows call es e ≡ true → (name : Name) × (call_named v (e ∷ es) (s ∷ steps) call ≡ Some name) × TellsResults name s
 known_told v call es steps (Answer c results) s says h =
     subst (λ call. (name : Name) × (call_named v (Answer c results ∷ es) (s ∷ steps) call ≡ Some name) × TellsResults name s) (eqb-true c call h) (answer_told v es steps c results s says)
-known_told v call es steps (Wire false k c rs (Return q release (Results payload) light)) s says h =
-    let e = Wire false k c rs (Return q release (Results payload) light) in
-    let parts = and_parts (is call (call_at (opening (id k true q) es))) (not (is_late es e)) h in
-    results_told v call es steps k c rs q release payload light s says parts.0 (not-true (is_late es e) parts.1)
-known_told v call es steps (Wire false k c rs (Return q release (TakeFrom n) light)) s says h =
-    let e = Wire false k c rs (Return q release (TakeFrom n) light) in
+known_told v call es steps (Wire false k c rs (Return head (Results payload))) s says h =
+    let e = Wire false k c rs (Return head (Results payload)) in
+    let parts = and_parts (is call (call_at (opening (id k true head.answer) es))) (not (is_late es e)) h in
+    results_told v call es steps k c rs head payload s says parts.0 (not-true (is_late es e) parts.1)
+known_told v call es steps (Wire false k c rs (Return head (TakeFrom n))) s says h =
+    let e = Wire false k c rs (Return head (TakeFrom n)) in
     let by = there (answerer call es e) h in
     let t = answerer_told v call by.0 es steps e s says by.1 in
     (t.0, t.2, inr (inl (t.1, tells_taken (e ∷ es) by.0 t.0 t.1 s t.4)))
@@ -378,33 +378,33 @@ module _ (v : ℕ) (es : Past) (steps before : List Step) (w : IsWithin v es ste
   sent_is : (m : RpcMessage) (s : Step) → Says v es steps (Wire true k c rs m) s → (M : Message) × (message_of_record (naming v (Wire true k c rs m ∷ es) (s ∷ steps)) es (Wire true k c rs m) ≡ Some M) × (step.Send v k M ≡ s)
   sent_is m s says = mapped_is (λ M. step.Send v k M) (message_of_record (naming v (Wire true k c rs m ∷ es) (s ∷ steps)) es (Wire true k c rs m)) s says
 
-  module _ (q : ℕ) (release : Bool) (payload : Payload) (light : Bool) (s : Step) (g : IsGood es (Wire true k c rs (Return q release (Results payload) light))) where
+  module _ (head : ReturnHead) (payload : Payload) (s : Step) (g : IsGood es (Wire true k c rs (Return head (Results payload)))) where
     abbrev giving : DecodedRecord
-    giving = Wire true k c rs (Return q release (Results payload) light)
+    giving = Wire true k c rs (Return head (Results payload))
 
     abbrev names : Naming
     names = naming v (giving ∷ es) (s ∷ steps)
 
-    results_sent : (late : Bool) → is_late es giving ≡ late → (M : Message) (name : Name) (call : ℕ) → call_at (opening (id k false q) es) ≡ Some call → call_named v es steps call ≡ Some name →
+    results_sent : (late : Bool) → is_late es giving ≡ late → (M : Message) (name : Name) (call : ℕ) → call_at (opening (id k false head.answer) es) ≡ Some call → call_named v es steps call ≡ Some name →
         say_return (is_late es giving) payload.fields name (caps_named names es giving) ≡ Some M → MaySend before v M
     results_sent true late M name call asked named h =
         let same : message.Late name ≡ M = some_same (sym (ap (λ b. say_return b payload.fields name (caps_named names es giving)) late) ∙ h) in subst (MaySend before v) same tt
     results_sent false late M name call asked named h =
         let told = return_said (is_late es giving) payload.fields name (caps_named names es giving) M late h in
         let known : ReturnsFields Later es giving payload.fields call = subst (λ o. IsSomeAnd o (ReturnsFields Later es giving payload.fields)) asked (g rule.Result late).1 in
-        let became = results_became v es steps before w good k c rs (Return q release (Results payload) light) s g late call name told.0 payload.fields named told.1 known.1 in
+        let became = results_became v es steps before w good k c rs (Return head (Results payload)) s g late call name told.0 payload.fields named told.1 known.1 in
         subst (MaySend before v) (sym told.2) (known_returned v es steps before w call name known.0 named, became)
 
     results_come : Says v es steps giving s → MayCome before s
     results_come says =
-        let M = sent_is (Return q release (Results payload) light) s says in
-        let name = then_is (λ name. say_return (is_late es giving) payload.fields name (caps_named names es giving)) (call_answered names es k true q) M.0 M.1 in
-        let asked = then_is names.call (call_of (id k false q) es) name.0 name.1 in
-        subst (MayCome before) M.2 (results_sent (is_late es giving) refl M.0 name.0 asked.0 (call_here (is_over (id k false q) es) (call_at (opening (id k false q) es)) asked.0 asked.1) asked.2 name.2)
+        let M = sent_is (Return head (Results payload)) s says in
+        let name = then_is (λ name. say_return (is_late es giving) payload.fields name (caps_named names es giving)) (call_answered names es k true head.answer) M.0 M.1 in
+        let asked = then_is names.call (call_of (id k false head.answer) es) name.0 name.1 in
+        subst (MayCome before) M.2 (results_sent (is_late es giving) refl M.0 name.0 asked.0 (call_here (is_over (id k false head.answer) es) (call_at (opening (id k false head.answer) es)) asked.0 asked.1) asked.2 name.2)
 
-  module _ (q : ℕ) (release : Bool) (n : ℕ) (light : Bool) (s : Step) (g : IsGood es (Wire true k c rs (Return q release (TakeFrom n) light))) where
+  module _ (head : ReturnHead) (n : ℕ) (s : Step) (g : IsGood es (Wire true k c rs (Return head (TakeFrom n)))) where
     abbrev taking : DecodedRecord
-    taking = Wire true k c rs (Return q release (TakeFrom n) light)
+    taking = Wire true k c rs (Return head (TakeFrom n))
 
     abbrev from : Option Name
     from = option_and_then (naming v (taking ∷ es) (s ∷ steps)).call (call_of (id k true n) es)
@@ -420,7 +420,7 @@ module _ (v : ℕ) (es : Past) (steps before : List Step) (w : IsWithin v es ste
     handed_may name other by stands by_named (inr back) =
         passed_may name other by (and_parts (is_same_call name other) (is_passed_back name before) back.0).0 back.1 stands by_named
 
-    taken_may : (name other : Name) (call by : ℕ) → call_at (opening (id k false q) es) ≡ Some call → call_named v es steps call ≡ Some name → call_of (id k true n) es ≡ Some by → call_named v es steps by ≡ Some other →
+    taken_may : (name other : Name) (call by : ℕ) → call_at (opening (id k false head.answer) es) ≡ Some call → call_named v es steps call ≡ Some name → call_of (id k true n) es ≡ Some by → call_named v es steps by ≡ Some other →
         ReturnsTaken Later es (call_of (id k true n) es) call → MaySend before v (message.Taken name other)
     taken_may name other call by asked named stands by_named (inl answered_so) =
         let answered = and_then_there (answered_by call es) (λ d. call_of (id k true n) es ≡ Some d) answered_so in
@@ -429,9 +429,9 @@ module _ (v : ℕ) (es : Past) (steps before : List Step) (w : IsWithin v es ste
     taken_may name other call by asked named stands by_named (inr own) =
         let same : call ≡ by = some_same (sym own ∙ stands) in
         let names : name ≡ other = some_same (sym named ∙ ap (call_named v es steps) same ∙ by_named) in
-        passed_may name other by (subst (λ d. is_same_call name d ≡ true) names (own_same name)) (k, q, es, ([], refl), asked ∙ ap (λ c. Some c) same) stands by_named
+        passed_may name other by (subst (λ d. is_same_call name d ≡ true) names (own_same name)) (k, head.answer, es, ([], refl), asked ∙ ap (λ c. Some c) same) stands by_named
 
-    taken_sent : (late : Bool) → is_late es taking ≡ late → (M : Message) (name : Name) (call : ℕ) → call_at (opening (id k false q) es) ≡ Some call → call_named v es steps call ≡ Some name →
+    taken_sent : (late : Bool) → is_late es taking ≡ late → (M : Message) (name : Name) (call : ℕ) → call_at (opening (id k false head.answer) es) ≡ Some call → call_named v es steps call ≡ Some name →
         say_taken (is_late es taking) name from ≡ Some M → MaySend before v M
     taken_sent true late M name call asked named h =
         let same : message.Late name ≡ M = some_same (sym (ap (λ b. say_taken b name from) late) ∙ h) in subst (MaySend before v) same tt
@@ -444,10 +444,10 @@ module _ (v : ℕ) (es : Past) (steps before : List Step) (w : IsWithin v es ste
     taken_comes : Says v es steps taking s → MayCome before s
     taken_comes says =
         let names = naming v (taking ∷ es) (s ∷ steps) in
-        let M = sent_is (Return q release (TakeFrom n) light) s says in
-        let name = then_is (λ name. say_taken (is_late es taking) name from) (call_answered names es k true q) M.0 M.1 in
-        let asked = then_is names.call (call_of (id k false q) es) name.0 name.1 in
-        subst (MayCome before) M.2 (taken_sent (is_late es taking) refl M.0 name.0 asked.0 (call_here (is_over (id k false q) es) (call_at (opening (id k false q) es)) asked.0 asked.1) asked.2 name.2)
+        let M = sent_is (Return head (TakeFrom n)) s says in
+        let name = then_is (λ name. say_taken (is_late es taking) name from) (call_answered names es k true head.answer) M.0 M.1 in
+        let asked = then_is names.call (call_of (id k false head.answer) es) name.0 name.1 in
+        subst (MayCome before) M.2 (taken_sent (is_late es taking) refl M.0 name.0 asked.0 (call_here (is_over (id k false head.answer) es) (call_at (opening (id k false head.answer) es)) asked.0 asked.1) asked.2 name.2)
 
   -- a message of which nothing is asked
   free_comes : (m : RpcMessage) (s : Step) (answer : Name → Message) → ((name : Name) → MaySend before v (answer name)) → (q : ℕ) → ((names : Naming) → message_of_record names es (Wire true k c rs m) ≡ option_map answer (call_answered names es k true q)) →
@@ -458,12 +458,12 @@ module _ (v : ℕ) (es : Past) (steps before : List Step) (w : IsWithin v es ste
       let name = mapped_is answer (call_answered names es k true q) M.0 (sym (is names) ∙ M.1) in
       subst (MayCome before) M.2 (subst (MaySend before v) name.2 (may name.0))
 
-  pub return_comes : (q : ℕ) (release : Bool) (outcome : Outcome) (light : Bool) (s : Step) → IsGood es (Wire true k c rs (Return q release outcome light)) → Says v es steps (Wire true k c rs (Return q release outcome light)) s → MayCome before s
-  return_comes q release (Results payload) light s g says = results_come q release payload light s g says
-  return_comes q release Exception light s g says = free_comes (Return q release Exception light) s message.Failed (λ name. tt) q (λ names. refl) says
-  return_comes q release Canceled light s g says = free_comes (Return q release Canceled light) s message.Failed (λ name. tt) q (λ names. refl) says
-  return_comes q release Elsewhere light s g says = free_comes (Return q release Elsewhere light) s message.Elsewhere (λ name. tt) q (λ names. refl) says
-  return_comes q release (TakeFrom n) light s g says = taken_comes q release n light s g says
+  pub return_comes : (head : ReturnHead) (outcome : Outcome) (s : Step) → IsGood es (Wire true k c rs (Return head outcome)) → Says v es steps (Wire true k c rs (Return head outcome)) s → MayCome before s
+  return_comes head (Results payload) s g says = results_come head payload s g says
+  return_comes head Exception s g says = free_comes (Return head Exception) s message.Failed (λ name. tt) head.answer (λ names. refl) says
+  return_comes head Canceled s g says = free_comes (Return head Canceled) s message.Failed (λ name. tt) head.answer (λ names. refl) says
+  return_comes head Elsewhere s g says = free_comes (Return head Elsewhere) s message.Elsewhere (λ name. tt) head.answer (λ names. refl) says
+  return_comes head (TakeFrom n) s g says = taken_comes head n s g says
 
   promise_became : (n : ℕ) (resolution : Resolution) (s : Step) (promise : Cap) (cs : List Cap) → IsGood es (Wire true k c rs (Resolve n resolution)) →
       promise_named (naming v (Wire true k c rs (Resolve n resolution) ∷ es) (s ∷ steps)) es k true n ≡ Some promise → caps_named (naming v (Wire true k c rs (Resolve n resolution) ∷ es) (s ∷ steps)) es (Wire true k c rs (Resolve n resolution)) ≡ Some cs →

@@ -59,7 +59,7 @@ IsBrought = (k v w c : ℕ) (one : Past) (its_steps : List Step) (other : Past) 
 names_alike : (v x k c : ℕ) (rs : List ℕ) (m : RpcMessage) (message : Message) (a b : List Cap) →
     names_call v x (Wire false k c rs m) (step.Receive v k message a) ≡ names_call v x (Wire false k c rs m) (step.Receive v k message b)
 names_alike v x k c rs (Bootstrap q) message a b = refl
-names_alike v x k c rs (Call q target interface method params yourself) message a b = refl
+names_alike v x k c rs (Call head target params) message a b = refl
 names_alike v x k c rs m message a b = refl
 
 module _ (v k c : ℕ) (rs : List ℕ) (m : RpcMessage) (message : Message) (a b : List Cap) (es : Past) (steps : List Step) where

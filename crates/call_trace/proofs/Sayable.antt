@@ -18,7 +18,7 @@ use Rattle.vat_rules.specs.OfPromises.{IsUnkept, is_unresolved}
 use Rattle.vat_rules.specs.declared.rule.Rule.TheVariants as rule
 use Rattle.decoded_records.specs.declared.table_key.TableKey.{TableKey}
 use Rattle.rpc_view.specs.declared.message.Payload.{Payload}
-use Rattle.call_trace.specs.Types.{Descriptor, NoCap, Target, Outcome, Results, Exception, Canceled, Elsewhere, TakeFrom, Resolution, RpcMessage, Bootstrap, Call, Return, Finish, Resolve, Release, Disembargo, Abort, DecodedRecord, Host, Vow, Fulfil, Break, Make, Field, Deliver, Answer, AnswerBy, Fault, Wire, View, Promise, Name, Cap, Message, Step}
+use Rattle.call_trace.specs.Types.{Descriptor, NoCap, Target, Outcome, Results, Exception, Canceled, Elsewhere, TakeFrom, Resolution, RpcMessage, Bootstrap, Call, CallHead, Return, ReturnHead, Finish, Resolve, Release, Disembargo, Abort, DecodedRecord, Host, Vow, Fulfil, Break, Make, Field, Deliver, Answer, AnswerBy, Fault, Wire, View, Promise, Name, Cap, Message, Step}
 use Rattle.call_trace.specs.Naming.{naming, cap_at, call_named, cap_named}
 use Rattle.call_trace.specs.Said.{all_there, say_call, say_return, say_taken, say_resolve, descriptor_named, caps_named, call_answered, caps_at_paths, message_of_record}
 use Rattle.call_trace.specs.Part.{reference_named, promise_in, result_named, step_said, Says}
@@ -279,42 +279,42 @@ module _ (v : ℕ) (es : Past) (steps before : List Step) (w : IsWithin v es ste
     used = tt;
   }
 
-  call_says : (q : ℕ) (target : Target) (interface method : ℕ) (params : Payload) (yourself : Bool) → IsGood es (Wire true k c rs (Call q target interface method params yourself)) →
-      SaysMessage v es steps before (Wire true k c rs (Call q target interface method params yourself))
-  call_says q target interface method params yourself g =
-      let m = Call q target interface method params yourself in
+  call_says : (head : CallHead) (target : Target) (params : Payload) → IsGood es (Wire true k c rs (Call head target params)) →
+      SaysMessage v es steps before (Wire true k c rs (Call head target params))
+  call_says head target params g =
+      let m = Call head target params in
       let e = Wire true k c rs m in
       let refers = g rule.Ref in
       let caps = caps_usable m g refl in
       let name = call_usable v es steps before w good e refers c (first_bound (is_bound_call es) c [] refers.bound_call) in
-      let to = view_usable v es steps before w good e refers (view_of_target es e) (target_known es k c rs q target interface method params yourself (sound_all m g)) in
+      let to = view_usable v es steps before w good e refers (view_of_target es e) (target_known es k c rs head target params (sound_all m g)) in
       record {
-        sent = message.Call name.0 to.0 interface method caps.0;
+        sent = message.Call name.0 to.0 head.interface head.method caps.0;
         says = λ s.
             let names = naming v (e ∷ es) (s ∷ steps) in
-            ap (λ o. say_call interface method o (names.call c) (option_and_then names.cap (view_of_target es e))) (caps.1 s)
-            ∙ ap (λ o. say_call interface method (Some caps.0) o (option_and_then names.cap (view_of_target es e))) (name.1 s)
-            ∙ ap (λ o. say_call interface method (Some caps.0) (Some name.0) o) (to.1 s);
+            ap (λ o. say_call head.interface head.method o (names.call c) (option_and_then names.cap (view_of_target es e))) (caps.1 s)
+            ∙ ap (λ o. say_call head.interface head.method (Some caps.0) o (option_and_then names.cap (view_of_target es e))) (name.1 s)
+            ∙ ap (λ o. say_call head.interface head.method (Some caps.0) (Some name.0) o) (to.1 s);
         used = ((λ is. to.2), caps.2);
       }
 
   -- the call that a Return answers
-  answered_named : (q : ℕ) (release : Bool) (outcome : Outcome) (light : Bool) → IsGood es (Wire true k c rs (Return q release outcome light)) →
-      (name : Name) × ((s : Step) → call_answered (naming v (Wire true k c rs (Return q release outcome light) ∷ es) (s ∷ steps)) es k true q ≡ Some name)
-  answered_named q release outcome light g =
-      let e = Wire true k c rs (Return q release outcome light) in
+  answered_named : (head : ReturnHead) (outcome : Outcome) → IsGood es (Wire true k c rs (Return head outcome)) →
+      (name : Name) × ((s : Step) → call_answered (naming v (Wire true k c rs (Return head outcome) ∷ es) (s ∷ steps)) es k true head.answer ≡ Some name)
+  answered_named head outcome g =
+      let e = Wire true k c rs (Return head outcome) in
       let uses = g rule.QUse in
-      let asked = unreturned_bound es w.refers (id k false q) uses.returned_once in
+      let asked = unreturned_bound es w.refers (id k false head.answer) uses.returned_once in
       let name = call_usable v es steps before w good e (g rule.Ref) asked.0 asked.2 in
       (name.0, λ s. ap (λ o. option_and_then (call_named v (e ∷ es) (s ∷ steps)) o) asked.1 ∙ name.1 s)
 
-  module _ (q : ℕ) (release : Bool) (payload : Payload) (light : Bool) (g : IsGood es (Wire true k c rs (Return q release (Results payload) light))) where
+  module _ (head : ReturnHead) (payload : Payload) (g : IsGood es (Wire true k c rs (Return head (Results payload)))) where
     abbrev giving : DecodedRecord
-    giving = Wire true k c rs (Return q release (Results payload) light)
+    giving = Wire true k c rs (Return head (Results payload))
 
     results_say : (late : Bool) → is_late es giving ≡ late → SaysMessage v es steps before giving
     results_say true late =
-        let name = answered_named q release (Results payload) light g in
+        let name = answered_named head (Results payload) g in
         record {
           sent = message.Late name.0;
           says = λ s.
@@ -324,8 +324,8 @@ module _ (v : ℕ) (es : Past) (steps before : List Step) (w : IsWithin v es ste
           used = tt;
         }
     results_say false late =
-        let name = answered_named q release (Results payload) light g in
-        let caps = caps_usable (Return q release (Results payload) light) g late in
+        let name = answered_named head (Results payload) g in
+        let caps = caps_usable (Return head (Results payload)) g late in
         record {
           sent = message.Return name.0 (caps_at_paths caps.0 payload.fields) caps.0;
           says = λ s.
@@ -336,9 +336,9 @@ module _ (v : ℕ) (es : Past) (steps before : List Step) (w : IsWithin v es ste
           used = both_had before v (map (λ result. result.1) (caps_at_paths caps.0 payload.fields)) caps.0 (given_had before v caps.0 payload.fields caps.2) caps.2;
         }
 
-  module _ (q : ℕ) (release : Bool) (n : ℕ) (light : Bool) (g : IsGood es (Wire true k c rs (Return q release (TakeFrom n) light))) where
+  module _ (head : ReturnHead) (n : ℕ) (g : IsGood es (Wire true k c rs (Return head (TakeFrom n)))) where
     abbrev taking : DecodedRecord
-    taking = Wire true k c rs (Return q release (TakeFrom n) light)
+    taking = Wire true k c rs (Return head (TakeFrom n))
 
     -- the call whose results it takes, whatever step stands beside it
     abbrev from : Step → Option Name
@@ -346,20 +346,20 @@ module _ (v : ℕ) (es : Past) (steps before : List Step) (w : IsWithin v es ste
 
     from_named : (name : Name) × ((s : Step) → from s ≡ Some name)
     from_named =
-        let asked = unfinished_bound es w.refers (id k true n) (taken_unfinished es true k c rs q release n light (g rule.QUse)) in
+        let asked = unfinished_bound es w.refers (id k true n) (taken_unfinished es true k c rs head n (g rule.QUse)) in
         let name = call_usable v es steps before w good taking (g rule.Ref) asked.0 asked.2 in
         (name.0, λ s. ap (λ o. option_and_then (call_named v (taking ∷ es) (s ∷ steps)) o) asked.1 ∙ name.1 s)
 
     taken_says : (late : Bool) → is_late es taking ≡ late → SaysMessage v es steps before taking
     taken_says true late =
-        let name = answered_named q release (TakeFrom n) light g in
+        let name = answered_named head (TakeFrom n) g in
         record {
           sent = message.Late name.0;
           says = λ s. ap (λ o. option_and_then (λ name. say_taken (is_late es taking) name (from s)) o) (name.1 s) ∙ ap (λ b. say_taken b name.0 (from s)) late;
           used = tt;
         }
     taken_says false late =
-        let name = answered_named q release (TakeFrom n) light g in
+        let name = answered_named head (TakeFrom n) g in
         let by = from_named in
         record {
           sent = message.Taken name.0 by.0;
@@ -387,15 +387,15 @@ module _ (v : ℕ) (es : Past) (steps before : List Step) (w : IsWithin v es ste
 
   message_says : (m : RpcMessage) → IsGood es (Wire true k c rs m) → SaysMessage v es steps before (Wire true k c rs m)
   message_says (Bootstrap q) g = boot_says q
-  message_says (Call q target interface method params yourself) g = call_says q target interface method params yourself g
-  message_says (Return q release (Results payload) light) g = results_say q release payload light g (is_late es (Wire true k c rs (Return q release (Results payload) light))) refl
-  message_says (Return q release Exception light) g =
-      let name = answered_named q release Exception light g in record { sent = message.Failed name.0; says = λ s. ap (λ o. option_map message.Failed o) (name.1 s); used = tt }
-  message_says (Return q release Canceled light) g =
-      let name = answered_named q release Canceled light g in record { sent = message.Failed name.0; says = λ s. ap (λ o. option_map message.Failed o) (name.1 s); used = tt }
-  message_says (Return q release Elsewhere light) g =
-      let name = answered_named q release Elsewhere light g in record { sent = message.Elsewhere name.0; says = λ s. ap (λ o. option_map message.Elsewhere o) (name.1 s); used = tt }
-  message_says (Return q release (TakeFrom n) light) g = taken_says q release n light g (is_late es (Wire true k c rs (Return q release (TakeFrom n) light))) refl
+  message_says (Call head target params) g = call_says head target params g
+  message_says (Return head (Results payload)) g = results_say head payload g (is_late es (Wire true k c rs (Return head (Results payload)))) refl
+  message_says (Return head Exception) g =
+      let name = answered_named head Exception g in record { sent = message.Failed name.0; says = λ s. ap (λ o. option_map message.Failed o) (name.1 s); used = tt }
+  message_says (Return head Canceled) g =
+      let name = answered_named head Canceled g in record { sent = message.Failed name.0; says = λ s. ap (λ o. option_map message.Failed o) (name.1 s); used = tt }
+  message_says (Return head Elsewhere) g =
+      let name = answered_named head Elsewhere g in record { sent = message.Elsewhere name.0; says = λ s. ap (λ o. option_map message.Elsewhere o) (name.1 s); used = tt }
+  message_says (Return head (TakeFrom n)) g = taken_says head n g (is_late es (Wire true k c rs (Return head (TakeFrom n)))) refl
   message_says (Finish q release) g = record { sent = message.Plain plain.Finish; says = λ s. refl; used = tt }
   message_says (Resolve n resolution) g = resolve_says n resolution g
   message_says (Release n count) g = record { sent = message.Plain plain.Release; says = λ s. refl; used = tt }

@@ -12,7 +12,7 @@ use Rattle.decoded_records.specs.Views.{view_of_target}
 use Rattle.decoded_records.proofs.Naming.{names_is}
 use Rattle.vat_view.proofs.Viewed.{all_at}
 use Rattle.decoded_records.specs.declared.table_key.TableKey.{TableKey}
-use Rattle.call_trace.specs.Types.{Target, Bootstrap, Call, DecodedRecord, Wire, Name, Cap, Message, Step}
+use Rattle.call_trace.specs.Types.{Target, Bootstrap, Call, CallHead, DecodedRecord, Wire, Name, Cap, Message, Step}
 use Rattle.call_trace.specs.Naming.{naming, call_named}
 use Rattle.call_trace.specs.Said.{say_call, caps_named}
 use Rattle.call_trace.specs.Part.{Says, PairsOff}
@@ -69,34 +69,31 @@ itself d = or_left (d == d) false (eq-eqb d d refl)
 -- a question that is asked of this vat is opened by a record that binds its call
 heard_binds : (k n : ℕ) (before : Past) (e : DecodedRecord) → opens (id k false n) before e ≡ true → (contains (noted_call e) (new_calls e) ≡ true) × (is_received e ≡ true)
 heard_binds k n before (Wire false j d rs (Bootstrap m)) h = (itself d, refl)
-heard_binds k n before (Wire false j d rs (Call m target interface method params yourself)) h = (itself d, refl)
+heard_binds k n before (Wire false j d rs (Call head target params)) h = (itself d, refl)
 heard_binds k n before (Wire true j d rs (Bootstrap m)) h =
     let same = some_same (names_is (id k false n) (Some (id j true m)) h) in absurd (false≢true (sym (ap (λ (i : TableKey). i.ours) same)))
-heard_binds k n before (Wire true j d rs (Call m target interface method params yourself)) h =
-    let same = some_same (names_is (id k false n) (Some (id j true m)) h) in absurd (false≢true (sym (ap (λ (i : TableKey). i.ours) same)))
+heard_binds k n before (Wire true j d rs (Call head target params)) h =
+    let same = some_same (names_is (id k false n) (Some (id j true head.question)) h) in absurd (false≢true (sym (ap (λ (i : TableKey). i.ours) same)))
 heard_binds k n before e h = absurd (false≢true h)
 
 -- a record sends a Call of this call on
 record IsSentCall (c : ℕ) (e : DecodedRecord) : Type 0 where
   pub connection : ℕ
   pub references : List ℕ
-  pub question : ℕ
+  pub head : CallHead
   pub target : Target
-  pub interface : ℕ
-  pub method : ℕ
   pub params : Payload
-  pub yourself : Bool
-  pub is : e ≡ Wire true connection c references (Call question target interface method params yourself)
+  pub is : e ≡ Wire true connection c references (Call head target params)
 
 -- a question of this vat's is opened by a Bootstrap that binds its call, or by a Call
 own_opens : (k n : ℕ) (before : Past) (e : DecodedRecord) → opens (id k true n) before e ≡ true → ((contains (noted_call e) (new_calls e) ≡ true) × (is_received e ≡ false)) ⊎ IsSentCall (noted_call e) e
 own_opens k n before (Wire true j d rs (Bootstrap m)) h = inl (itself d, refl)
-own_opens k n before (Wire true j d rs (Call m target interface method params yourself)) h =
-    inr (record { connection = j; references = rs; question = m; target = target; interface = interface; method = method; params = params; yourself = yourself; is = refl })
+own_opens k n before (Wire true j d rs (Call head target params)) h =
+    inr (record { connection = j; references = rs; head = head; target = target; params = params; is = refl })
 own_opens k n before (Wire false j d rs (Bootstrap m)) h =
     let same = some_same (names_is (id k true n) (Some (id j false m)) h) in absurd (false≢true (ap (λ (i : TableKey). i.ours) same))
-own_opens k n before (Wire false j d rs (Call m target interface method params yourself)) h =
-    let same = some_same (names_is (id k true n) (Some (id j false m)) h) in absurd (false≢true (ap (λ (i : TableKey). i.ours) same))
+own_opens k n before (Wire false j d rs (Call head target params)) h =
+    let same = some_same (names_is (id k true n) (Some (id j false head.question)) h) in absurd (false≢true (ap (λ (i : TableKey). i.ours) same))
 own_opens k n before e h = absurd (false≢true h)
 
 -- the record that opened a question for this call
@@ -130,19 +127,19 @@ call_sent v k interface method (Some caps) (Some n) None M h = absurd (let no : 
 abbrev SendsOn : ℕ → Past → List Step → ℕ → Step → Type 0
 SendsOn v es steps c s = (name : Name) × (call_named v es steps c ≡ Some name) × (sends_on name v s ≡ true)
 
-sends_so : (v : ℕ) (es : Past) (steps : List Step) (k c : ℕ) (rs : List ℕ) (q : ℕ) (target : Target) (interface method : ℕ) (params : Payload) (yourself : Bool) (s : Step) →
-    Says v es steps (Wire true k c rs (Call q target interface method params yourself)) s → SendsOn v (Wire true k c rs (Call q target interface method params yourself) ∷ es) (s ∷ steps) c s
-sends_so v es steps k c rs q target interface method params yourself s says =
-    let e = Wire true k c rs (Call q target interface method params yourself) in
+sends_so : (v : ℕ) (es : Past) (steps : List Step) (k c : ℕ) (rs : List ℕ) (head : CallHead) (target : Target) (params : Payload) (s : Step) →
+    Says v es steps (Wire true k c rs (Call head target params)) s → SendsOn v (Wire true k c rs (Call head target params) ∷ es) (s ∷ steps) c s
+sends_so v es steps k c rs head target params s says =
+    let e = Wire true k c rs (Call head target params) in
     let names = naming v (e ∷ es) (s ∷ steps) in
     let f = form v es steps e s says in
-    let name = call_sent v k interface method (caps_named names es e) (names.call c) (option_and_then names.cap (view_of_target es e)) f.0 f.1 in
+    let name = call_sent v k head.interface head.method (caps_named names es e) (names.call c) (option_and_then names.cap (view_of_target es e)) f.0 f.1 in
     (name.0, name.1, subst (λ s. sends_on name.0 v s ≡ true) f.2 name.2)
 
 call_sends : (v : ℕ) (es : Past) (steps : List Step) (c : ℕ) (e : DecodedRecord) (s : Step) → IsSentCall c e → Says v es steps e s → SendsOn v (e ∷ es) (s ∷ steps) c s
 call_sends v es steps c e s t says =
     subst (λ e. SendsOn v (e ∷ es) (s ∷ steps) c s) (sym t.is)
-    (sends_so v es steps t.connection c t.references t.question t.target t.interface t.method t.params t.yourself s (subst (λ e. Says v es steps e s) t.is says))
+    (sends_so v es steps t.connection c t.references t.head t.target t.params s (subst (λ e. Says v es steps e s) t.is says))
 
 -- ---- together
 

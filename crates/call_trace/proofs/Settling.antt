@@ -332,7 +332,7 @@ names_come v c es steps (Wire true k d rs (Bootstrap q)) s name says h =
     let own = if_there (d == c) (Some (call v c)) name h in
     subst (λ s. comes_to v name s ≡ true) (boot_said v es steps k d rs q s says) (own_comes v (call v d) name (ap (call v) (eqb-true d c own.0) ∙ only (call v c) name own.1))
 names_come v c es steps (Wire false k d rs (Bootstrap q)) s name says h = heard_comes v c k d rs s name says.message says.bound says.step h
-names_come v c es steps (Wire false k d rs (Call q target interface method params yourself)) s name says h = heard_comes v c k d rs s name says.message says.bound says.step h
+names_come v c es steps (Wire false k d rs (Call head target params)) s name says h = heard_comes v c k d rs s name says.message says.bound says.step h
 names_come v c es steps e s name says h = absurd (let no : ⊥ = cc in no)
 
 named_comes : (v : ℕ) (es : Past) (steps : List Step) → PairsOff v es steps → (c : ℕ) (name : Name) → call_named v es steps c ≡ Some name → list_any (comes_to v name) steps ≡ true

@@ -14,6 +14,7 @@ use Rattle.run_model.specs.Right.{ReachesObject, IsConnected}
 use Rattle.run_model.specs.Early.{early}
 use Rattle.call_trace.specs.Part.{IsPart}
 use Rattle.call_trace.specs.InLife.{UsesLives}
+use Rattle.rpc_view.specs.Message.{plain_call, plain_return, tail_call}
 
 abbrev pub log_1 : List DecodedRecord
 log_1 =
@@ -22,12 +23,12 @@ log_1 =
     Wire true 0 1 [] (Bootstrap 0) ∷
     Field 3 1 [] ∷
     Make 2 3 4660 2 ∷
-    Wire true 0 2 (1 ∷ []) (Call 1 (Promised 0 []) 4660 2 (record { descriptors = SenderHosted 0 ∷ []; fields = [] }) false) ∷
-    Wire false 0 3 [] (Call 0 (Imported 0) 4660 2 (record { descriptors = []; fields = [] }) true) ∷
-    Wire false 0 0 [] (Return 1 true (TakeFrom 0) false) ∷
+    Wire true 0 2 (1 ∷ []) (Call (plain_call 1 4660 2) (Promised 0 []) (record { descriptors = SenderHosted 0 ∷ []; fields = [] })) ∷
+    Wire false 0 3 [] (Call (tail_call 0 4660 2) (Imported 0) (record { descriptors = []; fields = [] })) ∷
+    Wire false 0 0 [] (Return (plain_return 1 true) (TakeFrom 0)) ∷
     Deliver 3 5 ∷
     Answer 3 ((2, 0 ∷ []) ∷ []) ∷
-    Wire true 0 0 [] (Return 0 true Elsewhere false) ∷
+    Wire true 0 0 [] (Return (plain_return 0 true) Elsewhere) ∷
     Field 4 2 (0 ∷ []) ∷
     Make 4 4 4660 2 ∷
     Deliver 4 6 ∷
@@ -38,13 +39,13 @@ log_2 =
     Host 1 7 ∷
     Wire false 0 1 [] (Bootstrap 0) ∷
     Answer 1 ((1, []) ∷ []) ∷
-    Wire false 0 2 (2 ∷ []) (Call 1 (Promised 0 []) 4660 2 (record { descriptors = SenderHosted 0 ∷ []; fields = [] }) false) ∷
+    Wire false 0 2 (2 ∷ []) (Call (plain_call 1 4660 2) (Promised 0 []) (record { descriptors = SenderHosted 0 ∷ []; fields = [] })) ∷
     Deliver 2 7 ∷
     Make 3 2 4660 2 ∷
     AnswerBy 2 3 ∷
-    Wire true 0 3 [] (Call 0 (Imported 0) 4660 2 (record { descriptors = []; fields = [] }) true) ∷
-    Wire true 0 0 [] (Return 1 true (TakeFrom 0) false) ∷
-    Wire false 0 0 [] (Return 0 true Elsewhere false) ∷
+    Wire true 0 3 [] (Call (tail_call 0 4660 2) (Imported 0) (record { descriptors = []; fields = [] })) ∷
+    Wire true 0 0 [] (Return (plain_return 1 true) (TakeFrom 0)) ∷
+    Wire false 0 0 [] (Return (plain_return 0 true) Elsewhere) ∷
     []
 
 abbrev pub run : List Step

@@ -10,7 +10,7 @@ use Rattle.decoded_records.specs.Questions.{call_at, call_of, opening, is_late, 
 use Rattle.decoded_records.specs.Lives.{Birth, birth, descriptors}
 use Rattle.decoded_records.specs.Views.{field_view, view_of_reference, view_of_number, view_of_descriptor, view_given, descriptor_view}
 use Rattle.vat_view.specs.Walks.{Next, turns, stops, on_to, is_promise, keeps, began_at, resolves, answer_view_at, result_at, answers, turn}
-use Rattle.call_trace.specs.Types.{Outcome, Results, Exception, Canceled, TakeFrom, Resolution, Capped, Unkept, Return, Resolve, DecodedRecord, Fulfil, Break, Answer, AnswerBy, Fault, Wire, View, Object, Promise, FieldOf, Import, Name, Cap, Message, Step}
+use Rattle.call_trace.specs.Types.{Outcome, Results, Exception, Canceled, TakeFrom, Resolution, Capped, Unkept, Return, ReturnHead, Resolve, DecodedRecord, Fulfil, Break, Answer, AnswerBy, Fault, Wire, View, Object, Promise, FieldOf, Import, Name, Cap, Message, Step}
 use Rattle.call_trace.specs.Naming.{Naming, naming, cap_at, cap_named}
 use Rattle.call_trace.specs.Said.{all_there, say_return, say_resolve, descriptor_named, caps_named, promise_named, call_answered, caps_at_paths}
 use Rattle.call_trace.specs.Part.{reference_named, promise_in, result_named, Says, resolves_released}
@@ -222,16 +222,16 @@ call_is true o call c own h = absurd (let no : ⊥ = cc in no)
 call_is false (Some d) call c own h = let same : d ≡ c = cc in sym same ∙ eqb-true d call own
 call_is false None call c own h = absurd (let no : ⊥ = cc in no)
 
-return_tells : (v call : ℕ) (path : List ℕ) (es : Past) (steps : List Step) (k c : ℕ) (rs : List ℕ) (q : ℕ) (release : Bool) (outcome : Outcome) (light : Bool) (s : Step) (b : View) →
-    Says v es steps (Wire false k c rs (Return q release outcome light)) s → is call (call_at (opening (id k true q) es)) ≡ true → is_late es (Wire false k c rs (Return q release outcome light)) ≡ false →
-    result_at path es (Wire false k c rs (Return q release outcome light)) outcome ≡ Some b → TurnsNames (naming v (Wire false k c rs (Return q release outcome light) ∷ es) (s ∷ steps)) (FieldOf call path) b s
-return_tells v call path es steps k c rs q release (Results payload) light s b says own late there =
-    let e = Wire false k c rs (Return q release (Results payload) light) in
+return_tells : (v call : ℕ) (path : List ℕ) (es : Past) (steps : List Step) (k c : ℕ) (rs : List ℕ) (head : ReturnHead) (outcome : Outcome) (s : Step) (b : View) →
+    Says v es steps (Wire false k c rs (Return head outcome)) s → is call (call_at (opening (id k true head.answer) es)) ≡ true → is_late es (Wire false k c rs (Return head outcome)) ≡ false →
+    result_at path es (Wire false k c rs (Return head outcome)) outcome ≡ Some b → TurnsNames (naming v (Wire false k c rs (Return head outcome) ∷ es) (s ∷ steps)) (FieldOf call path) b s
+return_tells v call path es steps k c rs head (Results payload) s b says own late there =
+    let e = Wire false k c rs (Return head (Results payload)) in
     let names = naming v (e ∷ es) (s ∷ steps) in
     let caps = caps_named names es e in
-    let name = then_is (λ name. say_return (is_late es e) payload.fields name caps) (call_answered names es k false q) (read es e says.message) (says_read says refl) in
-    let asked = then_is names.call (call_of (id k true q) es) name.0 name.1 in
-    let same = call_is (is_over (id k true q) es) (call_at (opening (id k true q) es)) call asked.0 own asked.1 in
+    let name = then_is (λ name. say_return (is_late es e) payload.fields name caps) (call_answered names es k false head.answer) (read es e says.message) (says_read says refl) in
+    let asked = then_is names.call (call_of (id k true head.answer) es) name.0 name.1 in
+    let same = call_is (is_over (id k true head.answer) es) (call_at (opening (id k true head.answer) es)) call asked.0 own asked.1 in
     let told = return_said (is_late es e) payload.fields name.0 caps (read es e says.message) late name.2 in
     let came : says.message ≡ message.Return name.0 (caps_at_paths told.0 payload.fields) told.0 = read_return es e says.message name.0 (caps_at_paths told.0 payload.fields) told.0 told.2 in
     let y = given_made names es e path payload.fields told.0 b name.0 (names_are_caps v (e ∷ es) (s ∷ steps)) told.1 there in
@@ -242,7 +242,7 @@ return_tells v call path es steps k c rs q release (Results payload) light s b s
       to_named = y.1;
       turned = inr (subst (Tells (cap.Field name.0 path) y.0) (sym (says.step ∙ ap (λ m. step.Receive v k m says.bound) came)) y.2);
     }
-return_tells v call path es steps k c rs q release outcome light s b says own late there = absurd (let no : ⊥ = cc in no)
+return_tells v call path es steps k c rs head outcome s b says own late there = absurd (let no : ⊥ = cc in no)
 
 -- one that takes the results of another call, where it isn't late
 pub in_time : (late : Bool) (m came gone : Message) → late ≡ false → (m ≡ came) ⊎ ((late ≡ true) × (m ≡ gone)) → m ≡ came
@@ -252,17 +252,17 @@ in_time late m came gone not_late (inr is) = absurd (false≢true (sym not_late 
 field_is : (o : Option ℕ) (c : ℕ) (path : List ℕ) (b : View) → o ≡ Some c → option_map (λ call. FieldOf call path) o ≡ Some b → FieldOf c path ≡ b
 field_is o c path b is h = let same : ◌≡◌ {A = Option View} (Some (FieldOf c path)) (Some b) = sym (ap (option_map (λ call. FieldOf call path)) is) ∙ h in cc
 
-taken_tells : (v call : ℕ) (path : List ℕ) (es : Past) (steps : List Step) (k c : ℕ) (rs : List ℕ) (q : ℕ) (release : Bool) (n : ℕ) (light : Bool) (s : Step) (b : View) →
-    Says v es steps (Wire false k c rs (Return q release (TakeFrom n) light)) s → is call (call_at (opening (id k true q) es)) ≡ true → is_late es (Wire false k c rs (Return q release (TakeFrom n) light)) ≡ false →
-    field_view (id k false n) path es ≡ Some b → TurnsNames (naming v (Wire false k c rs (Return q release (TakeFrom n) light) ∷ es) (s ∷ steps)) (FieldOf call path) b s
-taken_tells v call path es steps k c rs q release n light s b says own late there =
-    let e = Wire false k c rs (Return q release (TakeFrom n) light) in
+taken_tells : (v call : ℕ) (path : List ℕ) (es : Past) (steps : List Step) (k c : ℕ) (rs : List ℕ) (head : ReturnHead) (n : ℕ) (s : Step) (b : View) →
+    Says v es steps (Wire false k c rs (Return head (TakeFrom n))) s → is call (call_at (opening (id k true head.answer) es)) ≡ true → is_late es (Wire false k c rs (Return head (TakeFrom n))) ≡ false →
+    field_view (id k false n) path es ≡ Some b → TurnsNames (naming v (Wire false k c rs (Return head (TakeFrom n)) ∷ es) (s ∷ steps)) (FieldOf call path) b s
+taken_tells v call path es steps k c rs head n s b says own late there =
+    let e = Wire false k c rs (Return head (TakeFrom n)) in
     let names = naming v (e ∷ es) (s ∷ steps) in
     let heard_so = says_heard says in
-    let t = taken_parts names es k c rs q release n light heard_so.0 heard_so.1 in
+    let t = taken_parts names es k c rs head n heard_so.0 heard_so.1 in
     let came = in_time (is_late es e) says.message (message.Taken t.name t.by_name) (message.Late t.name) late
     (taken_heard es e says.message t.name t.by_name (subst (λ m. heard es e says.message m ≡ read es e says.message) t.is heard_so.2)) in
-    let same = call_is (is_over (id k true q) es) (call_at (opening (id k true q) es)) call t.call own t.answered in
+    let same = call_is (is_over (id k true head.answer) es) (call_at (opening (id k true head.answer) es)) call t.call own t.answered in
     subst (λ b. TurnsNames names (FieldOf call path) b s) (field_is (call_of (id k false n) es) t.by path b t.taken there) (record {
       from = cap.Field t.name path;
       to = cap.Field t.by_name path;
@@ -327,14 +327,14 @@ not_late_on true o b h = absurd (no_stop b h)
 not_late_on false o b h = (refl, on_is o b h)
 
 -- what a Return with results, or a failed one, turns a field of its call to
-of_return : (v call : ℕ) (path : List ℕ) (es : Past) (steps : List Step) (k c : ℕ) (rs : List ℕ) (q : ℕ) (release : Bool) (outcome : Outcome) (light : Bool) (s : Step) (b : View) →
-    let e = Wire false k c rs (Return q release outcome light) in Says v es steps e s →
-    (if is call (call_at (opening (id k true q) es)) then Some (if is_late es e then stops else on_to (result_at path es e outcome)) else None) ≡ Some (turns b) → TurnsNames (naming v (e ∷ es) (s ∷ steps)) (FieldOf call path) b s
-of_return v call path es steps k c rs q release outcome light s b says h =
-    let e = Wire false k c rs (Return q release outcome light) in
-    let t = turned_is (is call (call_at (opening (id k true q) es))) (if is_late es e then stops else on_to (result_at path es e outcome)) b h in
+of_return : (v call : ℕ) (path : List ℕ) (es : Past) (steps : List Step) (k c : ℕ) (rs : List ℕ) (head : ReturnHead) (outcome : Outcome) (s : Step) (b : View) →
+    let e = Wire false k c rs (Return head outcome) in Says v es steps e s →
+    (if is call (call_at (opening (id k true head.answer) es)) then Some (if is_late es e then stops else on_to (result_at path es e outcome)) else None) ≡ Some (turns b) → TurnsNames (naming v (e ∷ es) (s ∷ steps)) (FieldOf call path) b s
+of_return v call path es steps k c rs head outcome s b says h =
+    let e = Wire false k c rs (Return head outcome) in
+    let t = turned_is (is call (call_at (opening (id k true head.answer) es))) (if is_late es e then stops else on_to (result_at path es e outcome)) b h in
     let on = not_late_on (is_late es e) (result_at path es e outcome) b t.1 in
-    return_tells v call path es steps k c rs q release outcome light s b says t.0 on.0 on.1
+    return_tells v call path es steps k c rs head outcome s b says t.0 on.0 on.1
 
 same_turn : (a b : View) → turns a ≡ turns b → a ≡ b
 same_turn a b h = cc
@@ -347,14 +347,14 @@ of_call v call path es steps (Fault c) s b says h = absurd (no_stop b (turned_is
 of_call v call path es steps (AnswerBy c by) s b says h =
     let t = turned_is (c == call) (turns (FieldOf by path)) b h in
     subst (λ b. TurnsNames (naming v (AnswerBy c by ∷ es) (s ∷ steps)) (FieldOf call path) b s) (same_turn (FieldOf by path) b t.1) (by_tells v call path es steps c by s says (eqb-true c call t.0))
-of_call v call path es steps (Wire false k c rs (Return q release (Results payload) light)) s b says h = of_return v call path es steps k c rs q release (Results payload) light s b says h
-of_call v call path es steps (Wire false k c rs (Return q release Exception light)) s b says h = of_return v call path es steps k c rs q release Exception light s b says h
-of_call v call path es steps (Wire false k c rs (Return q release Canceled light)) s b says h = of_return v call path es steps k c rs q release Canceled light s b says h
-of_call v call path es steps (Wire false k c rs (Return q release (TakeFrom n) light)) s b says h =
-    let e = Wire false k c rs (Return q release (TakeFrom n) light) in
-    let t = turned_is (is call (call_at (opening (id k true q) es))) (if is_late es e then stops else on_to (field_view (id k false n) path es)) b h in
+of_call v call path es steps (Wire false k c rs (Return head (Results payload))) s b says h = of_return v call path es steps k c rs head (Results payload) s b says h
+of_call v call path es steps (Wire false k c rs (Return head Exception)) s b says h = of_return v call path es steps k c rs head Exception s b says h
+of_call v call path es steps (Wire false k c rs (Return head Canceled)) s b says h = of_return v call path es steps k c rs head Canceled s b says h
+of_call v call path es steps (Wire false k c rs (Return head (TakeFrom n))) s b says h =
+    let e = Wire false k c rs (Return head (TakeFrom n)) in
+    let t = turned_is (is call (call_at (opening (id k true head.answer) es))) (if is_late es e then stops else on_to (field_view (id k false n) path es)) b h in
     let on = not_late_on (is_late es e) (field_view (id k false n) path es) b t.1 in
-    taken_tells v call path es steps k c rs q release n light s b says t.0 on.0 on.1
+    taken_tells v call path es steps k c rs head n s b says t.0 on.0 on.1
 of_call v call path es steps e s b says h = absurd (let no : ⊥ = cc in no)
 
 pub of_import : (v i place : ℕ) (es : Past) (steps : List Step) (e : DecodedRecord) (s : Step) (b : View) (x : Cap) → Says v es steps e s → resolves i place es e ≡ Some (turns b) →

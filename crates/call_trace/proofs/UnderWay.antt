@@ -3,9 +3,10 @@ use Rattle.std.proofs.Common.{refl, [], ◌∷◌, true, false}
 use Rattle.decoded_records.specs.Past.{Past}
 use Rattle.call_trace.specs.Types.{RpcMessage, SenderHosted, Results, Bootstrap, Return, Finish, Host, Answer, Wire}
 use Rattle.call_trace.specs.Balance.{IsBalanced}
+use Rattle.rpc_view.specs.Message.{plain_return}
 
 abbrev pub returned : RpcMessage
-returned = Return 0 true (Results (record { descriptors = SenderHosted 0 ∷ []; fields = ([], 0) ∷ [] })) false
+returned = Return (plain_return 0 true) (Results (record { descriptors = SenderHosted 0 ∷ []; fields = ([], 0) ∷ [] }))
 
 -- vat 2, the exporter, has received the Bootstrap and sent its Return; the newest record first
 abbrev pub exporter : Past

@@ -22,7 +22,7 @@ use Rattle.vat_view.proofs.Landed.{noted_view}
 use Rattle.vat_view.proofs.Lasting.{number_keeps, view_bound, view_step}
 use Rattle.decoded_records.proofs.Naming.{names_is}
 use Rattle.vat_view.proofs.Viewed.{all_viewed, begins_parts, begins_some, export_viewed, introduced_there}
-use Rattle.call_trace.specs.Types.{Descriptor, NoCap, SenderHosted, SenderPromise, ReceiverHosted, ReceiverAnswer, Target, Imported, Promised, TakeFrom, RpcMessage, Bootstrap, Call, Return, DecodedRecord, Wire, View, FieldOf, Import, Cap, Step}
+use Rattle.call_trace.specs.Types.{Descriptor, NoCap, SenderHosted, SenderPromise, ReceiverHosted, ReceiverAnswer, Target, Imported, Promised, TakeFrom, RpcMessage, Bootstrap, Call, CallHead, Return, ReturnHead, DecodedRecord, Wire, View, FieldOf, Import, Cap, Step}
 use Rattle.call_trace.specs.Naming.{cap_named}
 use Rattle.call_trace.specs.Within.{IsWithin}
 use Rattle.call_trace.proofs.Naming.{then_is, calls_named, cap_step}
@@ -41,8 +41,8 @@ none_some e = cc
 -- the call noted beside a record that opens a question is bound
 noted_bound : (before : Past) (e : DecodedRecord) (q : TableKey) → Refers before e → opens q before e ≡ true → is_bound_call (e ∷ before) (noted_call e) ≡ true
 noted_bound before (Wire s k d rs (Bootstrap n)) q refers new = or_left ((d == d) || false) (is_bound_call before d) (or_left (d == d) false (eq-eqb d d refl))
-noted_bound before (Wire false k d rs (Call n t f m p yourself)) q refers new = or_left ((d == d) || false) (is_bound_call before d) (or_left (d == d) false (eq-eqb d d refl))
-noted_bound before (Wire true k d rs (Call n t f m p yourself)) q refers new = (and_parts (is_bound_call before d) true refers.bound_call).0
+noted_bound before (Wire false k d rs (Call head t p)) q refers new = or_left ((d == d) || false) (is_bound_call before d) (or_left (d == d) false (eq-eqb d d refl))
+noted_bound before (Wire true k d rs (Call head t p)) q refers new = (and_parts (is_bound_call before d) true refers.bound_call).0
 noted_bound before _ q refers new = absurd (false≢true new)
 
 opening_bound : (past : Past) → Each Refers past → (q : TableKey) (p : Point) → opening q past ≡ Some p → is_bound_call past (noted_call p.event) ≡ true
@@ -90,9 +90,9 @@ unreturned_bound past refers q h =
     opened_bound past refers q parts.0 (first_not (is_returned q past) (is_finished q past) (not-true (is_returned q past) parts.1))
 
 -- the question whose results a Return takes has had no Finish
-pub taken_unfinished : (past : Past) (sent : Bool) (k c : ℕ) (rs : List ℕ) (q : ℕ) (release : Bool) (n : ℕ) (light : Bool) → UsesQuestions past (Wire sent k c rs (Return q release (TakeFrom n) light)) →
+pub taken_unfinished : (past : Past) (sent : Bool) (k c : ℕ) (rs : List ℕ) (head : ReturnHead) (n : ℕ) → UsesQuestions past (Wire sent k c rs (Return head (TakeFrom n))) →
     is_unfinished (id k sent n) past ≡ true
-taken_unfinished past sent k c rs q release n light uses = (and_parts (is_unfinished (id k sent n) past) true uses.used).0
+taken_unfinished past sent k c rs head n uses = (and_parts (is_unfinished (id k sent n) past) true uses.used).0
 
 -- ---- numbers in life stand for what bound references do
 
@@ -270,10 +270,10 @@ module _ (es : Past) (k c : ℕ) (rs : List ℕ) (m : RpcMessage) (sound : Each 
       ]
 
 -- what the target of a Call that is sent stands for
-pub target_known : (es : Past) (k c : ℕ) (rs : List ℕ) (q : ℕ) (target : Target) (interface method : ℕ) (params : Payload) (yourself : Bool) → Each IsSound (Wire true k c rs (Call q target interface method params yourself) ∷ es) →
-    StandsKnown es (view_of_target es (Wire true k c rs (Call q target interface method params yourself)))
-target_known es k c rs q (Imported n) interface method params yourself sound = number_known es k false n sound.1 (and_parts (is_in_life (id k false n) es) _ sound.0.uses_numbers).0
-target_known es k c rs q (Promised n path) interface method params yourself sound =
+pub target_known : (es : Past) (k c : ℕ) (rs : List ℕ) (head : CallHead) (target : Target) (params : Payload) → Each IsSound (Wire true k c rs (Call head target params) ∷ es) →
+    StandsKnown es (view_of_target es (Wire true k c rs (Call head target params)))
+target_known es k c rs head (Imported n) params sound = number_known es k false n sound.1 (and_parts (is_in_life (id k false n) es) _ sound.0.uses_numbers).0
+target_known es k c rs head (Promised n path) params sound =
     field_known es (each_so IsSound Refers (λ b e s. s.refers) es sound.1) (id k true n) path (and_parts (is_unfinished (id k true n) es) _ sound.0.uses_questions.used).0
 
 -- ---- what a log knows has a name in the run, and is had there

@@ -1,12 +1,12 @@
 -- What a record says by its facts is what it says by the records before it.
-use Rattle.std.proofs.Common.{◌≡◌, refl, sym, ◌∙◌, ap, ap₂, ℕ, ◌+◌, List, [], ◌∷◌, ◌++◌, length, map, Bool, true, false, Option, Some, None, option_and_then, option_map, append_assoc, length-append}
+use Rattle.std.proofs.Common.{◌≡◌, refl, sym, ◌∙◌, ap, ap₂, ℕ, ◌+◌, List, [], ◌∷◌, ◌++◌, length, map, true, false, Option, Some, None, option_and_then, option_map, append_assoc, length-append}
 use Rattle.decoded_records.specs.Past.{Past, id}
 use Rattle.decoded_records.specs.Lives.{descriptors}
 use Rattle.decoded_records.specs.Questions.{is_late, call_of}
 use Rattle.decoded_records.specs.Views.{view_of_reference, descriptor_view}
 use Rattle.vat_rules.specs.OfCaps.{is_received}
 use Rattle.vat_rules.specs.Telling.{facts_of, question_view, taken_view}
-use Rattle.call_trace.specs.Types.{Descriptor, NoCap, SenderHosted, SenderPromise, ReceiverHosted, ReceiverAnswer, Outcome, Results, Exception, Canceled, Elsewhere, TakeFrom, RpcMessage, Bootstrap, Call, Return, Finish, Resolve, Release, Disembargo, Abort, DecodedRecord, Host, Vow, Fulfil, Break, Make, Field, Deliver, Answer, AnswerBy, Fault, Wire, View, FieldOf}
+use Rattle.call_trace.specs.Types.{Descriptor, NoCap, SenderHosted, SenderPromise, ReceiverHosted, ReceiverAnswer, Outcome, Results, Exception, Canceled, Elsewhere, TakeFrom, RpcMessage, Bootstrap, Call, Return, ReturnHead, Finish, Resolve, Release, Disembargo, Abort, DecodedRecord, Host, Vow, Fulfil, Break, Make, Field, Deliver, Answer, AnswerBy, Fault, Wire, View, FieldOf}
 use Rattle.call_trace.specs.Naming.{Naming}
 use Rattle.call_trace.specs.Said.{all_there, descriptor_named, caps_named, call_answered, say_call, say_return, say_taken, say_resolve, message_of_record}
 use Rattle.call_trace.specs.Part.{result_named, step_said}
@@ -61,31 +61,31 @@ called_field : (o : Option ℕ) → call_of_question (option_map (λ c. FieldOf 
 called_field None = refl
 called_field (Some c) = refl
 
-question_as : (names : Naming) (es : Past) (k c : ℕ) (references : List ℕ) (q : ℕ) (release : Bool) (outcome : Outcome) (light : Bool) →
-    answered_in names.call (question_view es (Wire true k c references (Return q release outcome light))) ≡ call_answered names es k true q
-question_as names es k c references q release outcome light = ap (option_and_then names.call) (called_field (call_of (id k false q) es))
+question_as : (names : Naming) (es : Past) (k c : ℕ) (references : List ℕ) (head : ReturnHead) (outcome : Outcome) → 
+    answered_in names.call (question_view es (Wire true k c references (Return head outcome))) ≡ call_answered names es k true head.answer
+question_as names es k c references head outcome = ap (option_and_then names.call) (called_field (call_of (id k false head.answer) es))
 
-taken_as : (names : Naming) (es : Past) (k c : ℕ) (references : List ℕ) (q : ℕ) (release : Bool) (n : ℕ) (light : Bool) →
-    answered_in names.call (taken_view es (Wire true k c references (Return q release (TakeFrom n) light))) ≡ option_and_then names.call (call_of (id k true n) es)
-taken_as names es k c references q release n light = ap (option_and_then names.call) (called_field (call_of (id k true n) es))
+taken_as : (names : Naming) (es : Past) (k c : ℕ) (references : List ℕ) (head : ReturnHead) (n : ℕ) → 
+    answered_in names.call (taken_view es (Wire true k c references (Return head (TakeFrom n)))) ≡ option_and_then names.call (call_of (id k true n) es)
+taken_as names es k c references head n = ap (option_and_then names.call) (called_field (call_of (id k true n) es))
 
 -- ---- messages
 
 sent_as : (names : Naming) (es : Past) (k c : ℕ) (references : List ℕ) (m : RpcMessage) → let e = Wire true k c references m in
     sent_said names (facts_of es e) c m ≡ message_of_record names es e
 sent_as names es k c references (Bootstrap q) = refl
-sent_as names es k c references (Call q target interface method params yourself) =
-    let e = Wire true k c references (Call q target interface method params yourself) in
-    ap (λ caps. say_call interface method caps (names.call c) (option_and_then names.cap (facts_of es e).target)) (caps_are names es e)
-sent_as names es k c references (Return q release (Results payload) light) =
-    let e = Wire true k c references (Return q release (Results payload) light) in
-    ap₂ (λ o caps. option_and_then (λ name. say_return (is_late es e) payload.fields name caps) o) (question_as names es k c references q release (Results payload) light) (caps_are names es e)
-sent_as names es k c references (Return q release Exception light) = ap (option_map message.Failed) (question_as names es k c references q release Exception light)
-sent_as names es k c references (Return q release Canceled light) = ap (option_map message.Failed) (question_as names es k c references q release Canceled light)
-sent_as names es k c references (Return q release Elsewhere light) = ap (option_map message.Elsewhere) (question_as names es k c references q release Elsewhere light)
-sent_as names es k c references (Return q release (TakeFrom n) light) =
-    let e = Wire true k c references (Return q release (TakeFrom n) light) in
-    ap₂ (λ by o. option_and_then (λ name. say_taken (is_late es e) name by) o) (taken_as names es k c references q release n light) (question_as names es k c references q release (TakeFrom n) light)
+sent_as names es k c references (Call head target params) =
+    let e = Wire true k c references (Call head target params) in
+    ap (λ caps. say_call head.interface head.method caps (names.call c) (option_and_then names.cap (facts_of es e).target)) (caps_are names es e)
+sent_as names es k c references (Return head (Results payload)) =
+    let e = Wire true k c references (Return head (Results payload)) in
+    ap₂ (λ o caps. option_and_then (λ name. say_return (is_late es e) payload.fields name caps) o) (question_as names es k c references head (Results payload)) (caps_are names es e)
+sent_as names es k c references (Return head Exception) = ap (option_map message.Failed) (question_as names es k c references head Exception)
+sent_as names es k c references (Return head Canceled) = ap (option_map message.Failed) (question_as names es k c references head Canceled)
+sent_as names es k c references (Return head Elsewhere) = ap (option_map message.Elsewhere) (question_as names es k c references head Elsewhere)
+sent_as names es k c references (Return head (TakeFrom n)) =
+    let e = Wire true k c references (Return head (TakeFrom n)) in
+    ap₂ (λ by o. option_and_then (λ name. say_taken (is_late es e) name by) o) (taken_as names es k c references head n) (question_as names es k c references head (TakeFrom n))
 sent_as names es k c references (Resolve n resolution) =
     let e = Wire true k c references (Resolve n resolution) in
     ap (λ caps. option_and_then (λ promise. option_map (say_resolve promise) caps) (option_and_then names.cap (facts_of es e).promise)) (caps_are names es e)

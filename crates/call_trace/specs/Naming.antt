@@ -22,7 +22,7 @@ abbrev pub names_call : ℕ → ℕ → DecodedRecord → Step → Option Name
 names_call v c (Make d r interface method) s = if d == c then Some (call v c) else None
 names_call v c (Wire true k d references (Bootstrap q)) s = if d == c then Some (call v c) else None
 names_call v c (Wire false k d references (Bootstrap q)) s = if d == c then option_and_then call_in_message (message_of_step s) else None
-names_call v c (Wire false k d references (Call q target interface method params yourself)) s = if d == c then option_and_then call_in_message (message_of_step s) else None
+names_call v c (Wire false k d references (Call head target params)) s = if d == c then option_and_then call_in_message (message_of_step s) else None
 names_call v c _ s = None
 
 -- the name of a call of this vat

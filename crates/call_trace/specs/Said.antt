@@ -63,15 +63,15 @@ call_answered names es k sent q = option_and_then names.call (call_of (id k (not
 -- the message of a record, which is sent or received on this connection with this call noted
 abbrev pub message_named : Naming → Past → DecodedRecord → Bool → ℕ → ℕ → RpcMessage → Option Message
 message_named names es e sent k c (Bootstrap q) = option_map message.Boot (names.call c)
-message_named names es e sent k c (Call q target interface method params yourself) =
-    say_call interface method (caps_named names es e) (names.call c) (option_and_then names.cap (view_of_target es e))
-message_named names es e sent k c (Return q release (Results payload) light) =
-    option_and_then (λ name. say_return (is_late es e) payload.fields name (caps_named names es e)) (call_answered names es k sent q)
-message_named names es e sent k c (Return q release Exception light) = option_map message.Failed (call_answered names es k sent q)
-message_named names es e sent k c (Return q release Canceled light) = option_map message.Failed (call_answered names es k sent q)
-message_named names es e sent k c (Return q release Elsewhere light) = option_map message.Elsewhere (call_answered names es k sent q)
-message_named names es e sent k c (Return q release (TakeFrom n) light) =
-    option_and_then (λ name. say_taken (sent && is_late es e) name (option_and_then names.call (call_of (id k sent n) es))) (call_answered names es k sent q)
+message_named names es e sent k c (Call head target params) =
+    say_call head.interface head.method (caps_named names es e) (names.call c) (option_and_then names.cap (view_of_target es e))
+message_named names es e sent k c (Return head (Results payload)) =
+    option_and_then (λ name. say_return (is_late es e) payload.fields name (caps_named names es e)) (call_answered names es k sent head.answer)
+message_named names es e sent k c (Return head Exception) = option_map message.Failed (call_answered names es k sent head.answer)
+message_named names es e sent k c (Return head Canceled) = option_map message.Failed (call_answered names es k sent head.answer)
+message_named names es e sent k c (Return head Elsewhere) = option_map message.Elsewhere (call_answered names es k sent head.answer)
+message_named names es e sent k c (Return head (TakeFrom n)) =
+    option_and_then (λ name. say_taken (sent && is_late es e) name (option_and_then names.call (call_of (id k sent n) es))) (call_answered names es k sent head.answer)
 message_named names es e sent k c (Resolve n resolution) =
     option_and_then (λ promise. option_map (say_resolve promise) (caps_named names es e)) (promise_named names es k sent n)
 message_named names es e sent k c (Finish q release) = Some (message.Plain plain.Finish)

@@ -11,6 +11,8 @@ pub use Rattle.rpc_view.specs.declared.message.Resolution.{Resolution}
 pub use Rattle.rpc_view.specs.declared.message.Resolution.TheVariants.{Cap as Capped, Exception as Unkept}
 pub use Rattle.rpc_view.specs.declared.message.Loopback.{Loopback}
 pub use Rattle.rpc_view.specs.declared.message.Loopback.TheVariants.{Sender, Receiver}
+pub use Rattle.rpc_view.specs.declared.message.CallHead.{CallHead}
+pub use Rattle.rpc_view.specs.declared.message.ReturnHead.{ReturnHead}
 pub use Rattle.rpc_view.specs.declared.message.RpcMessage.{RpcMessage}
 pub use Rattle.rpc_view.specs.declared.message.RpcMessage.TheVariants.{Bootstrap, Call, Return, Finish, Resolve, Release, Disembargo, Abort}
 pub use Rattle.decoded_records.specs.declared.decoded.DecodedRecord.{DecodedRecord}

@@ -24,7 +24,7 @@ ghost use Rattle.run_model.specs.Has.{Has};
 ghost use Rattle.run_model.specs.Reordered.{HaveSameSteps, KeepsReferences};
 ghost use Rattle.run_model.specs.declared.cap.Cap.TheVariants.{Field as FieldCap};
 ghost use Rattle.run_model.specs.Leads.{Meets};
-ghost use Rattle.call_trace.specs.Types.{Outcome, Return, Resolution, Resolve, DecodedRecord, Wire, View, Name, Cap, Step, Target, Call, Deliver, Answer, AnswerBy, Fault, RpcMessage, Message};
+ghost use Rattle.call_trace.specs.Types.{Outcome, Return, ReturnHead, Resolution, Resolve, DecodedRecord, Wire, View, Name, Cap, Step, Target, Call, CallHead, Deliver, Answer, AnswerBy, Fault, RpcMessage, Message};
 ghost use Rattle.call_trace.specs.Naming.{call_named, cap_named, naming, message_at};
 ghost use Rattle.call_trace.specs.Part.{reference_named, ReadsAsSent, Says, PairsOff};
 ghost use Rattle.call_trace.specs.Running.{step_of, AreMet, steps_of_row};
@@ -173,10 +173,10 @@ pub fn what_is_used_is_had()
 /// Return takes is the one by which the call that it returns was answered, or is that call, and this vat sent it on.
 pub fn returns_follow_answers()
     ensures returned { (v : ℕ) (es : Past) (steps before : List Step) → IsWithin v es steps before
-        → Each IsGood es → (k c : ℕ) (references : List ℕ) (q : ℕ) (release : Bool)
-        (outcome : Outcome) (light : Bool) (s : Step)
-        → IsGood es (Wire true k c references (Return q release outcome light))
-        → Says v es steps (Wire true k c references (Return q release outcome light)) s
+        → Each IsGood es → (k c : ℕ) (references : List ℕ) (head : ReturnHead)
+        (outcome : Outcome) (s : Step)
+        → IsGood es (Wire true k c references (Return head outcome))
+        → Says v es steps (Wire true k c references (Return head outcome)) s
         → MayCome before s }
     ensures resolved { (v : ℕ) (es : Past) (steps before : List Step) → IsWithin v es steps before
         → Each IsGood es → (k c : ℕ) (references : List ℕ) (n : ℕ) (resolution : Resolution)
@@ -198,10 +198,10 @@ pub fn calls_go_where_they_lead()
         → IsWithin v es steps before → Each IsGood es → IsGood es (Deliver c object)
         → Says v es steps (Deliver c object) s → MayCome before s }
     ensures sent { (v : ℕ) (es : Past) (steps before : List Step) (k c : ℕ) (references : List ℕ)
-        (q : ℕ) (target : Target) (interface method : ℕ) (params : Payload) (yourself : Bool) (s : Step)
+        (head : CallHead) (target : Target) (params : Payload) (s : Step)
         → IsWithin v es steps before → Each IsGood es
-        → IsGood es (Wire true k c references (Call q target interface method params yourself))
-        → Says v es steps (Wire true k c references (Call q target interface method params yourself)) s
+        → IsGood es (Wire true k c references (Call head target params))
+        → Says v es steps (Wire true k c references (Call head target params)) s
         → MayCome before s }
 {}
 
@@ -235,10 +235,10 @@ pub fn questions_have_one_call()
         (steps : List Step) (m : RpcMessage) (from : Past) (sent e : DecodedRecord)
         → AreMet k v one its_steps w other steps → AreLinked k one (e ∷ other) → IsGood other e
         → IsPassed k m one (e ∷ other) from other sent e
-        → (q : ℕ) (release : Bool) (outcome : Outcome) (light : Bool) (c : ℕ) (name : Name)
-        → m ≡ Return q release outcome light → is_unreturned (id k true q) other ≡ true
-        → call_of (id k false q) from ≡ Some c → call_named v one its_steps c ≡ Some name
-        → (d : ℕ) × (call_of (id k true q) other ≡ Some d)
+        → (head : ReturnHead) (outcome : Outcome) (c : ℕ) (name : Name)
+        → m ≡ Return head outcome → is_unreturned (id k true head.answer) other ≡ true
+        → call_of (id k false head.answer) from ≡ Some c → call_named v one its_steps c ≡ Some name
+        → (d : ℕ) × (call_of (id k true head.answer) other ≡ Some d)
         × (call_named w other steps d ≡ Some name) }
 {}
 

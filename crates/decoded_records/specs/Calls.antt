@@ -11,9 +11,9 @@ use Rattle.decoded_records.specs.Views.{view_of_reference, view_of_target}
 abbrev pub brings : ℕ → Past → DecodedRecord → Option Request
 brings call before (Make c r interface method) =
     if c == call then Some record { goal = view_of_reference before r; interface = interface; method = method } else None
-brings call before (Wire false k c rs (Call q target interface method params yourself)) =
-    let goal = view_of_target before (Wire false k c rs (Call q target interface method params yourself)) in
-    if c == call then Some record { goal = goal; interface = interface; method = method } else None
+brings call before (Wire false k c rs (Call head target params)) =
+    let goal = view_of_target before (Wire false k c rs (Call head target params)) in
+    if c == call then Some record { goal = goal; interface = head.interface; method = head.method } else None
 brings call before _ = None
 
 -- what a call asked for when it came to the vat
@@ -29,12 +29,12 @@ goal_of call past = option_and_then (λ a. a.goal) (request_of call past)
 abbrev pub takes : ℕ → Past → DecodedRecord → Bool
 takes call before (Deliver c object) = c == call
 takes call before (Fault c) = c == call
-takes call before (Wire true k c rs (Call q target interface method params yourself)) = c == call
-takes call before (Wire true k c rs (Return q release Exception light)) = is call (call_at (opening (id k false q) before))
-takes call before (Wire true k c rs (Return q release Canceled light)) = is call (call_at (opening (id k false q) before))
-takes call before (Wire true k c rs (Return q release (Results payload) light)) = false
-takes call before (Wire true k c rs (Return q release Elsewhere light)) = false
-takes call before (Wire true k c rs (Return q release (TakeFrom n) light)) = false
+takes call before (Wire true k c rs (Call head target params)) = c == call
+takes call before (Wire true k c rs (Return head Exception)) = is call (call_at (opening (id k false head.answer) before))
+takes call before (Wire true k c rs (Return head Canceled)) = is call (call_at (opening (id k false head.answer) before))
+takes call before (Wire true k c rs (Return head (Results payload))) = false
+takes call before (Wire true k c rs (Return head Elsewhere)) = false
+takes call before (Wire true k c rs (Return head (TakeFrom n))) = false
 takes call before (Wire true k c rs (Bootstrap q)) = false
 takes call before (Wire true k c rs (Finish q release)) = false
 takes call before (Wire true k c rs (Resolve promise resolution)) = false
@@ -101,15 +101,15 @@ is_settled call past = has_passed (settles call) past
 -- them
 abbrev pub call_handed_on : Past → DecodedRecord → Option ℕ
 call_handed_on before (AnswerBy c by) = Some c
-call_handed_on before (Wire false k c rs (Return q release (TakeFrom n) light)) = call_at (opening (id k true q) before)
+call_handed_on before (Wire false k c rs (Return head (TakeFrom n))) = call_at (opening (id k true head.answer) before)
 call_handed_on before _ = None
 
 -- that other call: ANSWERBY's second, or the one for which the number stands that a received Return names, which isn't
 -- late. The number is one of its sender's questions
 abbrev pub call_taken_from : Past → DecodedRecord → Option ℕ
 call_taken_from before (AnswerBy c by) = Some by
-call_taken_from before (Wire false k c rs (Return q release (TakeFrom n) light)) =
-    if is_late before (Wire false k c rs (Return q release (TakeFrom n) light)) then None else call_of (id k false n) before
+call_taken_from before (Wire false k c rs (Return head (TakeFrom n))) =
+    if is_late before (Wire false k c rs (Return head (TakeFrom n))) then None else call_of (id k false n) before
 call_taken_from before _ = None
 
 -- the call by whose results a record answers this one
@@ -124,16 +124,16 @@ answered_by call past = last_answer (answerer call) past
 -- another call
 abbrev pub knows : ℕ → Past → DecodedRecord → Bool
 knows call before (Answer c results) = c == call
-knows call before (Wire false k c rs (Return q release (Results payload) light)) =
-    is call (call_at (opening (id k true q) before)) && not (is_late before (Wire false k c rs (Return q release (Results payload) light)))
-knows call before (Wire false k c rs (Return q release (TakeFrom n) light)) =
-    is_some (answerer call before (Wire false k c rs (Return q release (TakeFrom n) light)))
+knows call before (Wire false k c rs (Return head (Results payload))) =
+    is call (call_at (opening (id k true head.answer) before)) && not (is_late before (Wire false k c rs (Return head (Results payload))))
+knows call before (Wire false k c rs (Return head (TakeFrom n))) =
+    is_some (answerer call before (Wire false k c rs (Return head (TakeFrom n))))
 knows call before (AnswerBy c by) = c == call
-knows call before (Wire false k c rs (Return q release Exception light)) = false
-knows call before (Wire false k c rs (Return q release Canceled light)) = false
-knows call before (Wire false k c rs (Return q release Elsewhere light)) = false
+knows call before (Wire false k c rs (Return head Exception)) = false
+knows call before (Wire false k c rs (Return head Canceled)) = false
+knows call before (Wire false k c rs (Return head Elsewhere)) = false
 knows call before (Wire false k c rs (Bootstrap q)) = false
-knows call before (Wire false k c rs (Call q target interface method params yourself)) = false
+knows call before (Wire false k c rs (Call head target params)) = false
 knows call before (Wire false k c rs (Finish q release)) = false
 knows call before (Wire false k c rs (Resolve promise resolution)) = false
 knows call before (Wire false k c rs (Release n count)) = false

@@ -10,8 +10,8 @@ use Rattle.decoded_records.specs.Questions.{is_late, closes}
 
 -- the descriptors of a message, by place; a Resolve's stands at place 0
 abbrev pub descriptors_of : RpcMessage → List Descriptor
-descriptors_of (Call q target interface method params yourself) = params.descriptors
-descriptors_of (Return q release (Results payload) light) = payload.descriptors
+descriptors_of (Call head target params) = params.descriptors
+descriptors_of (Return head (Results payload)) = payload.descriptors
 descriptors_of (Resolve promise (Cap d)) = d ∷ []
 descriptors_of _ = []
 

@@ -26,7 +26,7 @@ embargoed_view i past = option_and_then (λ p. view_of_target p.before p.event) 
 
 -- a record receives this call on this connection
 abbrev pub receives_call : ℕ → ℕ → Past → DecodedRecord → Bool
-receives_call connection call before (Wire false k c references (Call q target interface method params yourself)) = (k == connection) && (c == call)
+receives_call connection call before (Wire false k c references (Call head target params)) = (k == connection) && (c == call)
 receives_call connection call before _ = false
 
 -- the echo of a senderLoopback is held up: a call that was received on its connection before it, and whose goal is what

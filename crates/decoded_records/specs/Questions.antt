@@ -7,18 +7,18 @@ use Rattle.decoded_records.specs.Past.{Past, Point, id, names, last_where, last_
 -- the question that a record opens: Bootstrap and Call go the way of the one who asks
 abbrev pub question_opened : DecodedRecord → Option TableKey
 question_opened (Wire sent k call references (Bootstrap q)) = Some (id k sent q)
-question_opened (Wire sent k call references (Call q target interface method params yourself)) = Some (id k sent q)
+question_opened (Wire sent k call references (Call head target params)) = Some (id k sent head.question)
 question_opened _ = None
 
 -- the question that a record returns: a Return goes the other way
 abbrev pub question_returned : DecodedRecord → Option TableKey
-question_returned (Wire sent k call references (Return q release outcome light)) = Some (id k (not sent) q)
+question_returned (Wire sent k call references (Return head outcome)) = Some (id k (not sent) head.answer)
 question_returned _ = None
 
 -- (rpc.capnp, Return.noFinishNeeded)
 -- the question that a record returns lightly: by a Return that says that no Finish is needed
 abbrev pub question_returned_lightly : DecodedRecord → Option TableKey
-question_returned_lightly (Wire sent k call references (Return q release outcome true)) = Some (id k (not sent) q)
+question_returned_lightly (Wire sent k call references (Return head outcome)) = if head.light then Some (id k (not sent) head.answer) else None
 question_returned_lightly _ = None
 
 -- the question that a record finishes: a Finish goes the way of the one who asks
@@ -85,7 +85,7 @@ is_released q past = is_some (last_since (opens q) (releases q) past)
 
 -- a record is a Call whose results are to be sent elsewhere (rpc.capnp, Call.sendResultsTo.yourself)
 abbrev pub asks_elsewhere : DecodedRecord → Bool
-asks_elsewhere (Wire sent k call references (Call q target interface method params yourself)) = yourself
+asks_elsewhere (Wire sent k call references (Call head target params)) = head.yourself
 asks_elsewhere _ = false
 
 -- an opening is such a Call
@@ -96,7 +96,7 @@ is_tail None = false
 -- (rpc.capnp, Return.takeFromOtherQuestion)
 -- the question whose results a record takes: a Return that takes them names one of its own sender's
 abbrev pub question_taken : DecodedRecord → Option TableKey
-question_taken (Wire sent k call references (Return q release (TakeFrom n) light)) = Some (id k sent n)
+question_taken (Wire sent k call references (Return head (TakeFrom n))) = Some (id k sent n)
 question_taken _ = None
 
 -- a record takes the results of this question
@@ -138,12 +138,12 @@ call_of q past = if is_over q past then None else call_at (opening q past)
 
 -- a Return is late where a Finish with releaseResultCaps true passed before it, for the same opening of its question
 abbrev pub is_late : Past → DecodedRecord → Bool
-is_late before (Wire sent k call references (Return q release outcome light)) = is_released (id k (not sent) q) before
+is_late before (Wire sent k call references (Return head outcome)) = is_released (id k (not sent) head.answer) before
 is_late before _ = false
 
 -- the record whose introductions a record gives back: a Return with releaseParamCaps true its opening, which may be a
 -- Call; a Finish with releaseResultCaps true the Return of its opening, if that has passed
 abbrev pub closes : Past → DecodedRecord → Option Point
-closes before (Wire sent k call references (Return q true outcome light)) = opening (id k (not sent) q) before
+closes before (Wire sent k call references (Return head outcome)) = if head.release_param_caps then opening (id k (not sent) head.answer) before else None
 closes before (Wire sent k call references (Finish q true)) = return_of (id k sent q) before
 closes before _ = None

@@ -9,7 +9,7 @@ use Rattle.decoded_records.specs.Lives.{descriptors, is_in_life}
 
 -- the question that a record's target names: one of the sender's
 abbrev pub question_targeted : DecodedRecord → Option TableKey
-question_targeted (Wire sent k call references (Call q (Promised n path) interface method params yourself)) = Some (id k sent n)
+question_targeted (Wire sent k call references (Call head (Promised n path) params)) = Some (id k sent n)
 question_targeted (Wire sent k call references (Disembargo number loopback (Promised n path))) = Some (id k sent n)
 question_targeted _ = None
 
@@ -25,7 +25,7 @@ questions_used e = option_to_list (question_targeted e) ++ filter_map (question_
 
 -- the number that a record's target names: one of the receiver's exports
 abbrev pub number_targeted : DecodedRecord → Option TableKey
-number_targeted (Wire sent k call references (Call q (Imported n) interface method params yourself)) = Some (id k (not sent) n)
+number_targeted (Wire sent k call references (Call head (Imported n) params)) = Some (id k (not sent) n)
 number_targeted (Wire sent k call references (Disembargo number loopback (Imported n))) = Some (id k (not sent) n)
 number_targeted _ = None
 

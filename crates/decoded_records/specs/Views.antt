@@ -82,7 +82,7 @@ views_of_descriptors before e = map (descriptor_view (view_of_reference before) 
 
 -- the target of a message
 abbrev pub target_of : RpcMessage → Option Target
-target_of (Call q target interface method params yourself) = Some target
+target_of (Call head target params) = Some target
 target_of (Disembargo number loopback target) = Some target
 target_of _ = None
 

@@ -15,7 +15,7 @@ use crate::origin::Origin;
 use crate::short_list::ShortList;
 use crate::table_key::TableKey;
 use crate::table_keys::TableKeys;
-use rpc_view::{Descriptor, Loopback, Outcome, Resolution, RpcMessage};
+use rpc_view::{CallHead, Descriptor, Loopback, Outcome, Resolution, ReturnHead, RpcMessage};
 use std::alloc::{AllocError, Global};
 use std::slice;
 
@@ -29,10 +29,7 @@ pub fn question_opened(event: &DecodedRecord) -> Option<TableKey>
             sent,
             connection,
             message: RpcMessage::Bootstrap { question: number }
-            | RpcMessage::Call {
-                question: number,
-                ..
-            },
+            | RpcMessage::Call { head: CallHead { question: number, .. }, .. },
             ..
         } => Some(TableKey::of_sender(*sent, *connection, *number)),
         _ => None,
@@ -48,7 +45,7 @@ pub fn question_returned(event: &DecodedRecord) -> Option<TableKey>
         DecodedRecord::Wire {
             sent,
             connection,
-            message: RpcMessage::Return { answer: number, .. },
+            message: RpcMessage::Return { head: ReturnHead { answer: number, .. }, .. },
             ..
         } => Some(TableKey::of_receiver(*sent, *connection, *number)),
         _ => None,
@@ -65,11 +62,7 @@ pub fn question_returned_lightly(event: &DecodedRecord) -> Option<TableKey>
         DecodedRecord::Wire {
             sent,
             connection,
-            message: RpcMessage::Return {
-                answer: number,
-                light: true,
-                ..
-            },
+            message: RpcMessage::Return { head: ReturnHead { answer: number, light: true, .. }, .. },
             ..
         } => Some(TableKey::of_receiver(*sent, *connection, *number)),
         _ => None,
@@ -141,7 +134,7 @@ pub fn asks_elsewhere(event: &DecodedRecord) -> bool
 {
     match event {
         DecodedRecord::Wire {
-            message: RpcMessage::Call { yourself, .. },
+            message: RpcMessage::Call { head: CallHead { yourself, .. }, .. },
             ..
         } => *yourself,
         _ => false,

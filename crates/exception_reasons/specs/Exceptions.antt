@@ -12,7 +12,7 @@ use Rattle.exception_reasons.specs.Reasons.{reason_of_bytes}
 -- an abort, or a message that says that something ended with an exception
 abbrev pub has_exception : RpcMessage → Bool
 has_exception messages.Abort = true
-has_exception (messages.Return answer release outcomes.Exception light) = true
+has_exception (messages.Return head outcomes.Exception) = true
 has_exception (messages.Resolve promise resolutions.Exception) = true
 has_exception message = false
 

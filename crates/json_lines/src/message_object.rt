@@ -3,7 +3,7 @@
 use crate::json_text::JsonText;
 use cap_frame::Path;
 use report_lines::loopback_text;
-use rpc_view::{Descriptor, Loopback, Outcome, Payload, Resolution, RpcMessage, Target};
+use rpc_view::{CallHead, Descriptor, Loopback, Outcome, Payload, Resolution, ReturnHead, RpcMessage, Target};
 
 /// Writes a kind and the number that is alone beside it.
 fn put_numbered(json: &mut JsonText<'_>, kind: &str, id: u32) {
@@ -102,38 +102,25 @@ fn put_resolution(json: &mut JsonText<'_>, resolution: &Resolution) {
 }
 
 /// Writes a Call, without where it goes.
-fn put_call(
-    json: &mut JsonText<'_>,
-    question: u32,
-    asked: (u64, u16),
-    params: &Payload,
-    yourself: bool,
-) {
-    let (interface, method) = asked;
-    json.interface_members(interface, method);
+fn put_call(json: &mut JsonText<'_>, head: CallHead, params: &Payload) {
+    json.interface_members(head.interface, head.method);
     json.text_member("kind", "call");
-    json.method_members(interface, method);
+    json.method_members(head.interface, head.method);
     put_payload(json, "params", params);
-    json.member("question", question);
+    json.member("question", head.question);
     json.text_member(
         "send_results_to",
-        if yourself { "yourself" } else { "caller" },
+        if head.yourself { "yourself" } else { "caller" },
     );
 }
 
 /// Writes a Return.
-fn put_return(
-    json: &mut JsonText<'_>,
-    answer: u32,
-    releases: bool,
-    outcome: &Outcome,
-    light: bool,
-) {
-    json.member("answer", answer);
+fn put_return(json: &mut JsonText<'_>, head: ReturnHead, outcome: &Outcome) {
+    json.member("answer", head.answer);
     json.text_member("kind", "return");
-    json.member("no_finish_needed", light);
+    json.member("no_finish_needed", head.light);
     put_outcome(json, outcome);
-    json.member("release_param_caps", releases);
+    json.member("release_param_caps", head.release_param_caps);
 }
 
 /// Writes a Disembargo.
@@ -152,22 +139,14 @@ pub(crate) fn put_message(json: &mut JsonText<'_>, message: &RpcMessage) {
             json.member("question", *question);
         }
         RpcMessage::Call {
-            question,
+            head,
             target,
-            interface,
-            method,
             params,
-            yourself,
         } => {
-            put_call(json, *question, (*interface, *method), params, *yourself);
+            put_call(json, *head, params);
             put_target(json, target);
         }
-        RpcMessage::Return {
-            answer,
-            release_param_caps,
-            outcome,
-            light,
-        } => put_return(json, *answer, *release_param_caps, outcome, *light),
+        RpcMessage::Return { head, outcome } => put_return(json, *head, outcome),
         RpcMessage::Finish {
             question,
             release_result_caps,

@@ -306,7 +306,7 @@ module _ (f u g h : TableKey → Option At) (past : Past) where
 
   asks_alone : (e : DecodedRecord) → is_some (question_opened e) ≡ true → (is_some (sender_loopback e) ≡ false) × (is_some (reference_vowed e) ≡ false)
   asks_alone (Wire s k c rs (Bootstrap q)) is = (refl, refl)
-  asks_alone (Wire s k c rs (Call q target interface method params yourself)) is = (refl, refl)
+  asks_alone (Wire s k c rs (Call head target params)) is = (refl, refl)
   asks_alone _ is = absurd (false≢true is)
 
   loops_alone : (e : DecodedRecord) → is_some (sender_loopback e) ≡ true → is_some (reference_vowed e) ≡ false

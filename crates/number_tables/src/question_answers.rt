@@ -5,7 +5,7 @@ ghost use Rattle.number_tables.specs.Glue.QuestionTables.{question_at, free_in, 
 
 use crate::question_table::Questions;
 use decoded_records::{DecodedRecord, TableKey};
-use rpc_view::RpcMessage;
+use rpc_view::{ReturnHead, RpcMessage};
 
 /// Whether a question is free: over, or behind a Return that says that no Finish is needed.
 #[inline]
@@ -103,7 +103,7 @@ pub fn is_late(questions: &Questions, event: &DecodedRecord) -> bool
     let DecodedRecord::Wire {
         sent,
         connection,
-        message: RpcMessage::Return { answer: number, .. },
+        message: RpcMessage::Return { head: ReturnHead { answer: number, .. }, .. },
         ..
     } = event
     else {
@@ -124,11 +124,7 @@ pub fn given_back_by<'a>(questions: &'a Questions, event: &DecodedRecord) -> &'a
         DecodedRecord::Wire {
             sent,
             connection,
-            message: RpcMessage::Return {
-                answer: number,
-                release_param_caps: true,
-                ..
-            },
+            message: RpcMessage::Return { head: ReturnHead { answer: number, release_param_caps: true, .. }, .. },
             ..
         } => questions.asked_in(TableKey::of_receiver(*sent, *connection, *number)),
         DecodedRecord::Wire {

@@ -70,7 +70,7 @@ module _ (asks : Bool) (k q : ℕ) where
     -- a message does to the question what looking back finds behind it
     said : (m : RpcMessage) → unwrap_or (if p then question_turn_of q m else None) (is_released (id k asks q) past) ≡ is_released (id k asks q) (Wire sent j c rs m ∷ past)
     said (Bootstrap o) = opened p (o == q) (names (id k asks q) (Some (id j sent o))) (since past) (named asks sent p k q j o way)
-    said (Call o target interface method params yourself) = opened p (o == q) (names (id k asks q) (Some (id j sent o))) (since past) (named asks sent p k q j o way)
+    said (Call head target params) = opened p (head.question == q) (names (id k asks q) (Some (id j sent head.question))) (since past) (named asks sent p k q j head.question way)
     said (Finish o true) =
         released p (o == q) (names (id k asks q) (Some (id j sent o))) (point past (Wire sent j c rs (Finish o true))) (since past) (named asks sent p k q j o way)
     said _ = kept p (is_released (id k asks q) past)
@@ -129,7 +129,7 @@ module _ (edition : Edition) where
 
     late_by : (sent : Bool) (j c : ℕ) (rs : List ℕ) (r : Result RpcMessage ViewError)
         → places.is_late_return edition (Some (sent, j)) (result_ok r) (take n records) ≡ late_if (made_with (Wire sent j c rs) (read_as r))
-    late_by sent j c rs (Ok (Return q release outcome light)) = given_back (not sent) j q n records
+    late_by sent j c rs (Ok (Return head outcome)) = given_back (not sent) j head.answer n records
     late_by sent j c rs (Ok _) = refl
     late_by sent j c rs (Err e) = refl
 

@@ -37,9 +37,9 @@ short_outcome (outcomes.TakeFrom question) = codes "takes from " ++ decimal ques
 -- a message: its kind, its question or number, its target, its capabilities
 abbrev pub short_text : RpcMessage → List ℕ
 short_text (Bootstrap question) = codes "bootstrap " ++ decimal question
-short_text (Call question target interface method params yourself) =
-    codes "call " ++ (decimal question ++ (codes " to " ++ (target_text target ++ caps_text params.descriptors)))
-short_text (Return answer releases outcome light) = codes "return " ++ (decimal answer ++ (codes " " ++ short_outcome outcome))
+short_text (Call head target params) =
+    codes "call " ++ (decimal head.question ++ (codes " to " ++ (target_text target ++ caps_text params.descriptors)))
+short_text (Return head outcome) = codes "return " ++ (decimal head.answer ++ (codes " " ++ short_outcome outcome))
 short_text (Finish question releases) = codes "finish " ++ decimal question
 short_text (Resolve promise resolution) = codes "resolve " ++ (decimal promise ++ (codes " to " ++ resolution_text resolution))
 short_text (Release id count) = codes "release " ++ (decimal id ++ (codes " times " ++ decimal count))

@@ -90,7 +90,7 @@ message_of_body edition b = option_and_then (λ frame. result_ok (message_of_byt
 -- what a message does to a question: it opens it (false), or finishes it and gives its results back (true)
 abbrev pub question_turn_of : ℕ → RpcMessage → Option Bool
 question_turn_of question (messages.Bootstrap opened) = if opened == question then Some false else None
-question_turn_of question (messages.Call opened target interface method params yourself) = if opened == question then Some false else None
+question_turn_of question (messages.Call head target params) = if head.question == question then Some false else None
 question_turn_of question (messages.Finish finished true) = if finished == question then Some true else None
 question_turn_of question _ = None
 
@@ -107,8 +107,8 @@ is_given_back edition asks connection question records =
 -- a message that passes so is a Return that is late, behind these records: a Finish with releaseResultCaps passed since its
 -- question was opened
 abbrev pub is_late_return : Edition → Option (Bool × ℕ) → Option RpcMessage → List Body → Bool
-is_late_return edition (Some passage) (Some (messages.Return answer releases outcome light)) before =
-    is_given_back edition (not passage.0) passage.1 answer before
+is_late_return edition (Some passage) (Some (messages.Return head outcome)) before =
+    is_given_back edition (not passage.0) passage.1 head.answer before
 is_late_return edition passage said before = false
 
 -- the steps that an order leaves of a log, each of them its vat's

@@ -277,8 +277,8 @@ outcome_stroke _ = strokes.Plain
 
 -- the stroke of a message: a late Return, a canceled one, what is part of a tail call, or another
 abbrev pub stroke_of : Bool → Option RpcMessage → Stroke
-stroke_of late (Some (messages.Return answer releases outcome light)) = if late then strokes.Late else outcome_stroke outcome
-stroke_of late (Some (messages.Call question target interface method params yourself)) = if yourself then strokes.Tail else strokes.Plain
+stroke_of late (Some (messages.Return head outcome)) = if late then strokes.Late else outcome_stroke outcome
+stroke_of late (Some (messages.Call head target params)) = if head.yourself then strokes.Tail else strokes.Plain
 stroke_of late _ = strokes.Plain
 
 -- how many lines there are

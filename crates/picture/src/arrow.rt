@@ -12,7 +12,7 @@ use crate::row::{Row, Tone};
 use crate::scene::Scene;
 use crate::vat_logs::column_of;
 use crate::window::{line_of, lines_of, row_of};
-use rpc_view::{Outcome, RpcMessage};
+use rpc_view::{CallHead, Outcome, RpcMessage};
 use std::alloc::{AllocError, Global};
 use std::sync::Arc;
 use vat_log::VatLog;
@@ -96,7 +96,7 @@ fn stroke_of(late: bool, message: &Option<RpcMessage>) -> Stroke
                 outcome_stroke(outcome)
             }
         }
-        Some(RpcMessage::Call { yourself, .. }) => {
+        Some(RpcMessage::Call { head: CallHead { yourself, .. }, .. }) => {
             if *yourself {
                 Stroke::Tail
             } else {

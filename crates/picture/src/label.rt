@@ -7,7 +7,7 @@ ghost use Rattle.picture.specs.Labels.{results_text, caps_text, label_text, said
 use crate::reason_text::ShortReason;
 use exception_reasons::Reason;
 use report_lines::{Shown, loopback_text};
-use rpc_view::{Descriptor, Outcome, Payload, RpcMessage, Target};
+use rpc_view::{CallHead, Descriptor, Outcome, Payload, RpcMessage, Target};
 use std::fmt;
 use std::fmt::{Display, Formatter};
 use vat_log::{Body, ResultReferences};
@@ -56,14 +56,15 @@ impl Display for ShortOutcome<'_> {
 /// Writes a Call in short.
 fn put_call<W: fmt::Write>(
     f: &mut Formatter<W>,
-    question: u32,
+    head: CallHead,
     target: &Target,
     params: &Payload,
 ) -> fmt::Result
     ensures { WritesOnOk W.write_str_gives f.old result
-        (short_text (RpcMessage.Call question target.now 0 0 params.now false)) f.new }
+        (short_text (RpcMessage.Call head target.now params.now)) f.new }
 {
     let caps = ListedCaps(params.descriptors.as_slice());
+    let question = head.question;
     write!(f, "call {question} to {}{caps}", Shown(target))
 }
 
@@ -78,16 +79,14 @@ impl Display for Short<'_> {
         match self.0 {
             RpcMessage::Bootstrap { question } => write!(f, "bootstrap {question}"),
             RpcMessage::Call {
-                question,
+                head,
                 target,
                 params,
-                ..
-            } => put_call(f, *question, target, params),
-            RpcMessage::Return {
-                answer,
-                outcome,
-                ..
-            } => write!(f, "return {answer} {}", ShortOutcome(outcome)),
+            } => put_call(f, *head, target, params),
+            RpcMessage::Return { head, outcome } => {
+                let answer = head.answer;
+                write!(f, "return {answer} {}", ShortOutcome(outcome))
+            }
             RpcMessage::Finish { question, .. } => write!(f, "finish {question}"),
             RpcMessage::Resolve {
                 promise,

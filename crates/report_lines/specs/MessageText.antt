@@ -77,10 +77,10 @@ light_text light = if light then codes " noFinishNeeded" else []
 -- a message: its kind, and each of its fields behind its name
 abbrev pub message_text : RpcMessage → List ℕ
 message_text (Bootstrap question) = codes "bootstrap question " ++ decimal question
-message_text (Call question target interface method params yourself) = codes "call question " ++ (decimal question ++ (codes " target " ++ (target_text target
-    ++ (codes " interface " ++ (hexadecimal interface ++ (codes " method " ++ (decimal method ++ (codes " " ++ (payload_text params ++ yourself_text yourself)))))))))
-message_text (Return answer releases outcome light) = codes "return answer " ++ (decimal answer
-    ++ (codes " releaseParamCaps " ++ (bool_text releases ++ (codes " " ++ (outcome_text outcome ++ light_text light)))))
+message_text (Call head target params) = codes "call question " ++ (decimal head.question ++ (codes " target " ++ (target_text target
+    ++ (codes " interface " ++ (hexadecimal head.interface ++ (codes " method " ++ (decimal head.method ++ (codes " " ++ (payload_text params ++ yourself_text head.yourself)))))))))
+message_text (Return head outcome) = codes "return answer " ++ (decimal head.answer
+    ++ (codes " releaseParamCaps " ++ (bool_text head.release_param_caps ++ (codes " " ++ (outcome_text outcome ++ light_text head.light)))))
 message_text (Finish question releases) = codes "finish question " ++ (decimal question ++ (codes " releaseResultCaps " ++ bool_text releases))
 message_text (Resolve promise resolution) = codes "resolve promise " ++ (decimal promise ++ (codes " " ++ resolution_text resolution))
 message_text (Release id count) = codes "release id " ++ (decimal id ++ (codes " count " ++ decimal count))

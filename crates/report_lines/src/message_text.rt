@@ -7,7 +7,7 @@ ghost use Rattle.report_lines.specs.MessageText.{path_text, target_text, descrip
 
 use crate::shown::Shown;
 use cap_frame::Path;
-use rpc_view::{Descriptor, Loopback, Outcome, Payload, Resolution, RpcMessage, Target};
+use rpc_view::{CallHead, Descriptor, Loopback, Outcome, Payload, Resolution, ReturnHead, RpcMessage, Target};
 use std::fmt;
 use std::fmt::{Display, Formatter};
 
@@ -157,17 +157,19 @@ fn yourself_text(yourself: bool) -> &'static str
 /// whether its results stay with their answerer.
 fn put_call<W: fmt::Write>(
     f: &mut Formatter<W>,
-    question: u32,
+    head: CallHead,
     target: &Target,
-    asked: (u64, u16),
     params: &Payload,
-    yourself: bool,
 ) -> fmt::Result
     ensures { WritesOnOk W.write_str_gives f.old result
-        (message_text (RpcMessage.Call
-        question target.now asked.0 asked.1 params.now yourself)) f.new }
+        (message_text (RpcMessage.Call head target.now params.now)) f.new }
 {
-    let (interface, method) = asked;
+    let CallHead {
+        question,
+        interface,
+        method,
+        yourself,
+    } = head;
     let target = Shown(target);
     let interface = Interface(interface);
     let params = Shown(params);
@@ -189,19 +191,22 @@ fn light_text(light: bool) -> &'static str
 /// Finish is needed.
 fn put_return<W: fmt::Write>(
     f: &mut Formatter<W>,
-    answer: u32,
-    releases: bool,
+    head: ReturnHead,
     outcome: &Outcome,
-    light: bool,
 ) -> fmt::Result
     ensures { WritesOnOk W.write_str_gives f.old result
-        (message_text (RpcMessage.Return answer releases outcome.now light)) f.new }
+        (message_text (RpcMessage.Return head outcome.now)) f.new }
 {
+    let ReturnHead {
+        answer,
+        release_param_caps,
+        light,
+    } = head;
     let outcome = Shown(outcome);
     let finish = light_text(light);
     write!(
         f,
-        "return answer {answer} releaseParamCaps {releases} {outcome}{finish}"
+        "return answer {answer} releaseParamCaps {release_param_caps} {outcome}{finish}"
     )
 }
 
@@ -227,26 +232,11 @@ impl Display for Shown<&RpcMessage> {
         match self.0 {
             RpcMessage::Bootstrap { question } => write!(f, "bootstrap question {question}"),
             RpcMessage::Call {
-                question,
+                head,
                 target,
-                interface,
-                method,
                 params,
-                yourself,
-            } => put_call(
-                f,
-                *question,
-                target,
-                (*interface, *method),
-                params,
-                *yourself,
-            ),
-            RpcMessage::Return {
-                answer,
-                release_param_caps,
-                outcome,
-                light,
-            } => put_return(f, *answer, *release_param_caps, outcome, *light),
+            } => put_call(f, *head, target, params),
+            RpcMessage::Return { head, outcome } => put_return(f, *head, outcome),
             RpcMessage::Finish {
                 question,
                 release_result_caps,

@@ -13,6 +13,8 @@ use Rattle.cap_reader.specs.Reading.{Reading, done, fault, ◌>>=◌, Sections, 
 use Rattle.cap_reader.specs.Fields.{fields_in}
 use Rattle.rpc_view.specs.declared.edition.Edition.{Edition}
 use Rattle.rpc_view.specs.declared.edition.Edition.TheVariants.{First, Later}
+use Rattle.rpc_view.specs.declared.message.CallHead.{CallHead}
+use Rattle.rpc_view.specs.declared.message.ReturnHead.{ReturnHead}
 use Rattle.rpc_view.specs.declared.message.Target.{Target}
 use Rattle.rpc_view.specs.declared.message.Target.TheVariants as targets
 use Rattle.rpc_view.specs.declared.message.Descriptor.{Descriptor}
@@ -112,7 +114,7 @@ unfoldable pub called_in : Sections → Reading ViewError RpcMessage
 called_in call = do
   target ← target_in (call_target call)
   params ← payload_in (call_params call)
-  done (messages.Call (call_question call) target (call_interface call) (call_method call) params (call_send_results_to call == 1))
+  done (messages.Call (record { question = call_question call; interface = call_interface call; method = call_method call; yourself = call_send_results_to call == 1 }) target params)
 
 -- a field of the later edition is set, and the message is read by the first one
 abbrev pub is_beyond : Edition → Bool → Bool
@@ -148,7 +150,7 @@ outcome_in answer =
 unfoldable pub returned_in : Sections → Reading ViewError RpcMessage
 returned_in answer = do
   outcome ← outcome_in answer
-  done (messages.Return (return_answer answer) (return_release_param_caps answer) outcome (return_no_finish_needed answer))
+  done (messages.Return (record { answer = return_answer answer; release_param_caps = return_release_param_caps answer; light = return_no_finish_needed answer }) outcome)
 
 -- why the data of a Return is refused, by its tag: 5 is of a third party
 abbrev pub return_refusals : Edition → Sections → List (Bool × ViewError)
@@ -234,6 +236,20 @@ message_in_frame edition (Err e) limits = Err (errors.Frame e)
 abbrev pub message_of_bytes : Edition → List ℕ → Limits → Result RpcMessage ViewError
 message_of_bytes edition bytes limits = message_in_frame edition (segments_of bytes) limits
 
+-- ---- the heads of most messages
+
+-- of a Call whose results go to its caller
+abbrev pub plain_call : ℕ → ℕ → ℕ → CallHead
+plain_call question interface method = record { question = question; interface = interface; method = method; yourself = false }
+
+-- of a Call whose results stay with their answerer
+abbrev pub tail_call : ℕ → ℕ → ℕ → CallHead
+tail_call question interface method = record (plain_call question interface method) { yourself = true }
+
+-- of a Return behind which a Finish is needed
+abbrev pub plain_return : ℕ → Bool → ReturnHead
+plain_return answer released = record { answer = answer; release_param_caps = released; light = false }
+
 -- ---- a law: a message has a price
 
 -- With as many words as its price, or more, a frame reads as the message; with fewer its visits cost too much.
@@ -257,7 +273,7 @@ KeepMessage edition bytes =
 
 -- a Return that says that no Finish is needed
 abbrev pub is_light : RpcMessage → Bool
-is_light (messages.Return answer release outcome light) = light
+is_light (messages.Return head outcome) = head.light
 is_light _ = false
 
 -- What the first edition reads the later one reads as the same message, and no Finish is left out behind it.

@@ -5,7 +5,8 @@
 -- senderHosted, or to an exception; a Release; a Disembargo to an import; an Abort. Other forms, such as a path or
 -- another descriptor, aren't spelled here. The one segment of a frame holds nothing but the message, its structs one
 -- behind another in the order in which the pointers to them are met.
-use Rattle.std.specs.Prelude.{ℕ, ◌+◌, ◌*◌, ◌^◌, ◌<◌, Bool, true, false, if◌then◌else◌, List, [], ◌∷◌}
+use Rattle.std.specs.Prelude.{ℕ, ◌+◌, ◌*◌, ◌^◌, ◌<◌, Bool, true, if◌then◌else◌, List, [], ◌∷◌}
+use Rattle.rpc_view.specs.Message.{plain_call, plain_return, tail_call}
 use Rattle.rpc_view.specs.declared.message.Descriptor.TheVariants.{SenderHosted}
 use Rattle.rpc_view.specs.declared.message.Outcome.TheVariants.{Results, Canceled, Elsewhere, TakeFrom}
 use Rattle.rpc_view.specs.declared.message.Outcome.TheVariants as outcomes
@@ -143,17 +144,17 @@ abort_segment =
 pub data Spells : List ℕ → RpcMessage → ℕ → ℕ → Type 0 where
   bootstrap : {question : ℕ} → question < 2 ^ 32 → Spells (bootstrap_segment question) (Bootstrap question) 4 2
   call : {question answer interface method : ℕ} → question < 2 ^ 32 → answer < 2 ^ 32 → method < 2 ^ 16
-      → Spells (call_segment question answer interface method) (Call question (Promised answer []) interface method (record { descriptors = []; fields = [] }) false) 12 4
+      → Spells (call_segment question answer interface method) (Call (plain_call question interface method) (Promised answer []) (record { descriptors = []; fields = [] })) 12 4
   import_call : {question export interface method : ℕ} → question < 2 ^ 32 → export < 2 ^ 32 → method < 2 ^ 16
-      → Spells (import_call_segment question export interface method) (Call question (Imported export) interface method (record { descriptors = []; fields = [] }) false) 10 3
+      → Spells (import_call_segment question export interface method) (Call (plain_call question interface method) (Imported export) (record { descriptors = []; fields = [] })) 10 3
   yourself_call : {question export interface method : ℕ} → question < 2 ^ 32 → export < 2 ^ 32 → method < 2 ^ 16
-      → Spells (yourself_call_segment question export interface method) (Call question (Imported export) interface method (record { descriptors = []; fields = [] }) true) 10 3
-  exception : {answer : ℕ} {released : Bool} → answer < 2 ^ 32 → Spells (bare_return_segment answer released 1) (Return answer released outcomes.Exception false) 5 2
-  canceled : {answer : ℕ} {released : Bool} → answer < 2 ^ 32 → Spells (bare_return_segment answer released 2) (Return answer released Canceled false) 5 2
-  elsewhere : {answer : ℕ} {released : Bool} → answer < 2 ^ 32 → Spells (bare_return_segment answer released 3) (Return answer released Elsewhere false) 5 2
-  taken : {answer question : ℕ} {released : Bool} → answer < 2 ^ 32 → question < 2 ^ 32 → Spells (taken_segment answer released question) (Return answer released (TakeFrom question) false) 5 2
+      → Spells (yourself_call_segment question export interface method) (Call (tail_call question interface method) (Imported export) (record { descriptors = []; fields = [] })) 10 3
+  exception : {answer : ℕ} {released : Bool} → answer < 2 ^ 32 → Spells (bare_return_segment answer released 1) (Return (plain_return answer released) outcomes.Exception) 5 2
+  canceled : {answer : ℕ} {released : Bool} → answer < 2 ^ 32 → Spells (bare_return_segment answer released 2) (Return (plain_return answer released) Canceled) 5 2
+  elsewhere : {answer : ℕ} {released : Bool} → answer < 2 ^ 32 → Spells (bare_return_segment answer released 3) (Return (plain_return answer released) Elsewhere) 5 2
+  taken : {answer question : ℕ} {released : Bool} → answer < 2 ^ 32 → question < 2 ^ 32 → Spells (taken_segment answer released question) (Return (plain_return answer released) (TakeFrom question)) 5 2
   results : {answer export : ℕ} → answer < 2 ^ 32 → export < 2 ^ 32
-      → Spells (return_segment answer export) (Return answer true (Results (record { descriptors = SenderHosted export ∷ []; fields = ([], 0) ∷ [] })) false) 9 4
+      → Spells (return_segment answer export) (Return (plain_return answer true) (Results (record { descriptors = SenderHosted export ∷ []; fields = ([], 0) ∷ [] }))) 9 4
   finish : {question : ℕ} {released : Bool} → question < 2 ^ 32 → Spells (finish_segment question released) (Finish question released) 3 2
   resolve : {promise export : ℕ} → promise < 2 ^ 32 → export < 2 ^ 32 → Spells (resolve_segment promise export) (Resolve promise (Cap (SenderHosted export))) 6 3
   broken : {promise : ℕ} → promise < 2 ^ 32 → Spells (broken_segment promise) (Resolve promise Exception) 4 2

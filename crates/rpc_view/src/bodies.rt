@@ -14,7 +14,7 @@ use crate::layouts::{
     RELEASE_ID, RESOLVE_CAP, RESOLVE_PROMISE, RESOLVE_TAG, RETURN_ANSWER, RETURN_NO_FINISH_NEEDED,
     RETURN_RELEASE_PARAM_CAPS, RETURN_RESULTS, RETURN_TAG, RETURN_TAKE_FROM_OTHER_QUESTION,
 };
-use crate::message::{Loopback, Outcome, Resolution, RpcMessage};
+use crate::message::{CallHead, Loopback, Outcome, Resolution, ReturnHead, RpcMessage};
 use crate::payload::payload;
 use crate::structs::{
     bit_of, bit_within, first_word, struct_in, u16_of, u16_within, u32_of, u32_within, u64_of,
@@ -59,14 +59,7 @@ fn read_call_parts(
 {
     let target = target(alloc, frame, call, CALL_TARGET, limits)?;
     let params = payload(alloc, frame, call, CALL_PARAMS, limits)?;
-    Ok(RpcMessage::Call {
-        question: u32_within(word, CALL_QUESTION),
-        target,
-        interface: u64_of(frame, call, CALL_INTERFACE),
-        method: u16_within(word, CALL_METHOD),
-        params,
-        yourself: u16_within(word, CALL_SEND_RESULTS_TO) == 1,
-    })
+    Ok(RpcMessage::Call { head: CallHead { question: u32_within(word, CALL_QUESTION), interface: u64_of(frame, call, CALL_INTERFACE), method: u16_within(word, CALL_METHOD), yourself: u16_within(word, CALL_SEND_RESULTS_TO) == 1 }, target, params })
 }
 
 /// Whether a field of the later edition is set in a message that is read by the first one.
@@ -150,12 +143,7 @@ fn read_return_parts(
         (run (returned_in (sections_of frame.now answer.now)) limits.old.words) }
 {
     let outcome = outcome(alloc, frame, answer, u16_within(word, RETURN_TAG), limits)?;
-    Ok(RpcMessage::Return {
-        answer: u32_within(word, RETURN_ANSWER),
-        release_param_caps: !bit_within(word, RETURN_RELEASE_PARAM_CAPS),
-        outcome,
-        light: bit_within(word, RETURN_NO_FINISH_NEEDED),
-    })
+    Ok(RpcMessage::Return { head: ReturnHead { answer: u32_within(word, RETURN_ANSWER), release_param_caps: !bit_within(word, RETURN_RELEASE_PARAM_CAPS), light: bit_within(word, RETURN_NO_FINISH_NEEDED) }, outcome })
 }
 
 /// The Return behind a Message's pointer.

@@ -24,7 +24,8 @@ pub use cap_reader::{Fields, Limits, ReadError};
 pub use edition::Edition;
 pub use laws::{later_edition_reads_more, limits_change_no_message};
 pub use message::{
-    Descriptor, Descriptors, Loopback, Outcome, Payload, Resolution, RpcMessage, Target,
+    CallHead, Descriptor, Descriptors, Loopback, Outcome, Payload, Resolution, ReturnHead,
+    RpcMessage, Target,
 };
 pub use reading::{read_bytes, read_message};
 pub use view_error::{Outside, ViewError};

@@ -108,6 +108,30 @@ pub enum Loopback {
     Receiver,
 }
 
+/// What a Call says beside its target and its parameters: numbers and a flag of rpc.capnp's `Call`.
+#[derive(Clone, Copy, Debug, PartialEq, Eq)]
+pub struct CallHead {
+    /// `questionId`, a number that the sender chose.
+    pub question: u32,
+    /// `interfaceId`.
+    pub interface: u64,
+    /// `methodId`.
+    pub method: u16,
+    /// `sendResultsTo` is `yourself`: the results stay with their answerer, to be taken from there.
+    pub yourself: bool,
+}
+
+/// What a Return says beside its outcome: a number and flags of rpc.capnp's `Return`.
+#[derive(Clone, Copy, Debug, PartialEq, Eq)]
+pub struct ReturnHead {
+    /// `answerId`, the number of the question that is answered.
+    pub answer: u32,
+    /// `releaseParamCaps`: whether the capabilities of the call's parameters are given back.
+    pub release_param_caps: bool,
+    /// `noFinishNeeded`: whether the number may be opened again without a Finish. By the first edition it never is.
+    pub light: bool,
+}
+
 /// A message of the protocol's level 1: rpc.capnp's `Message`.
 #[derive(Debug)]
 pub enum RpcMessage {
@@ -118,29 +142,19 @@ pub enum RpcMessage {
     },
     /// Asks for a method to be called.
     Call {
-        /// `questionId`, a number that the sender chose.
-        question: u32,
+        /// Its numbers, and where its results go.
+        head: CallHead,
         /// `target`.
         target: Target,
-        /// `interfaceId`.
-        interface: u64,
-        /// `methodId`.
-        method: u16,
         /// `params`.
         params: Payload,
-        /// `sendResultsTo` is `yourself`: the results stay with their answerer, to be taken from there.
-        yourself: bool,
     },
     /// Answers a Bootstrap or a Call.
     Return {
-        /// `answerId`, the number of the question that is answered.
-        answer: u32,
-        /// `releaseParamCaps`: whether the capabilities of the call's parameters are given back.
-        release_param_caps: bool,
+        /// Its number, and what goes with it.
+        head: ReturnHead,
         /// The union of results and what may stand in their place.
         outcome: Outcome,
-        /// `noFinishNeeded`: whether the number may be opened again without a Finish. By the first edition it never is.
-        light: bool,
     },
     /// Says that a question's answer isn't needed any more.
     Finish {
@@ -181,18 +195,13 @@ impl Drop for RpcMessage {
         match self {
             Self::Bootstrap { question: _ } => {}
             Self::Call {
-                question: _,
+                head: _,
                 target: _,
-                interface: _,
-                method: _,
                 params: _,
-                yourself: _,
             } => {}
             Self::Return {
-                answer: _,
-                release_param_caps: _,
+                head: _,
                 outcome: _,
-                light: _,
             } => {}
             Self::Finish {
                 question: _,

@@ -98,9 +98,9 @@ each_more P Q so [] h = tt
 each_more P Q so (x ∷ xs) h = (so x h.0, each_more P Q so xs h.1)
 
 goal_more : (before : Past) (e : DecodedRecord) → GoesToGoal First before e → GoesToGoal Later before e
-goal_more before (Wire true k call rs (Call q target interface method params yourself)) h =
-    let there = view_of_target before (Wire true k call rs (Call q target interface method params yourself)) in
-    some_and_more (λ a. LeadsTo before a.goal there × (interface ≡ a.interface) × (method ≡ a.method)) (λ a. AreOneThere before a.goal there × (interface ≡ a.interface) × (method ≡ a.method))
+goal_more before (Wire true k call rs (Call head target params)) h =
+    let there = view_of_target before (Wire true k call rs (Call head target params)) in
+    some_and_more (λ a. LeadsTo before a.goal there × (head.interface ≡ a.interface) × (head.method ≡ a.method)) (λ a. AreOneThere before a.goal there × (head.interface ≡ a.interface) × (head.method ≡ a.method))
     (λ a led. (goes_for_more before a.goal there led.0, led.1, led.2)) (request_of call before) h
 goal_more before (Deliver call object) h = h
 goal_more before _ h = h
@@ -127,13 +127,13 @@ fields_more before e fields call h = (
 )
 
 results_more : (before : Past) (e : DecodedRecord) → ReturnsKnown First before e → ReturnsKnown Later before e
-results_more before (Wire true k c rs (Return q release (TakeFrom n) light)) h =
+results_more before (Wire true k c rs (Return head (TakeFrom n))) h =
     λ in_time. some_and_more (ReturnsTaken First before (call_of (id k true n) before)) (ReturnsTaken Later before (call_of (id k true n) before)) (λ call taken. inl taken)
-    (call_at (opening (id k false q) before)) (h in_time)
-results_more before (Wire true k c rs (Return q release (Results payload) light)) h = λ in_time.
-    let e : DecodedRecord = Wire true k c rs (Return q release (Results payload) light) in
+    (call_at (opening (id k false head.answer) before)) (h in_time)
+results_more before (Wire true k c rs (Return head (Results payload))) h = λ in_time.
+    let e : DecodedRecord = Wire true k c rs (Return head (Results payload)) in
     let there = h in_time in
-    (there.0, some_and_more (ReturnsFields First before e payload.fields) (ReturnsFields Later before e payload.fields) (fields_more before e payload.fields) (call_at (opening (id k false q) before)) there.1)
+    (there.0, some_and_more (ReturnsFields First before e payload.fields) (ReturnsFields Later before e payload.fields) (fields_more before e payload.fields) (call_at (opening (id k false head.answer) before)) there.1)
 results_more before _ h = h
 
 elsewhere_if : (k : ℕ) (o : Option ℕ) → is_another k o ≡ true → not (is k o) ≡ true
@@ -264,8 +264,7 @@ abbrev IsPlain : DecodedRecord → Type 0
 IsPlain e = question_returned_lightly e ≡ None
 
 plain_message : (sent : Bool) (k c : ℕ) (rs : List ℕ) (m : RpcMessage) → is_light m ≡ false → IsPlain (Wire sent k c rs m)
-plain_message sent k c rs (Return q release outcome true) h = absurd (false≢true (sym h))
-plain_message sent k c rs (Return q release outcome false) h = refl
+plain_message sent k c rs (Return head outcome) h = ap (λ (light : Bool). if light then Some (id k (not sent) head.answer) else None) h
 plain_message sent k c rs _ h = refl
 
 plain_if : (a e : DecodedRecord) → IsPlain a → as_read a ≡ as_read e → IsPlain e

@@ -5,7 +5,7 @@ use Rattle.std.specs.List.{list_all}
 use Rattle.std.specs.Option.{option_or}
 use Rattle.std.proofs.lemmas.Bool.{cases_Bool, and_parts, or_left, or_right, not-true, false≢true, eqb-true}
 use Rattle.vat_rules.specs.declared.rule.Rule.TheVariants as rule
-use Rattle.vat_rules.specs.Types.{Later, Bootstrap, Call, Return, Outcome, Results, Exception, Canceled, Elsewhere, TakeFrom, Resolve, DecodedRecord, Fulfil, Break, Make, Deliver, Answer, AnswerBy, Fault, Wire, View, Object, Promise, FieldOf, Import}
+use Rattle.vat_rules.specs.Types.{Later, Bootstrap, Call, Return, ReturnHead, Outcome, Results, Exception, Canceled, Elsewhere, TakeFrom, Resolve, DecodedRecord, Fulfil, Break, Make, Deliver, Answer, AnswerBy, Fault, Wire, View, Object, Promise, FieldOf, Import}
 use Rattle.vat_rules.specs.Judged.{IsGood}
 use Rattle.vat_rules.specs.OfCalls.{distinct_paths}
 use Rattle.vat_rules.specs.OfPromises.{IsUnkept, is_unresolved}
@@ -68,12 +68,12 @@ module _ (c : ℕ) where
   -- a record asks another vat for the call: it sends a Bootstrap or a Call of it
   abbrev asks : Past → DecodedRecord → Bool
   asks before (Wire true k d rs (Bootstrap q)) = d == c
-  asks before (Wire true k d rs (Call q t f m p yourself)) = d == c
+  asks before (Wire true k d rs (Call head t p)) = d == c
   asks before _ = false
 
   -- a received Return ends what was asked for
   abbrev comes_back : Past → DecodedRecord → Bool
-  comes_back before (Wire false k d rs (Return q release outcome light)) = is c (call_at (opening (id k true q) before))
+  comes_back before (Wire false k d rs (Return head outcome)) = is c (call_at (opening (id k true head.answer) before))
   comes_back before _ = false
 
   -- ---- what a record does to a call
@@ -149,26 +149,26 @@ module _ (c : ℕ) where
     | inl same ↦ booted (fresh before d (good rule.Ref).unused_call same) refl refl refl
     | inr apart ↦ quiet refl refl apart refl (λ h. h)
   ]
-  effect before (Wire true k d rs (Call q t f m p yourself)) good = elim (cases_Bool (d == c)) [
+  effect before (Wire true k d rs (Call head t p)) good = elim (cases_Bool (d == c)) [
     | inl same ↦ sends (named (λ x. is_at_vat x before) d (good rule.Here) same) refl refl refl (left_if (d == c) (last_answer (moves c) before) same)
     | inr apart ↦ quiet apart refl refl refl (stayed_if (d == c) (last_answer (moves c) before))
   ]
-  effect before (Wire false k d rs (Call q t f m p yourself)) good = elim (cases_Bool (d == c)) [
+  effect before (Wire false k d rs (Call head t p)) good = elim (cases_Bool (d == c)) [
     | inl same ↦ makes (fresh before d (good rule.Ref).unused_call same) refl refl refl refl
     | inr apart ↦ quiet refl refl refl refl
-        (let a : Request = record { goal = view_of_target before (Wire false k d rs (Call q t f m p yourself)); interface = f; method = m } in came_if a (d == c) (last_answer (moves c) before) apart)
+        (let a : Request = record { goal = view_of_target before (Wire false k d rs (Call head t p)); interface = head.interface; method = head.method } in came_if a (d == c) (last_answer (moves c) before) apart)
   ]
-  effect before (Wire true k d rs (Return q release Exception light)) good =
-      quiet refl refl refl refl (stayed_if (is c (call_at (opening (id k false q) before))) (last_answer (moves c) before))
-  effect before (Wire true k d rs (Return q release Canceled light)) good =
-      quiet refl refl refl refl (stayed_if (is c (call_at (opening (id k false q) before))) (last_answer (moves c) before))
+  effect before (Wire true k d rs (Return head Exception)) good =
+      quiet refl refl refl refl (stayed_if (is c (call_at (opening (id k false head.answer) before))) (last_answer (moves c) before))
+  effect before (Wire true k d rs (Return head Canceled)) good =
+      quiet refl refl refl refl (stayed_if (is c (call_at (opening (id k false head.answer) before))) (last_answer (moves c) before))
   effect before _ good = quiet refl refl refl refl (λ h. h)
 
   -- ---- what was asked for is bound
 
   asks_bound : (before : Past) (e : DecodedRecord) → IsGood before e → asks before e ≡ true → is_bound_call (e ∷ before) c ≡ true
   asks_bound before (Wire true k d rs (Bootstrap q)) good same = or_left ((d == c) || false) (is_bound_call before c) (or_left (d == c) false same)
-  asks_bound before (Wire true k d rs (Call q t f m p yourself)) good same =
+  asks_bound before (Wire true k d rs (Call head t p)) good same =
       named (λ x. is_bound_call before x) d (and_parts (is_bound_call before d) true (good rule.Ref).bound_call).0 same
   asks_bound before _ good h = absurd (false≢true h)
 
@@ -292,15 +292,15 @@ module _ (c : ℕ) where
 
   asks_once : (before : Past) (e : DecodedRecord) → Each IsGood before → IsGood before e → asks before e ≡ true → has_passed asks before ≡ false
   asks_once before (Wire true k d rs (Bootstrap q)) past good same = unasked before past (fresh before d (good rule.Ref).unused_call same)
-  asks_once before (Wire true k d rs (Call q t f m p yourself)) past good same = (placed before past).here_unasked (named (λ x. is_at_vat x before) d (good rule.Here) same)
+  asks_once before (Wire true k d rs (Call head t p)) past good same = (placed before past).here_unasked (named (λ x. is_at_vat x before) d (good rule.Here) same)
   asks_once before _ past good h = absurd (false≢true h)
 
   -- an own question that is opened for the call asks for it
   opens_asks : (k n : ℕ) (before : Past) (e : DecodedRecord) → opens (id k true n) before e ≡ true → is c (call_at (Some (point before e))) ≡ true → asks before e ≡ true
   opens_asks k n before (Wire true j d rs (Bootstrap q)) new same = same
-  opens_asks k n before (Wire true j d rs (Call q t f m p yourself)) new same = same
+  opens_asks k n before (Wire true j d rs (Call head t p)) new same = same
   opens_asks k n before (Wire false j d rs (Bootstrap q)) new same = absurd (false≢true (sym (ap (λ i. i.ours) (same_id_is (id k true n) (id j false q) new))))
-  opens_asks k n before (Wire false j d rs (Call q t f m p yourself)) new same = absurd (false≢true (sym (ap (λ i. i.ours) (same_id_is (id k true n) (id j false q) new))))
+  opens_asks k n before (Wire false j d rs (Call head t p)) new same = absurd (false≢true (sym (ap (λ i. i.ours) (same_id_is (id k true n) (id j false head.question) new))))
   opens_asks k n before _ new same = absurd (false≢true new)
 
   opening_now : (q : TableKey) (before : Past) (e : DecodedRecord) → opens q before e ≡ true → opening q (e ∷ before) ≡ Some (point before e)
@@ -346,7 +346,7 @@ module _ (c : ℕ) where
   -- ---- what was asked for comes back once
 
   back_asked : (before : Past) (e : DecodedRecord) → comes_back before e ≡ true → has_passed asks before ≡ true
-  back_asked before (Wire false k d rs (Return q release outcome light)) h = opening_asked k q before h
+  back_asked before (Wire false k d rs (Return head outcome)) h = opening_asked k head.answer before h
   back_asked before _ h = absurd (false≢true h)
 
   came_asked : (past : Past) → has_passed comes_back past ≡ true → has_passed asks past ≡ true
@@ -367,12 +367,12 @@ module _ (c : ℕ) where
       ]
 
   back_returns : (k n : ℕ) (before : Past) (e : DecodedRecord) → Each IsGood before → comes_back before e ≡ true → of_call (id k true n) before ≡ true → returns (id k true n) before e ≡ true
-  back_returns k n before (Wire false j d rs (Return q release outcome light)) past h g =
-      subst (λ i. same_id i (id j true q) ≡ true) (sym (one_question k n j q before past g h)) (same_id_self (id j true q))
+  back_returns k n before (Wire false j d rs (Return head outcome)) past h g =
+      subst (λ i. same_id i (id j true head.answer) ≡ true) (sym (one_question k n j head.answer before past g h)) (same_id_self (id j true head.answer))
   back_returns k n before _ past h g = absurd (false≢true h)
 
   opens_not_back : (k n : ℕ) (before : Past) (e : DecodedRecord) → opens (id k true n) before e ≡ true → comes_back before e ≡ true → ⊥
-  opens_not_back k n before (Wire false j d rs (Return q release outcome light)) new h = false≢true new
+  opens_not_back k n before (Wire false j d rs (Return head outcome)) new h = false≢true new
   opens_not_back k n before _ new h = false≢true h
 
   -- the question of a call that came back is returned
@@ -402,11 +402,11 @@ module _ (c : ℕ) where
     no_turn before (Answer d results) s b = quiet_if _ (d == c) s
     no_turn before (AnswerBy d by) s b = quiet_if _ (d == c) s
     no_turn before (Fault d) s b = quiet_if _ (d == c) s
-    no_turn before (Wire false k d rs (Return q release (Results payload) light)) s b = quiet_if _ (is c (call_at (opening (id k true q) before))) b
-    no_turn before (Wire false k d rs (Return q release Exception light)) s b = quiet_if _ (is c (call_at (opening (id k true q) before))) b
-    no_turn before (Wire false k d rs (Return q release Canceled light)) s b = quiet_if _ (is c (call_at (opening (id k true q) before))) b
-    no_turn before (Wire false k d rs (Return q release Elsewhere light)) s b = refl
-    no_turn before (Wire false k d rs (Return q release (TakeFrom n) light)) s b = quiet_if _ (is c (call_at (opening (id k true q) before))) b
+    no_turn before (Wire false k d rs (Return head (Results payload))) s b = quiet_if _ (is c (call_at (opening (id k true head.answer) before))) b
+    no_turn before (Wire false k d rs (Return head Exception)) s b = quiet_if _ (is c (call_at (opening (id k true head.answer) before))) b
+    no_turn before (Wire false k d rs (Return head Canceled)) s b = quiet_if _ (is c (call_at (opening (id k true head.answer) before))) b
+    no_turn before (Wire false k d rs (Return head Elsewhere)) s b = refl
+    no_turn before (Wire false k d rs (Return head (TakeFrom n))) s b = quiet_if _ (is c (call_at (opening (id k true head.answer) before))) b
     no_turn before _ s b = refl
 
     passed_parts : (test : Past → DecodedRecord → Bool) (before : Past) (e : DecodedRecord) → has_passed test (e ∷ before) ≡ false → (test before e ≡ false) × (has_passed test before ≡ false)
@@ -436,13 +436,13 @@ module _ (c : ℕ) where
     ]
 
     -- results that were sent elsewhere turn nothing; any other Return turns a field of its own call alone
-    return_turns : (before : Past) (k d : ℕ) (rs : List ℕ) (q : ℕ) (release : Bool) (outcome : Outcome) (light : Bool) → IsSome (answers c path before (Wire false k d rs (Return q release outcome light))) →
-        of_call (id k true q) before ≡ true
-    return_turns before k d rs q release (Results payload) light turned = turned_if _ (is c (call_at (opening (id k true q) before))) turned
-    return_turns before k d rs q release Exception light turned = turned_if _ (is c (call_at (opening (id k true q) before))) turned
-    return_turns before k d rs q release Canceled light turned = turned_if _ (is c (call_at (opening (id k true q) before))) turned
-    return_turns before k d rs q release Elsewhere light turned = absurd (false≢true turned)
-    return_turns before k d rs q release (TakeFrom n) light turned = turned_if _ (is c (call_at (opening (id k true q) before))) turned
+    return_turns : (before : Past) (k d : ℕ) (rs : List ℕ) (head : ReturnHead) (outcome : Outcome) → IsSome (answers c path before (Wire false k d rs (Return head outcome))) →
+        of_call (id k true head.answer) before ≡ true
+    return_turns before k d rs head (Results payload) turned = turned_if _ (is c (call_at (opening (id k true head.answer) before))) turned
+    return_turns before k d rs head Exception turned = turned_if _ (is c (call_at (opening (id k true head.answer) before))) turned
+    return_turns before k d rs head Canceled turned = turned_if _ (is c (call_at (opening (id k true head.answer) before))) turned
+    return_turns before k d rs head Elsewhere turned = absurd (false≢true turned)
+    return_turns before k d rs head (TakeFrom n) turned = turned_if _ (is c (call_at (opening (id k true head.answer) before))) turned
 
     -- a call that was served and isn't settled wasn't asked of another vat, so its fields stay
     served_stays : (before : Past) → Each IsGood before → is_served c before ≡ true → is_settled c before ≡ false → next before (FieldOf c path) ≡ stays
@@ -463,11 +463,11 @@ module _ (c : ℕ) where
         let both = and_parts (is_at_vat d before || is_served d before) (not (is_settled d before)) (good rule.Answer) in
         field_stays before (not-true (is_settled c before) (named (λ x. not (is_settled x before)) d both.1 same))
         (never_back before past (no_fault before past (placed before past) (named (λ x. is_at_vat x before || is_served x before) d both.0 same)))
-    field_turns_once before (Wire false k d rs (Return q release outcome light)) past good turned =
-        let here : of_call (id k true q) before ≡ true = return_turns before k d rs q release outcome light turned in
-        let unreturned = not-true (is_returned (id k true q) before) (and_parts (is_opened (id k true q) before) (not (is_returned (id k true q) before)) (good rule.QUse).returned_once).1 in
-        field_stays before ((placed before past).asked_unsettled (opening_asked k q before here)) (elim (cases_Bool (has_passed comes_back before)) [
-          | inl came ↦ absurd (clash (came_returned before past came k q here) unreturned)
+    field_turns_once before (Wire false k d rs (Return head outcome)) past good turned =
+        let here : of_call (id k true head.answer) before ≡ true = return_turns before k d rs head outcome turned in
+        let unreturned = not-true (is_returned (id k true head.answer) before) (and_parts (is_opened (id k true head.answer) before) (not (is_returned (id k true head.answer) before)) (good rule.QUse).returned_once).1 in
+        field_stays before ((placed before past).asked_unsettled (opening_asked k head.answer before here)) (elim (cases_Bool (has_passed comes_back before)) [
+          | inl came ↦ absurd (clash (came_returned before past came k head.answer here) unreturned)
           | inr none ↦ none
         ])
     field_turns_once before _ past good turned = absurd (false≢true turned)

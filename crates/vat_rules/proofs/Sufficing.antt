@@ -158,22 +158,22 @@ bare_describes edition before e bare = record {
 -- ---- the rules that a message of each kind can't break
 
 here_of : (edition : Edition) (before : Past) (sent : Bool) (k c : ℕ) (rs : List ℕ) (m : RpcMessage) → bare_may_break m rule.Here ≡ false → Meets edition rule.Here before (Wire sent k c rs m)
-here_of edition before true k c rs (Call q target interface method params yourself) h = absurd (false≢true (sym h))
-here_of edition before false k c rs (Call q target interface method params yourself) h = absurd (false≢true (sym h))
+here_of edition before true k c rs (Call head target params) h = absurd (false≢true (sym h))
+here_of edition before false k c rs (Call head target params) h = absurd (false≢true (sym h))
 here_of edition before true k c rs _ h = tt
 here_of edition before false k c rs _ h = tt
 
 opens_of : (edition : Edition) (before : Past) (sent : Bool) (k c : ℕ) (rs : List ℕ) (m : RpcMessage) → bare_may_break m rule.QNew ≡ false → Meets edition rule.QNew before (Wire sent k c rs m)
 opens_of edition before sent k c rs (Bootstrap q) h = absurd (false≢true (sym h))
-opens_of edition before sent k c rs (Call q target interface method params yourself) h = absurd (false≢true (sym h))
+opens_of edition before sent k c rs (Call head target params) h = absurd (false≢true (sym h))
 opens_of edition before sent k c rs _ h = tt
 
 no_questions : (before : Past) (e : DecodedRecord) → IsBare e → IsTrue (list_all (λ q. is_unfinished q before) (filter_map (question_described e) (descriptors e) ++ [] ++ []))
 no_questions before e bare = subst (λ ds. IsTrue (list_all (λ q. is_unfinished q before) (filter_map (question_described e) ds ++ [] ++ []))) (sym bare.uncarried) refl
 
 uses_of : (edition : Edition) (before : Past) (sent : Bool) (k c : ℕ) (rs : List ℕ) (m : RpcMessage) → IsBare (Wire sent k c rs m) → bare_may_break m rule.QUse ≡ false → Meets edition rule.QUse before (Wire sent k c rs m)
-uses_of edition before sent k c rs (Call q target interface method params yourself) bare h = absurd (false≢true (sym h))
-uses_of edition before sent k c rs (Return q release outcome light) bare h = absurd (false≢true (sym h))
+uses_of edition before sent k c rs (Call head target params) bare h = absurd (false≢true (sym h))
+uses_of edition before sent k c rs (Return head outcome) bare h = absurd (false≢true (sym h))
 uses_of edition before sent k c rs (Finish q release) bare h = absurd (false≢true (sym h))
 uses_of edition before sent k c rs (Disembargo number loopback target) bare h = absurd (false≢true (sym h))
 uses_of edition before sent k c rs (Bootstrap q) bare h = record { used = refl; returned_once = tt; taken_once = tt }
@@ -185,30 +185,30 @@ no_numbers : (before : Past) (e : DecodedRecord) → IsBare e → IsTrue (list_a
 no_numbers before e bare = subst (λ ds. IsTrue (list_all (λ i. is_in_life i before) (filter_map (number_described e) ds ++ []))) (sym bare.uncarried) refl
 
 numbers_of : (edition : Edition) (before : Past) (sent : Bool) (k c : ℕ) (rs : List ℕ) (m : RpcMessage) → IsBare (Wire sent k c rs m) → bare_may_break m rule.XUse ≡ false → Meets edition rule.XUse before (Wire sent k c rs m)
-numbers_of edition before sent k c rs (Call q target interface method params yourself) bare h = absurd (false≢true (sym h))
+numbers_of edition before sent k c rs (Call head target params) bare h = absurd (false≢true (sym h))
 numbers_of edition before sent k c rs (Release n count) bare h = absurd (false≢true (sym h))
 numbers_of edition before sent k c rs (Disembargo number loopback target) bare h = absurd (false≢true (sym h))
 numbers_of edition before sent k c rs (Bootstrap q) bare h = refl
-numbers_of edition before sent k c rs (Return q release outcome light) bare h = no_numbers before _ bare
+numbers_of edition before sent k c rs (Return head outcome) bare h = no_numbers before _ bare
 numbers_of edition before sent k c rs (Finish q release) bare h = refl
 numbers_of edition before sent k c rs (Resolve promise resolution) bare h = no_numbers before _ bare
 numbers_of edition before sent k c rs Abort bare h = refl
 
 goal_of : (edition : Edition) (before : Past) (sent : Bool) (k c : ℕ) (rs : List ℕ) (m : RpcMessage) → bare_may_break m rule.Goal ≡ false → Meets edition rule.Goal before (Wire sent k c rs m)
-goal_of edition before true k c rs (Call q target interface method params yourself) h = absurd (false≢true (sym h))
-goal_of edition before false k c rs (Call q target interface method params yourself) h = absurd (false≢true (sym h))
+goal_of edition before true k c rs (Call head target params) h = absurd (false≢true (sym h))
+goal_of edition before false k c rs (Call head target params) h = absurd (false≢true (sym h))
 goal_of edition before true k c rs _ h = tt
 goal_of edition before false k c rs _ h = tt
 
 count_of : (edition : Edition) (before : Past) (sent : Bool) (k c : ℕ) (rs : List ℕ) (m : RpcMessage) → bare_may_break m rule.Count ≡ false → Meets edition rule.Count before (Wire sent k c rs m)
-count_of edition before sent k c rs (Return q release outcome light) h = absurd (false≢true (sym h))
+count_of edition before sent k c rs (Return head outcome) h = absurd (false≢true (sym h))
 count_of edition before sent k c rs (Finish q release) h = absurd (false≢true (sym h))
 count_of edition before sent k c rs (Release n count) h = absurd (false≢true (sym h))
 count_of edition before sent k c rs _ h = λ i. nothing_given _
 
 result_of : (edition : Edition) (before : Past) (sent : Bool) (k c : ℕ) (rs : List ℕ) (m : RpcMessage) → bare_may_break m rule.Result ≡ false → Meets edition rule.Result before (Wire sent k c rs m)
-result_of edition before true k c rs (Return q release outcome light) h = absurd (false≢true (sym h))
-result_of edition before false k c rs (Return q release outcome light) h = absurd (false≢true (sym h))
+result_of edition before true k c rs (Return head outcome) h = absurd (false≢true (sym h))
+result_of edition before false k c rs (Return head outcome) h = absurd (false≢true (sym h))
 result_of edition before true k c rs _ h = tt
 result_of edition before false k c rs _ h = tt
 
@@ -321,8 +321,8 @@ unasked_message sent k c rs m rule.Answer h edition before = tt
 unasked_message sent k c rs m _ h edition before = absurd (false≢true (sym h))
 
 unasked_carrying : (sent : Bool) (k c : ℕ) (rs : List ℕ) (m : RpcMessage) (each : Rule) → carrying_may_break m each ≡ false → (edition : Edition) (before : Past) → Meets edition each before (Wire sent k c rs m)
-unasked_carrying sent k c rs (Call q target interface method params yourself) each h edition before = unasked_of_caps sent k c rs (Call q target interface method params yourself) each h edition before
-unasked_carrying sent k c rs (Return q release outcome light) each h edition before = unasked_of_caps sent k c rs (Return q release outcome light) each h edition before
+unasked_carrying sent k c rs (Call head target params) each h edition before = unasked_of_caps sent k c rs (Call head target params) each h edition before
+unasked_carrying sent k c rs (Return head outcome) each h edition before = unasked_of_caps sent k c rs (Return head outcome) each h edition before
 unasked_carrying sent k c rs (Resolve promise resolution) each h edition before = unasked_of_caps sent k c rs (Resolve promise resolution) each h edition before
 unasked_carrying sent k c rs m each h edition before = unasked_message sent k c rs m each h edition before
 

@@ -12,7 +12,7 @@ use Rattle.vat_rules.specs.Ways.{LeadsTo, GoesFor}
 -- HERE: a call that is delivered or sent on is at the vat
 abbrev pub IsHere : Past → DecodedRecord → Type 0
 IsHere before (Deliver call object) = IsTrue (is_at_vat call before)
-IsHere before (Wire true k call references (Call q target interface method params yourself)) = IsTrue (is_at_vat call before)
+IsHere before (Wire true k call references (Call head target params)) = IsTrue (is_at_vat call before)
 IsHere before _ = ⊤
 
 -- (rpc.capnp, Call.target, interfaceId and methodId)
@@ -20,9 +20,9 @@ IsHere before _ = ⊤
 -- the later edition is one with it, and interface and method are the call's
 abbrev pub GoesToGoal : Edition → Past → DecodedRecord → Type 0
 GoesToGoal edition before (Deliver call object) = LeadsTo before (goal_of call before) (Some (Object object))
-GoesToGoal edition before (Wire true k call references (Call q target interface method params yourself)) =
-    let there = view_of_target before (Wire true k call references (Call q target interface method params yourself)) in
-    IsSomeAnd (request_of call before) (λ a. GoesFor edition before a.goal there × (interface ≡ a.interface) × (method ≡ a.method))
+GoesToGoal edition before (Wire true k call references (Call head target params)) =
+    let there = view_of_target before (Wire true k call references (Call head target params)) in
+    IsSomeAnd (request_of call before) (λ a. GoesFor edition before a.goal there × (head.interface ≡ a.interface) × (head.method ≡ a.method))
 GoesToGoal edition before _ = ⊤
 
 -- no path twice

@@ -52,7 +52,7 @@ NotesView edition before e (r, place) =
 
 -- a record is a Return that says that no Finish is needed
 abbrev pub is_light_return : DecodedRecord → Bool
-is_light_return (Wire sent k call references (Return q release outcome light)) = light
+is_light_return (Wire sent k call references (Return head outcome)) = head.light
 is_light_return _ = false
 
 -- (rpc.capnp, CapDescriptor and Return.noFinishNeeded; that references are noted is this project's own)

@@ -33,18 +33,18 @@ ReturnsTaken Later before from call = IsSomeAnd (answered_by call before) (λ by
 -- call was answered by the one for which the question that it names stands, or, in a log of the later edition, the
 -- question stands for the call itself. Late or not, with canceled, a Finish was received
 abbrev pub ReturnsKnown : Edition → Past → DecodedRecord → Type 0
-ReturnsKnown edition before (Wire true k c rs (Return q release (Results payload) light)) =
-    let e = Wire true k c rs (Return q release (Results payload) light) in
-    is_late before e ≡ false → IsFalse (is_tail (opening (id k false q) before)) × IsSomeAnd (call_at (opening (id k false q) before)) (ReturnsFields edition before e payload.fields)
-ReturnsKnown edition before (Wire true k c rs (Return q release Elsewhere light)) =
-    is_late before (Wire true k c rs (Return q release Elsewhere light)) ≡ false → IsTrue (is_tail (opening (id k false q) before))
-ReturnsKnown edition before (Wire true k c rs (Return q release (TakeFrom n) light)) =
-    is_late before (Wire true k c rs (Return q release (TakeFrom n) light)) ≡ false →
-    IsSomeAnd (call_at (opening (id k false q) before)) (ReturnsTaken edition before (call_of (id k true n) before))
-ReturnsKnown edition before (Wire true k c rs (Return q release Canceled light)) = IsTrue (is_finished (id k false q) before)
-ReturnsKnown edition before (Wire true k c rs (Return q release Exception light)) = ⊤
+ReturnsKnown edition before (Wire true k c rs (Return head (Results payload))) =
+    let e = Wire true k c rs (Return head (Results payload)) in
+    is_late before e ≡ false → IsFalse (is_tail (opening (id k false head.answer) before)) × IsSomeAnd (call_at (opening (id k false head.answer) before)) (ReturnsFields edition before e payload.fields)
+ReturnsKnown edition before (Wire true k c rs (Return head Elsewhere)) =
+    is_late before (Wire true k c rs (Return head Elsewhere)) ≡ false → IsTrue (is_tail (opening (id k false head.answer) before))
+ReturnsKnown edition before (Wire true k c rs (Return head (TakeFrom n))) =
+    is_late before (Wire true k c rs (Return head (TakeFrom n))) ≡ false →
+    IsSomeAnd (call_at (opening (id k false head.answer) before)) (ReturnsTaken edition before (call_of (id k true n) before))
+ReturnsKnown edition before (Wire true k c rs (Return head Canceled)) = IsTrue (is_finished (id k false head.answer) before)
+ReturnsKnown edition before (Wire true k c rs (Return head Exception)) = ⊤
 ReturnsKnown edition before (Wire true k c rs (Bootstrap q)) = ⊤
-ReturnsKnown edition before (Wire true k c rs (Call q target interface method params yourself)) = ⊤
+ReturnsKnown edition before (Wire true k c rs (Call head target params)) = ⊤
 ReturnsKnown edition before (Wire true k c rs (Finish q release)) = ⊤
 ReturnsKnown edition before (Wire true k c rs (Resolve promise resolution)) = ⊤
 ReturnsKnown edition before (Wire true k c rs (Release n count)) = ⊤

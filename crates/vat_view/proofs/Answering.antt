@@ -22,7 +22,7 @@ use Rattle.number_tables.specs.Glue.LifeTables.{held_count_at}
 use Rattle.vat_view.specs.Glue.Asking.{target_by, targeted_by, taken_from_by, given_by}
 use Rattle.vat_view.specs.Glue.Kept.{AreKept}
 use Rattle.decoded_records.proofs.Naming.{same_id_is}
-use Rattle.vat_view.proofs.Knowing.{known_from, asked_at}
+use Rattle.vat_view.proofs.Knowing.{known_from, asked_at, given_if}
 use Rattle.vat_view.proofs.Stepping.{gives_parts}
 use Rattle.vat_view.proofs.Lasting.{view_bound}
 use Rattle.vat_view.proofs.Meaning.{call_known}
@@ -52,8 +52,8 @@ call_of_opening q past None = refl
 -- ---- what was never opened was never returned, finished or taken
 
 returns_opened : (q : TableKey) (before : Past) (e : DecodedRecord) → UsesQuestions before e → returns q before e ≡ true → is_opened q before ≡ true
-returns_opened q before (Wire s k c rs (Return n release outcome light)) uses h =
-    (and_parts (is_opened q before) (not (is_returned q before)) (subst (λ x. is_unreturned x before ≡ true) (sym (same_id_is q (id k (not s) n) h)) uses.returned_once)).0
+returns_opened q before (Wire s k c rs (Return head outcome)) uses h =
+    (and_parts (is_opened q before) (not (is_returned q before)) (subst (λ x. is_unreturned x before ≡ true) (sym (same_id_is q (id k (not s) head.answer) h)) uses.returned_once)).0
 returns_opened q before _ uses h = absurd (false≢true h)
 
 finishes_opened : (q : TableKey) (before : Past) (e : DecodedRecord) → UsesQuestions before e → finishes q before e ≡ true → is_opened q before ≡ true
@@ -71,7 +71,7 @@ tail_opened (Some p) h = refl
 tail_opened None h = absurd (false≢true h)
 
 takes_opened : (q : TableKey) (before : Past) (e : DecodedRecord) → UsesQuestions before e → takes_results q before e ≡ true → is_opened q before ≡ true
-takes_opened q before (Wire s k c rs (Return n release (TakeFrom m) light)) uses h =
+takes_opened q before (Wire s k c rs (Return head (TakeFrom m))) uses h =
     tail_opened (opening q before) (and_parts (is_tail (opening q before)) (not (is_taken q before))
     (subst (λ x. (is_tail (opening x before) && not (is_taken x before)) ≡ true) (sym (same_id_is q (id k s m) h)) uses.taken_once)).0
 takes_opened q before _ uses h = absurd (false≢true h)
@@ -139,13 +139,13 @@ module _ (past : Past) (questions : Questions) (lives : ExportsImports) (bound :
       ∙ released_at q past (opening q past) (λ h. ap (λ o. is_some o) (unopened q (releases q) (releases_opened q) past kept.sound h))
 
   pub late_is : (e : DecodedRecord) → late_by (question_at questions) e ≡ is_late past e
-  late_is (Wire s k c rs (Return q release outcome light)) = released_known (id k (not s) q)
+  late_is (Wire s k c rs (Return head outcome)) = released_known (id k (not s) head.answer)
   late_is _ = refl
 
   -- the call by whose results a record answers another
   pub taken_from_known : (e : DecodedRecord) → taken_from_by (question_at questions) e ≡ call_taken_from past e
-  taken_from_known (Wire false k c rs (Return q release (TakeFrom n) light)) =
-      ap₂ (λ b o. if b then None else o) (late_is (Wire false k c rs (Return q release (TakeFrom n) light)))
+  taken_from_known (Wire false k c rs (Return head (TakeFrom n))) =
+      ap₂ (λ b o. if b then None else o) (late_is (Wire false k c rs (Return head (TakeFrom n))))
       (ap (λ o. call_by o) (kept.tabled.tabled.known (id k false n)) ∙ call_known (id k false n) past)
   taken_from_known _ = refl
 
@@ -190,7 +190,8 @@ module _ (past : Past) (questions : Questions) (lives : ExportsImports) (bound :
   -- ---- what is given back
 
   closed_is : (e : DecodedRecord) → given_back_by (question_at questions) e ≡ introductions_at (closes past e)
-  closed_is (Wire s k c rs (Return q true outcome light)) = let i : TableKey = id k (not s) q in ap (λ o. params_introduced_in o) (kept.tabled.tabled.known i) ∙ asked_at i past (opening i past)
+  closed_is (Wire s k c rs (Return head outcome)) = let i : TableKey = id k (not s) head.answer in
+      given_if (params_introduced_in (question_at questions i)) (opening i past) head.release_param_caps (ap (λ o. params_introduced_in o) (kept.tabled.tabled.known i) ∙ asked_at i past (opening i past))
   closed_is (Wire s k c rs (Finish q true)) = let i : TableKey = id k s q in
       ap (λ o. results_introduced_in o) (kept.tabled.tabled.known i) ∙ brought_at i past (opening i past) (λ h. unopened i (returns i) (returns_opened i) past kept.sound h)
   closed_is _ = refl

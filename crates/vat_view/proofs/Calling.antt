@@ -21,17 +21,17 @@ use Rattle.vat_view.proofs.Unbound.{IsUnknown, unknown}
 -- ---- news by the tables
 
 sent_same : (opened other : TableKey → Option ℕ) → ((q : TableKey) → opened q ≡ other q) → (e : DecodedRecord) → sent_effect opened e ≡ sent_effect other e
-sent_same opened other same (Wire true k c rs (Return q release Exception light)) = ap (λ o. change_of_call Left o) (same (id k false q))
-sent_same opened other same (Wire true k c rs (Return q release Canceled light)) = ap (λ o. change_of_call Left o) (same (id k false q))
+sent_same opened other same (Wire true k c rs (Return head Exception)) = ap (λ o. change_of_call Left o) (same (id k false head.answer))
+sent_same opened other same (Wire true k c rs (Return head Canceled)) = ap (λ o. change_of_call Left o) (same (id k false head.answer))
 sent_same opened other same _ = refl
 
 received_same : (target goal : Option View) (late tardy : Bool) (taken from : Option ℕ) (opened other : TableKey → Option ℕ) → target ≡ goal → late ≡ tardy → taken ≡ from → ((q : TableKey) → opened q ≡ other q) →
     (e : DecodedRecord) → received_effect target late taken opened e ≡ received_effect goal tardy from other e
-received_same target goal late tardy taken from opened other same when by named (Wire false k c rs (Call q t f m p yourself)) = ap (λ v. Begins c (arriving_call v f m)) same
-received_same target goal late tardy taken from opened other same when by named (Wire false k c rs (Return q release (Results payload) light)) =
-    ap (λ b. if b then Nothing else change_of_call Known (opened (id k true q))) when ∙ ap (λ o. if tardy then Nothing else change_of_call Known o) (named (id k true q))
-received_same target goal late tardy taken from opened other same when by named (Wire false k c rs (Return q release (TakeFrom n) light)) =
-    ap (λ o. if is_some o then change_of_call Known (opened (id k true q)) else Nothing) by ∙ ap (λ o. if is_some from then change_of_call Known o else Nothing) (named (id k true q))
+received_same target goal late tardy taken from opened other same when by named (Wire false k c rs (Call head t p)) = ap (λ v. Begins c (arriving_call v head.interface head.method)) same
+received_same target goal late tardy taken from opened other same when by named (Wire false k c rs (Return head (Results payload))) =
+    ap (λ b. if b then Nothing else change_of_call Known (opened (id k true head.answer))) when ∙ ap (λ o. if tardy then Nothing else change_of_call Known o) (named (id k true head.answer))
+received_same target goal late tardy taken from opened other same when by named (Wire false k c rs (Return head (TakeFrom n))) =
+    ap (λ o. if is_some o then change_of_call Known (opened (id k true head.answer)) else Nothing) by ∙ ap (λ o. if is_some from then change_of_call Known o else Nothing) (named (id k true head.answer))
 received_same target goal late tardy taken from opened other same when by named _ = refl
 
 pub news_same : (named viewed : ℕ → Option View) (target goal : Option View) (late tardy : Bool) (taken from : Option ℕ) (opened other : TableKey → Option ℕ) →
@@ -207,18 +207,18 @@ progress_step c before sound (AnswerBy d by) refers = answered_step c before (po
 progress_step c before sound (Fault d) refers = faulted_step c before (point before (Fault d)) (d == c) (is_bound_call before c)
 progress_step c before sound (Wire true k d rs (Bootstrap q)) refers =
     booted_step c before (point before (Wire true k d rs (Bootstrap q))) false (d == c) (was_unknown before sound c d refers.unused_call)
-progress_step c before sound (Wire true k d rs (Call q t f m p yourself)) refers = left_step c before (d == c) (is_bound_call before c)
-progress_step c before sound (Wire true k d rs (Return q release Exception light)) refers = left_by c before (call_at (opening (id k false q) before))
-progress_step c before sound (Wire true k d rs (Return q release Canceled light)) refers = left_by c before (call_at (opening (id k false q) before))
+progress_step c before sound (Wire true k d rs (Call head t p)) refers = left_step c before (d == c) (is_bound_call before c)
+progress_step c before sound (Wire true k d rs (Return head Exception)) refers = left_by c before (call_at (opening (id k false head.answer) before))
+progress_step c before sound (Wire true k d rs (Return head Canceled)) refers = left_by c before (call_at (opening (id k false head.answer) before))
 progress_step c before sound (Wire false k d rs (Bootstrap q)) refers =
     booted_step c before (point before (Wire false k d rs (Bootstrap q))) true (d == c) (was_unknown before sound c d refers.unused_call)
-progress_step c before sound (Wire false k d rs (Call q t f m p yourself)) refers =
-    let e : DecodedRecord = Wire false k d rs (Call q t f m p yourself) in
-    brought_step c before (record { goal = view_of_target before e; interface = f; method = m }) (d == c) (was_unknown before sound c d refers.unused_call)
-progress_step c before sound (Wire false k d rs (Return q release (Results payload) light)) refers =
-    let e : DecodedRecord = Wire false k d rs (Return q release (Results payload) light) in known_by c before (point before e) (is_late before e) (call_at (opening (id k true q) before))
-progress_step c before sound (Wire false k d rs (Return q release (TakeFrom n) light)) refers =
-    let e : DecodedRecord = Wire false k d rs (Return q release (TakeFrom n) light) in taken_by c before (point before e) (call_taken_from before e) (call_at (opening (id k true q) before))
+progress_step c before sound (Wire false k d rs (Call head t p)) refers =
+    let e : DecodedRecord = Wire false k d rs (Call head t p) in
+    brought_step c before (record { goal = view_of_target before e; interface = head.interface; method = head.method }) (d == c) (was_unknown before sound c d refers.unused_call)
+progress_step c before sound (Wire false k d rs (Return head (Results payload))) refers =
+    let e : DecodedRecord = Wire false k d rs (Return head (Results payload)) in known_by c before (point before e) (is_late before e) (call_at (opening (id k true head.answer) before))
+progress_step c before sound (Wire false k d rs (Return head (TakeFrom n))) refers =
+    let e : DecodedRecord = Wire false k d rs (Return head (TakeFrom n)) in taken_by c before (point before e) (call_taken_from before e) (call_at (opening (id k true head.answer) before))
 progress_step c before sound _ refers = refl
 
 -- what is newly bound wasn't
@@ -244,11 +244,11 @@ pub begins_unbound : (before : Past) (e : DecodedRecord) → Refers before e →
 begins_unbound before (Make c r f m) refers d p h = fresh before c d refers.unused_call (begins_same c d _ p h)
 begins_unbound before (Wire true k c rs (Bootstrap q)) refers d p h = fresh before c d refers.unused_call (begins_same c d _ p h)
 begins_unbound before (Wire false k c rs (Bootstrap q)) refers d p h = fresh before c d refers.unused_call (begins_same c d _ p h)
-begins_unbound before (Wire false k c rs (Call q t f m params yourself)) refers d p h = fresh before c d refers.unused_call (begins_same c d _ p h)
-begins_unbound before (Wire true k c rs (Return q release Exception light)) refers d p h = absurd (step_begins Left (call_at (opening (id k false q) before)) d p h)
-begins_unbound before (Wire true k c rs (Return q release Canceled light)) refers d p h = absurd (step_begins Left (call_at (opening (id k false q) before)) d p h)
-begins_unbound before (Wire false k c rs (Return q release (Results payload) light)) refers d p h =
-    absurd (known_begins (is_late before (Wire false k c rs (Return q release (Results payload) light))) (call_at (opening (id k true q) before)) d p h)
-begins_unbound before (Wire false k c rs (Return q release (TakeFrom n) light)) refers d p h =
-    absurd (taken_begins (call_taken_from before (Wire false k c rs (Return q release (TakeFrom n) light))) (call_at (opening (id k true q) before)) d p h)
+begins_unbound before (Wire false k c rs (Call head t params)) refers d p h = fresh before c d refers.unused_call (begins_same c d _ p h)
+begins_unbound before (Wire true k c rs (Return head Exception)) refers d p h = absurd (step_begins Left (call_at (opening (id k false head.answer) before)) d p h)
+begins_unbound before (Wire true k c rs (Return head Canceled)) refers d p h = absurd (step_begins Left (call_at (opening (id k false head.answer) before)) d p h)
+begins_unbound before (Wire false k c rs (Return head (Results payload))) refers d p h =
+    absurd (known_begins (is_late before (Wire false k c rs (Return head (Results payload)))) (call_at (opening (id k true head.answer) before)) d p h)
+begins_unbound before (Wire false k c rs (Return head (TakeFrom n))) refers d p h =
+    absurd (taken_begins (call_taken_from before (Wire false k c rs (Return head (TakeFrom n)))) (call_at (opening (id k true head.answer) before)) d p h)
 begins_unbound before _ refers d p h = absurd (let no : ⊥ = cc in no)

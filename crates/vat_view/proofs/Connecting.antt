@@ -12,7 +12,7 @@ use Rattle.vat_view.specs.Glue.ConnectionTables.{call_sent_on, on_for, asked_at,
 
 asking_known : (c : ℕ) (e : DecodedRecord) → on_for c (call_sent_on e) ≡ asks c e
 asking_known c (Wire true k d rs (Bootstrap q)) = refl
-asking_known c (Wire true k d rs (Call q target interface method params yourself)) = refl
+asking_known c (Wire true k d rs (Call head target params)) = refl
 asking_known c _ = refl
 
 passed_either : (b : Bool) (p : Point) (o : Option Point) → (b || is_some o) ≡ is_some (if b then Some p else o)

@@ -11,7 +11,7 @@ use Rattle.number_tables.specs.declared.exports_imports.ExportsImports.{ExportsI
 use Rattle.vat_view.specs.declared.record.introduced.Introduced.{Introduced}
 use Rattle.vat_view.specs.declared.tables.references.BoundReferences.{BoundReferences}
 use Rattle.vat_view.specs.Types.{Descriptor, NoCap, SenderHosted, SenderPromise, ReceiverHosted, ReceiverAnswer, RpcMessage, Bootstrap, Call, Return, Finish, Release, DecodedRecord, Wire, View, FieldOf, TableKey}
-use Rattle.decoded_records.specs.Past.{Past, point, id, same_id, last_answer}
+use Rattle.decoded_records.specs.Past.{Past, Point, point, id, same_id, last_answer}
 use Rattle.decoded_records.specs.Questions.{opens, returns, opening, return_of, is_late}
 use Rattle.decoded_records.specs.Lives.{Birth, birth, begins, descriptors, number_introduced, introduces, introductions_at, gives_back, held, is_in_life}
 use Rattle.decoded_records.specs.Views.{view_of_reference, view_given, view_of_number, descriptor_view, placed_references}
@@ -66,12 +66,12 @@ introduces_none i before s k c rs m other =
 
 opener : (i q : TableKey) (before : Past) (e : DecodedRecord) → i.ours ≡ not q.ours → opens q before e ≡ true → introduces i before e ≡ 0
 opener i q before (Wire s k c rs (Bootstrap n)) other h = introduces_none i before s k c rs (Bootstrap n) (other ∙ ap (λ x. not x.ours) (same_id_is q (id k s n) h))
-opener i q before (Wire s k c rs (Call n t f m p yourself)) other h = introduces_none i before s k c rs (Call n t f m p yourself) (other ∙ ap (λ x. not x.ours) (same_id_is q (id k s n) h))
+opener i q before (Wire s k c rs (Call head t p)) other h = introduces_none i before s k c rs (Call head t p) (other ∙ ap (λ x. not x.ours) (same_id_is q (id k s head.question) h))
 opener i q before _ other h = absurd (false≢true h)
 
 returner : (i q : TableKey) (before : Past) (e : DecodedRecord) → i.ours ≡ q.ours → returns q before e ≡ true → introduces i before e ≡ 0
-returner i q before (Wire s k c rs (Return n release outcome light)) same h =
-    introduces_none i before s k c rs (Return n release outcome light) (same ∙ ap (λ x. x.ours) (same_id_is q (id k (not s) n) h))
+returner i q before (Wire s k c rs (Return head outcome)) same h =
+    introduces_none i before s k c rs (Return head outcome) (same ∙ ap (λ x. x.ours) (same_id_is q (id k (not s) head.answer) h))
 returner i q before _ same h = absurd (false≢true h)
 
 opening_none : (i q : TableKey) (past : Past) → i.ours ≡ not q.ours → count_by (same_id i) (introductions_at (opening q past)) ≡ 0
@@ -92,9 +92,15 @@ return_none i q (e ∷ before) same = elim (cases_Bool (opens q before e)) [
       ]
 ]
 
+-- nothing is given back where a flag says so, if nothing is either way
+pub given_none : (i : TableKey) (o : Option Point) (b : Bool) → count_by (same_id i) (introductions_at o) ≡ 0 → count_by (same_id i) (introductions_at (if b then o else None)) ≡ 0
+given_none i o true none = none
+given_none i o false none = refl
+
 pub sender_keeps : (i : TableKey) (before : Past) (s : Bool) (k c : ℕ) (rs : List ℕ) (m : RpcMessage) → i.ours ≡ s → gives_back i before (Wire s k c rs m) ≡ 0
 sender_keeps i before s k c rs (Release n count) same = ap (λ b. if b then count else 0) (other_side i (id k (not s) n) (same ∙ sym (not_not s)))
-sender_keeps i before s k c rs (Return q true outcome light) same = opening_none i (id k (not s) q) before (same ∙ sym (not_not s))
+sender_keeps i before s k c rs (Return head outcome) same =
+    given_none i (opening (id k (not s) head.answer) before) head.release_param_caps (opening_none i (id k (not s) head.answer) before (same ∙ sym (not_not s)))
 sender_keeps i before s k c rs (Finish q true) same = return_none i (id k s q) before same
 sender_keeps i before s k c rs _ same = refl
 

@@ -135,7 +135,7 @@ alone_noted false = refl
 
 alone : (before : Past) (s : Bool) (k c : ℕ) (rs : List ℕ) (m : RpcMessage) (b : Bool) → question_opened (Wire s k c rs m) ≡ None → b ≡ (c == 0) → Decides b (Refers before (Wire s k c [] m))
 alone before s k c rs (Bootstrap q) b opens is = absurd (let no : ⊥ = cc in no)
-alone before s k c rs (Call q t f m p yourself) b opens is = absurd (let no : ⊥ = cc in no)
+alone before s k c rs (Call head t p) b opens is = absurd (let no : ⊥ = cc in no)
 alone before true k c rs _ b opens is = refers_from before _ true true true true true b true b b refl refl refl refl refl (is ∙ alone_noted (c == 0)) refl refl refl
 alone before false k c rs _ b opens is = refers_from before _ true true true true true b true b b refl refl refl refl refl (is ∙ alone_noted (c == 0)) refl refl refl
 

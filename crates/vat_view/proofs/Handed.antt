@@ -24,8 +24,8 @@ no_call false t none = refl
 -- a record answers a call by another where it settles that call so
 pub answerer_settles : (c : ℕ) (before : Past) (e : DecodedRecord) → answerer c before e ≡ (if is_this (ResultsOf c) (settlement_of before e) then call_taken_from before e else None)
 answerer_settles c before (AnswerBy d by) = refl
-answerer_settles c before (Wire false k d rs (Return q release (TakeFrom n) light)) =
-    ap (λ b. if b then call_taken_from before (Wire false k d rs (Return q release (TakeFrom n) light)) else None) (is_results c (call_at (opening (id k true q) before)))
+answerer_settles c before (Wire false k d rs (Return head (TakeFrom n))) =
+    ap (λ b. if b then call_taken_from before (Wire false k d rs (Return head (TakeFrom n))) else None) (is_results c (call_at (opening (id k true head.answer) before)))
 answerer_settles c before e = no_call (is_this (ResultsOf c) (settlement_of before e)) (call_taken_from before e) refl
 
 -- what the table has of a call after a record

@@ -78,12 +78,12 @@ names_none (d ∷ ds) h (suc place) = names_none ds (or_parts (names_back (Some 
 
 -- where a record brings nothing back by its descriptors, it does so at no path
 pub brings_none : (e : DecodedRecord) → may_bring_back e ≡ false → (path : List ℕ) → brings_back path e ≡ false
-brings_none (Wire false k c rs (Return q release (Results payload) light)) h path = at (find (λ field. same_path field.0 path) payload.fields)
+brings_none (Wire false k c rs (Return head (Results payload))) h path = at (find (λ field. same_path field.0 path) payload.fields)
   where
     at : (o : Option (List ℕ × ℕ)) → names_back (option_and_then (λ field. slice_get payload.descriptors field.1) o) ≡ false
     at (Some field) = names_none payload.descriptors h field.1
     at None = refl
-brings_none (Wire false k c rs (Return q release (TakeFrom n) light)) h path = absurd (false≢true (sym h))
+brings_none (Wire false k c rs (Return head (TakeFrom n))) h path = absurd (false≢true (sym h))
 brings_none (Wire false k c rs (Resolve n (Cap d))) h path = h
 brings_none _ h path = refl
 

@@ -1,5 +1,5 @@
 -- What the table of questions knows is what looking back finds.
-use Rattle.std.proofs.Common.{◌≡◌, refl, ◌∙◌, ap, true, not, Option, Some, None, option_map}
+use Rattle.std.proofs.Common.{◌≡◌, refl, ◌∙◌, ap, List, [], Bool, true, false, not, Option, Some, None, if◌then◌else◌, option_map}
 use Rattle.std.specs.Prelude.{is_some}
 use Rattle.std.proofs.lemmas.Bool.{and_parts, false≢true}
 use Rattle.number_tables.specs.declared.question.QuestionState.{QuestionState}
@@ -37,14 +37,20 @@ pub asked_at : (q : TableKey) (past : Past) (o : Option Point) → params_introd
 asked_at q past (Some p) = refl
 asked_at q past None = refl
 
+-- what is given back where a flag says so
+pub given_if : (ids : List TableKey) (o : Option Point) (b : Bool) → ids ≡ introductions_at o → (if b then ids else []) ≡ introductions_at (if b then o else None)
+given_if ids o true same = same
+given_if ids o false same = refl
+
 module _ (known : TableKey → Option QuestionState) (before : Past) (same : (q : TableKey) → known q ≡ question_known q before) where
   pub late_known : (e : DecodedRecord) → UsesQuestions before e → late_by known e ≡ is_late before e
-  late_known (Wire s k c rs (Return q release outcome light)) h = let i : TableKey = id k (not s) q in
+  late_known (Wire s k c rs (Return head outcome)) h = let i : TableKey = id k (not s) head.answer in
       ap (λ o. results_released_in o) (same i) ∙ released_at i before (opening i before) (and_parts (is_opened i before) (not (is_returned i before)) h.returned_once).0
   late_known _ h = refl
 
   pub closed_known : (e : DecodedRecord) → UsesQuestions before e → given_back_by known e ≡ introductions_at (closes before e)
-  closed_known (Wire s k c rs (Return q true outcome light)) h = let i : TableKey = id k (not s) q in ap (λ o. params_introduced_in o) (same i) ∙ asked_at i before (opening i before)
+  closed_known (Wire s k c rs (Return head outcome)) h = let i : TableKey = id k (not s) head.answer in
+      given_if (params_introduced_in (known i)) (opening i before) head.release_param_caps (ap (λ o. params_introduced_in o) (same i) ∙ asked_at i before (opening i before))
   closed_known (Wire s k c rs (Finish q true)) h = let i : TableKey = id k s q in
       ap (λ o. results_introduced_in o) (same i)
       ∙ brought_at i before (opening i before) (and_parts (is_opened i before) (not (is_finished i before)) (and_parts (is_unfinished i before) true h.used).0).0

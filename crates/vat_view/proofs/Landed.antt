@@ -7,7 +7,7 @@ use Rattle.std.specs.Str.{bytes_eq as same_path}
 use Rattle.std.proofs.lemmas.List.Sums.{sum_by-cons}
 use Rattle.std.proofs.lemmas.Option.{slice_get_past}
 use Rattle.std.proofs.lemmas.Bool.{and_parts, or_left, or_right, or_parts, cases_Bool, not-true, eqb-true, eq-eqb, ne_eqb, both_ways}
-use Rattle.vat_view.specs.Types.{Descriptor, NoCap, SenderHosted, SenderPromise, ReceiverHosted, ReceiverAnswer, RpcMessage, Outcome, Return, Resolve, Results, Exception, Canceled, Elsewhere, TakeFrom, DecodedRecord, Fulfil, Break, Answer, AnswerBy, Fault, Wire, View, Object, Promise, FieldOf, Import}
+use Rattle.vat_view.specs.Types.{Descriptor, NoCap, SenderHosted, SenderPromise, ReceiverHosted, ReceiverAnswer, RpcMessage, Outcome, Return, ReturnHead, Resolve, Results, Exception, Canceled, Elsewhere, TakeFrom, DecodedRecord, Fulfil, Break, Answer, AnswerBy, Fault, Wire, View, Object, Promise, FieldOf, Import}
 use Rattle.decoded_records.specs.Past.{Past, Point, id, point, is, record_index, last_answer, last_where, Each}
 use Rattle.decoded_records.specs.Questions.{is_late, is_over, call_at, call_of, opening}
 use Rattle.decoded_records.specs.Calls.{call_taken_from}
@@ -249,10 +249,10 @@ turn_there path before e = on_to (option_and_then (view_of_reference (e ∷ befo
 promise_turns : (p : ℕ) (before : Past) (e : DecodedRecord) → keeps p before e ≡ (if is_this (PromiseToKeep p) (settlement_of before e) then Some (turn_there [] before e) else None)
 promise_turns p before (Fulfil r to) = ap (λ b. if b then Some (on_to (view_of_reference before to)) else None) (is_promise_this p (view_of_reference before r))
 promise_turns p before (Break r) = ap (λ b. if b then Some stops else None) (is_promise_this p (view_of_reference before r))
-promise_turns p before (Wire false k c rs (Return q release outcome light)) =
-    let s : Option Unsettled = option_map ResultsOf (call_at (opening (id k true q) before)) in
-    unsettled (is_this (PromiseToKeep p) (unless_elsewhere outcome s)) (turn_there [] before (Wire false k c rs (Return q release outcome light)))
-    (unless_none (PromiseToKeep p) outcome s (no_results (PromiseToKeep p) (λ call. refl) (call_at (opening (id k true q) before))))
+promise_turns p before (Wire false k c rs (Return head outcome)) =
+    let s : Option Unsettled = option_map ResultsOf (call_at (opening (id k true head.answer) before)) in
+    unsettled (is_this (PromiseToKeep p) (unless_elsewhere outcome s)) (turn_there [] before (Wire false k c rs (Return head outcome)))
+    (unless_none (PromiseToKeep p) outcome s (no_results (PromiseToKeep p) (λ call. refl) (call_at (opening (id k true head.answer) before))))
 promise_turns p before (Wire false k c rs (Resolve n resolution)) =
     unsettled (is_this (PromiseToKeep p) (option_map import_at (birth (id k false n) before))) (turn_there [] before (Wire false k c rs (Resolve n resolution)))
     (no_import (PromiseToKeep p) (λ i place. refl) (birth (id k false n) before))
@@ -260,39 +260,39 @@ promise_turns p before (Answer c results) = refl
 promise_turns p before (Fault c) = refl
 promise_turns p before _ = refl
 
-module _ (before : Past) (k c : ℕ) (rs : List ℕ) (q : ℕ) (release light : Bool) where
-  brought : (path : List ℕ) (outcome : Outcome) → Refers before (Wire false k c rs (Return q release outcome light)) → NotesEach before (Wire false k c rs (Return q release outcome light)) →
-      is_late before (Wire false k c rs (Return q release outcome light)) ≡ false →
-      on_to (result_at path before (Wire false k c rs (Return q release outcome light)) outcome) ≡ turn_there path before (Wire false k c rs (Return q release outcome light))
+module _ (before : Past) (k c : ℕ) (rs : List ℕ) (head : ReturnHead) where
+  brought : (path : List ℕ) (outcome : Outcome) → Refers before (Wire false k c rs (Return head outcome)) → NotesEach before (Wire false k c rs (Return head outcome)) →
+      is_late before (Wire false k c rs (Return head outcome)) ≡ false →
+      on_to (result_at path before (Wire false k c rs (Return head outcome)) outcome) ≡ turn_there path before (Wire false k c rs (Return head outcome))
   brought path Exception refers notes late = refl
   brought path Canceled refers notes late = refl
   brought path Elsewhere refers notes late = refl
   brought path (TakeFrom n) refers notes late = refl
   brought path (Results payload) refers notes late = ap (λ o. on_to o) (found (find (λ field. same_path field.0 path) payload.fields))
     where
-      found : (o : Option (List ℕ × ℕ)) → option_and_then (λ field. view_of_descriptor before (Wire false k c rs (Return q release (Results payload) light)) field.1) o
-          ≡ option_and_then (view_of_reference (Wire false k c rs (Return q release (Results payload) light) ∷ before))
-          (option_and_then (λ field. reference_at (Wire false k c rs (Return q release (Results payload) light)) field.1) o)
-      found (Some field) = sym (noted_view before k c rs (Return q release (Results payload) light) refers notes late field.1)
+      found : (o : Option (List ℕ × ℕ)) → option_and_then (λ field. view_of_descriptor before (Wire false k c rs (Return head (Results payload))) field.1) o
+          ≡ option_and_then (view_of_reference (Wire false k c rs (Return head (Results payload)) ∷ before))
+          (option_and_then (λ field. reference_at (Wire false k c rs (Return head (Results payload))) field.1) o)
+      found (Some field) = sym (noted_view before k c rs (Return head (Results payload)) refers notes late field.1)
       found None = refl
 
-  brought_late : (path : List ℕ) (outcome : Outcome) → Refers before (Wire false k c rs (Return q release outcome light)) → NotesEach before (Wire false k c rs (Return q release outcome light)) →
-      is_late before (Wire false k c rs (Return q release outcome light)) ≡ true → stops ≡ turn_there path before (Wire false k c rs (Return q release outcome light))
+  brought_late : (path : List ℕ) (outcome : Outcome) → Refers before (Wire false k c rs (Return head outcome)) → NotesEach before (Wire false k c rs (Return head outcome)) →
+      is_late before (Wire false k c rs (Return head outcome)) ≡ true → stops ≡ turn_there path before (Wire false k c rs (Return head outcome))
   brought_late path Exception refers notes late = refl
   brought_late path Canceled refers notes late = refl
   brought_late path Elsewhere refers notes late = refl
   brought_late path (TakeFrom n) refers notes late = refl
   brought_late path (Results payload) refers notes late =
-      let e : DecodedRecord = Wire false k c rs (Return q release (Results payload) light) in
+      let e : DecodedRecord = Wire false k c rs (Return head (Results payload)) in
       ap (λ o. on_to (option_and_then (view_of_reference (e ∷ before)) o)) (sym (found (find (λ field. same_path field.0 path) payload.fields)))
     where
-      found : (o : Option (List ℕ × ℕ)) → option_and_then (λ field. reference_at (Wire false k c rs (Return q release (Results payload) light)) field.1) o ≡ None
-      found (Some field) = late_reference before k c rs (Return q release (Results payload) light) refers notes late field.1
+      found : (o : Option (List ℕ × ℕ)) → option_and_then (λ field. reference_at (Wire false k c rs (Return head (Results payload))) field.1) o ≡ None
+      found (Some field) = late_reference before k c rs (Return head (Results payload)) refers notes late field.1
       found None = refl
 
-  returned_turns : (path : List ℕ) (outcome : Outcome) → Refers before (Wire false k c rs (Return q release outcome light)) → NotesEach before (Wire false k c rs (Return q release outcome light)) →
-      (late : Bool) → is_late before (Wire false k c rs (Return q release outcome light)) ≡ late →
-      (if late then stops else on_to (result_at path before (Wire false k c rs (Return q release outcome light)) outcome)) ≡ turn_there path before (Wire false k c rs (Return q release outcome light))
+  returned_turns : (path : List ℕ) (outcome : Outcome) → Refers before (Wire false k c rs (Return head outcome)) → NotesEach before (Wire false k c rs (Return head outcome)) →
+      (late : Bool) → is_late before (Wire false k c rs (Return head outcome)) ≡ late →
+      (if late then stops else on_to (result_at path before (Wire false k c rs (Return head outcome)) outcome)) ≡ turn_there path before (Wire false k c rs (Return head outcome))
   returned_turns path outcome refers notes true late = brought_late path outcome refers notes late
   returned_turns path outcome refers notes false late = brought path outcome refers notes late
 
@@ -301,11 +301,11 @@ abbrev field_there : List ℕ → Past → DecodedRecord → Next
 field_there path before e = goes (view_of_reference (e ∷ before)) path (Some (e, call_taken_from before e))
 
 -- it takes the results of a call, or is late
-taken_there : (named : ℕ → Option View) (path : List ℕ) (k c : ℕ) (rs : List ℕ) (q : ℕ) (release : Bool) (n : ℕ) (light late : Bool) (by : Option ℕ) →
-    (if late then stops else on_to (option_map (λ call. FieldOf call path) by)) ≡ goes named path (Some (Wire false k c rs (Return q release (TakeFrom n) light), if late then None else by))
-taken_there named path k c rs q release n light true by = refl
-taken_there named path k c rs q release n light false None = refl
-taken_there named path k c rs q release n light false (Some by) = refl
+taken_there : (named : ℕ → Option View) (path : List ℕ) (k c : ℕ) (rs : List ℕ) (head : ReturnHead) (n : ℕ) (late : Bool) (by : Option ℕ) →
+    (if late then stops else on_to (option_map (λ call. FieldOf call path) by)) ≡ goes named path (Some (Wire false k c rs (Return head (TakeFrom n)), if late then None else by))
+taken_there named path k c rs head n true by = refl
+taken_there named path k c rs head n false None = refl
+taken_there named path k c rs head n false (Some by) = refl
 
 field_turns : (call : ℕ) (path : List ℕ) (before : Past) (e : DecodedRecord) → Refers before e → NotesEach before e →
     answers call path before e ≡ (if is_this (ResultsOf call) (settlement_of before e) then Some (field_there path before e) else None)
@@ -313,20 +313,20 @@ field_turns call path before (Answer c results) refers notes =
     ap (λ o. if c == call then Some (on_to o) else None) (answer_there (view_of_reference before) (find (λ answer. same_path answer.1 path) results))
 field_turns call path before (AnswerBy c by) refers notes = refl
 field_turns call path before (Fault c) refers notes = refl
-field_turns call path before (Wire false k c rs (Return q release (Results payload) light)) refers notes =
-    let e : DecodedRecord = Wire false k c rs (Return q release (Results payload) light) in
-    ap₂ (λ b x. if b then Some x else None) (is_results call (call_at (opening (id k true q) before))) (returned_turns before k c rs q release light path (Results payload) refers notes (is_late before e) refl)
-field_turns call path before (Wire false k c rs (Return q release Exception light)) refers notes =
-    let e : DecodedRecord = Wire false k c rs (Return q release Exception light) in
-    ap₂ (λ b x. if b then Some x else None) (is_results call (call_at (opening (id k true q) before))) (returned_turns before k c rs q release light path Exception refers notes (is_late before e) refl)
-field_turns call path before (Wire false k c rs (Return q release Canceled light)) refers notes =
-    let e : DecodedRecord = Wire false k c rs (Return q release Canceled light) in
-    ap₂ (λ b x. if b then Some x else None) (is_results call (call_at (opening (id k true q) before))) (returned_turns before k c rs q release light path Canceled refers notes (is_late before e) refl)
-field_turns call path before (Wire false k c rs (Return q release Elsewhere light)) refers notes = refl
-field_turns call path before (Wire false k c rs (Return q release (TakeFrom n) light)) refers notes =
-    let e : DecodedRecord = Wire false k c rs (Return q release (TakeFrom n) light) in
-    ap₂ (λ b x. if b then Some x else None) (is_results call (call_at (opening (id k true q) before)))
-    (taken_there (view_of_reference (e ∷ before)) path k c rs q release n light (is_late before e) (call_of (id k false n) before))
+field_turns call path before (Wire false k c rs (Return head (Results payload))) refers notes =
+    let e : DecodedRecord = Wire false k c rs (Return head (Results payload)) in
+    ap₂ (λ b x. if b then Some x else None) (is_results call (call_at (opening (id k true head.answer) before))) (returned_turns before k c rs head path (Results payload) refers notes (is_late before e) refl)
+field_turns call path before (Wire false k c rs (Return head Exception)) refers notes =
+    let e : DecodedRecord = Wire false k c rs (Return head Exception) in
+    ap₂ (λ b x. if b then Some x else None) (is_results call (call_at (opening (id k true head.answer) before))) (returned_turns before k c rs head path Exception refers notes (is_late before e) refl)
+field_turns call path before (Wire false k c rs (Return head Canceled)) refers notes =
+    let e : DecodedRecord = Wire false k c rs (Return head Canceled) in
+    ap₂ (λ b x. if b then Some x else None) (is_results call (call_at (opening (id k true head.answer) before))) (returned_turns before k c rs head path Canceled refers notes (is_late before e) refl)
+field_turns call path before (Wire false k c rs (Return head Elsewhere)) refers notes = refl
+field_turns call path before (Wire false k c rs (Return head (TakeFrom n))) refers notes =
+    let e : DecodedRecord = Wire false k c rs (Return head (TakeFrom n)) in
+    ap₂ (λ b x. if b then Some x else None) (is_results call (call_at (opening (id k true head.answer) before)))
+    (taken_there (view_of_reference (e ∷ before)) path k c rs head n (is_late before e) (call_of (id k false n) before))
 field_turns call path before (Wire false k c rs (Resolve n resolution)) refers notes =
     unsettled (is_this (ResultsOf call) (option_map import_at (birth (id k false n) before))) (field_there path before (Wire false k c rs (Resolve n resolution)))
     (no_import (ResultsOf call) (λ i place. refl) (birth (id k false n) before))
@@ -341,10 +341,10 @@ import_turns : (i place : ℕ) (before : Past) (e : DecodedRecord) → Refers be
 import_turns i place before (Wire false k c rs (Resolve n resolution)) refers notes =
     ap₂ (λ b o. if b then Some (on_to o) else None) (is_import i place (birth (id k false n) before))
     (sym (noted_view before k c rs (Resolve n resolution) refers notes refl 0))
-import_turns i place before (Wire false k c rs (Return q release outcome light)) refers notes =
-    let s : Option Unsettled = option_map ResultsOf (call_at (opening (id k true q) before)) in
-    unsettled (is_this (ImportToResolve i place) (unless_elsewhere outcome s)) (turn_there [] before (Wire false k c rs (Return q release outcome light)))
-    (unless_none (ImportToResolve i place) outcome s (no_results (ImportToResolve i place) (λ call. refl) (call_at (opening (id k true q) before))))
+import_turns i place before (Wire false k c rs (Return head outcome)) refers notes =
+    let s : Option Unsettled = option_map ResultsOf (call_at (opening (id k true head.answer) before)) in
+    unsettled (is_this (ImportToResolve i place) (unless_elsewhere outcome s)) (turn_there [] before (Wire false k c rs (Return head outcome)))
+    (unless_none (ImportToResolve i place) outcome s (no_results (ImportToResolve i place) (λ call. refl) (call_at (opening (id k true head.answer) before))))
 import_turns i place before (Fulfil r to) refers notes =
     unsettled (is_this (ImportToResolve i place) (promise_of (view_of_reference before r))) (turn_there [] before (Fulfil r to))
     (no_promise (ImportToResolve i place) (λ p. refl) (view_of_reference before r))
@@ -387,17 +387,17 @@ lands_bound before (Answer c results) refers path x h = all_at (is_bound before)
       | inl here ↦ or_left _ _ (eq-eqb y.0 x (some_same (sym (ap (λ b. option_map (λ answer. answer.0) (if b then Some y else find (λ answer. same_path answer.1 path) rs)) here) ∙ h)))
       | inr apart ↦ or_right _ _ (named rs (sym (ap (λ b. option_map (λ answer. answer.0) (if b then Some y else find (λ answer. same_path answer.1 path) rs)) apart) ∙ h))
     ]
-lands_bound before (Wire s k c rs (Return q release (Results payload) light)) refers path x h = wire_lands before s k c rs (Return q release (Results payload) light) refers x (field (find (λ field. same_path field.0 path) payload.fields) h)
+lands_bound before (Wire s k c rs (Return head (Results payload))) refers path x h = wire_lands before s k c rs (Return head (Results payload)) refers x (field (find (λ field. same_path field.0 path) payload.fields) h)
   where
-    field : (o : Option (List ℕ × ℕ)) → option_and_then (λ field. reference_at (Wire s k c rs (Return q release (Results payload) light)) field.1) o ≡ Some x → contains x rs ≡ true
-    field (Some f) g = noted_there rs (places (Wire s k c rs (Return q release (Results payload) light))) f.1 x g
+    field : (o : Option (List ℕ × ℕ)) → option_and_then (λ field. reference_at (Wire s k c rs (Return head (Results payload))) field.1) o ≡ Some x → contains x rs ≡ true
+    field (Some f) g = noted_there rs (places (Wire s k c rs (Return head (Results payload)))) f.1 x g
     field None g = absurd (none_some g)
 lands_bound before (Wire s k c rs (Resolve n resolution)) refers path x h =
     wire_lands before s k c rs (Resolve n resolution) refers x (noted_there rs (places (Wire s k c rs (Resolve n resolution))) 0 x h)
-lands_bound before (Wire s k c rs (Return q release Exception light)) refers path x h = absurd (none_some h)
-lands_bound before (Wire s k c rs (Return q release Canceled light)) refers path x h = absurd (none_some h)
-lands_bound before (Wire s k c rs (Return q release Elsewhere light)) refers path x h = absurd (none_some h)
-lands_bound before (Wire s k c rs (Return q release (TakeFrom n) light)) refers path x h = absurd (none_some h)
+lands_bound before (Wire s k c rs (Return head Exception)) refers path x h = absurd (none_some h)
+lands_bound before (Wire s k c rs (Return head Canceled)) refers path x h = absurd (none_some h)
+lands_bound before (Wire s k c rs (Return head Elsewhere)) refers path x h = absurd (none_some h)
+lands_bound before (Wire s k c rs (Return head (TakeFrom n))) refers path x h = absurd (none_some h)
 lands_bound before _ refers path x h = absurd (none_some h)
 
 -- a bound reference keeps its view, or that it has none
@@ -540,10 +540,10 @@ not_late false o by h = h
 taken_bound : (before : Past) (e : DecodedRecord) → Each IsSound before → Refers before e → (by : ℕ) → call_taken_from before e ≡ Some by → is_bound_call before by ≡ true
 taken_bound before (AnswerBy c d) sound refers by h =
     subst (λ x. is_bound_call before x ≡ true) (some_same h) (and_parts (is_bound_call before d) true (and_parts (is_bound_call before c) (is_bound_call before d && true) refers.bound_call).1).0
-taken_bound before (Wire false k c rs (Return q release (TakeFrom n) light)) sound refers by h =
+taken_bound before (Wire false k c rs (Return head (TakeFrom n))) sound refers by h =
     opening_bound before sound (id k false n) by
     (call_of_opened (is_over (id k false n) before) (call_at (opening (id k false n) before)) by
-    (not_late (is_late before (Wire false k c rs (Return q release (TakeFrom n) light))) (call_of (id k false n) before) by h))
+    (not_late (is_late before (Wire false k c rs (Return head (TakeFrom n)))) (call_of (id k false n) before) by h))
 taken_bound before _ sound refers by h = absurd (none_some h)
 
 -- of the last record that settled something too

@@ -56,8 +56,8 @@ looped_step p false false o = refl
 -- ---- the table of received calls after a record
 
 taken_same : (opened other : TableKey → Option ℕ) → ((q : TableKey) → opened q ≡ other q) → (e : DecodedRecord) → call_taken_by opened e ≡ call_taken_by other e
-taken_same opened other same (Wire true k c rs (Return q release Exception light)) = same (id k false q)
-taken_same opened other same (Wire true k c rs (Return q release Canceled light)) = same (id k false q)
+taken_same opened other same (Wire true k c rs (Return head Exception)) = same (id k false head.answer)
+taken_same opened other same (Wire true k c rs (Return head Canceled)) = same (id k false head.answer)
 taken_same opened other same _ = refl
 
 -- ---- both

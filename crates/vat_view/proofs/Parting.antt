@@ -25,17 +25,17 @@ module _ (named : ℕ → Option View) (target : Option View) (late : Bool) (tak
   begun_alone (Make c r f m) h = refl
   begun_alone (Wire true k c rs (Bootstrap q)) h = refl
   begun_alone (Wire false k c rs (Bootstrap q)) h = refl
-  begun_alone (Wire true k c rs (Call q t f m p yourself)) h = absurd (false≢true h)
-  begun_alone (Wire false k c rs (Call q t f m p yourself)) h = refl
+  begun_alone (Wire true k c rs (Call head t p)) h = absurd (false≢true h)
+  begun_alone (Wire false k c rs (Call head t p)) h = refl
   begun_alone _ h = absurd (false≢true h)
 
   pub step_alone : (e : DecodedRecord) → begins_call e ≡ false → moves_of (step_from late taken opened e) ≡ effect_from named target late taken opened e
   step_alone (Make c r f m) h = absurd (false≢true (sym h))
   step_alone (Wire true k c rs (Bootstrap q)) h = absurd (false≢true (sym h))
   step_alone (Wire false k c rs (Bootstrap q)) h = absurd (false≢true (sym h))
-  step_alone (Wire false k c rs (Call q t f m p yourself)) h = absurd (false≢true (sym h))
-  step_alone (Wire true k c rs (Return q release Exception light)) h = moved_alone Left (opened (id k false q))
-  step_alone (Wire true k c rs (Return q release Canceled light)) h = moved_alone Left (opened (id k false q))
-  step_alone (Wire false k c rs (Return q release (Results payload) light)) h = known_alone late (opened (id k true q))
-  step_alone (Wire false k c rs (Return q release (TakeFrom n) light)) h = taken_alone taken (opened (id k true q))
+  step_alone (Wire false k c rs (Call head t p)) h = absurd (false≢true (sym h))
+  step_alone (Wire true k c rs (Return head Exception)) h = moved_alone Left (opened (id k false head.answer))
+  step_alone (Wire true k c rs (Return head Canceled)) h = moved_alone Left (opened (id k false head.answer))
+  step_alone (Wire false k c rs (Return head (Results payload))) h = known_alone late (opened (id k true head.answer))
+  step_alone (Wire false k c rs (Return head (TakeFrom n))) h = taken_alone taken (opened (id k true head.answer))
   step_alone _ h = refl

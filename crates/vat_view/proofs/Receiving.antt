@@ -25,7 +25,7 @@ some_same e = cc
 -- ---- a call that isn't bound wasn't received
 
 no_receipt : (c : ℕ) (before : Past) (e : DecodedRecord) → contains c (new_calls e) ≡ false → receipt c before e ≡ None
-no_receipt c before (Wire false k d rs (Call q t f m p yourself)) h =
+no_receipt c before (Wire false k d rs (Call head t p)) h =
     let r : Receipt = record { connection = k; number = length before } in ap (λ b. if b then Some r else None) (or_parts (d == c) false h).0
 no_receipt c before _ h = refl
 
@@ -59,8 +59,8 @@ received_once c before e r refers h = no_receipt c before e (not_new c before e 
 not_brought : (c : ℕ) (before : Past) (e : DecodedRecord) → contains c (new_calls e) ≡ false → brings c before e ≡ None
 not_brought c before (Make d r f m) h =
     let a : Request = record { goal = view_of_reference before r; interface = f; method = m } in ap (λ b. if b then Some a else None) (or_parts (d == c) false h).0
-not_brought c before (Wire false k d rs (Call q t f m p yourself)) h =
-    let a : Request = record { goal = view_of_target before (Wire false k d rs (Call q t f m p yourself)); interface = f; method = m } in
+not_brought c before (Wire false k d rs (Call head t p)) h =
+    let a : Request = record { goal = view_of_target before (Wire false k d rs (Call head t p)); interface = head.interface; method = head.method } in
     ap (λ b. if b then Some a else None) (or_parts (d == c) false h).0
 not_brought c before _ h = refl
 
@@ -69,8 +69,8 @@ goal_stays c before e r refers h = ap (λ o. option_and_then (λ a. a.goal) (opt
 
 -- it is what the target stands for of the record that receives the call
 pub goal_received : (c n : ℕ) (before : Past) (e : DecodedRecord) (x : ℕ × Receipt) → call_received_by n e ≡ Some x → (x.0 == c) ≡ true → goal_of c (e ∷ before) ≡ view_of_target before e
-goal_received c n before (Wire false k d rs (Call q t f m p yourself)) x h same =
-    let a : Request = record { goal = view_of_target before (Wire false k d rs (Call q t f m p yourself)); interface = f; method = m } in
+goal_received c n before (Wire false k d rs (Call head t p)) x h same =
+    let a : Request = record { goal = view_of_target before (Wire false k d rs (Call head t p)); interface = head.interface; method = head.method } in
     let named : d ≡ x.0 = ap (λ y. y.0) (some_same h) in
     ap (λ b. option_and_then (λ a. a.goal) (option_or (if b then Some a else None) (request_of c before))) (ap (λ y. y == c) named ∙ same)
 goal_received c n before _ x h same = absurd (none_some h)
@@ -110,24 +110,24 @@ received_step c before (Make d r f m) refers =
     (λ same. unreceived c before (subst (λ x. is_bound_call before x ≡ false) (eqb-true d c same) (not-true (is_bound_call before d) (and_parts (not (is_bound_call before d)) true refers.unused_call).0)))
 received_step c before (Deliver d object) refers = took c before (d == c)
 received_step c before (Fault d) refers = took c before (d == c)
-received_step c before (Wire true k d rs (Call q t f m p yourself)) refers = took c before (d == c)
-received_step c before (Wire true k d rs (Return q release Exception light)) refers = took c before (is c (call_at (opening (id k false q) before)))
-received_step c before (Wire true k d rs (Return q release Canceled light)) refers = took c before (is c (call_at (opening (id k false q) before)))
-received_step c before (Wire false k d rs (Call q t f m p yourself)) refers =
+received_step c before (Wire true k d rs (Call head t p)) refers = took c before (d == c)
+received_step c before (Wire true k d rs (Return head Exception)) refers = took c before (is c (call_at (opening (id k false head.answer) before)))
+received_step c before (Wire true k d rs (Return head Canceled)) refers = took c before (is c (call_at (opening (id k false head.answer) before)))
+received_step c before (Wire false k d rs (Call head t p)) refers =
     came c before (record { connection = k; number = length before })
-    (record { goal = view_of_target before (Wire false k d rs (Call q t f m p yourself)); interface = f; method = m }) (d == c)
+    (record { goal = view_of_target before (Wire false k d rs (Call head t p)); interface = head.interface; method = head.method }) (d == c)
 received_step c before _ refers = refl
 
 -- ---- a call that was received on a connection has its receipt
 
 receipt_now : (k c : ℕ) (before : Past) (e : DecodedRecord) → receives_call k c before e ≡ true → receipt c before e ≡ Some (record { connection = k; number = length before })
-receipt_now k c before (Wire false j d rs (Call q t f m p yourself)) h =
+receipt_now k c before (Wire false j d rs (Call head t p)) h =
     let both = and_parts (j == k) (d == c) h in
     ap₂ (λ b x. if b then Some (record { connection = x; number = length before }) else None) both.1 (eqb-true j k both.0)
 receipt_now k c before _ h = absurd (false≢true h)
 
 now_receives : (c : ℕ) (before : Past) (e : DecodedRecord) (r : Receipt) → receipt c before e ≡ Some r → (receives_call r.connection c before e ≡ true) × (r.number ≡ length before)
-now_receives c before (Wire false j d rs (Call q t f m p yourself)) r h = inner (d == c) h
+now_receives c before (Wire false j d rs (Call head t p)) r h = inner (d == c) h
   where
     inner : (b : Bool) → (if b then Some (record { connection = j; number = length before }) else None) ≡ Some r → (((j == r.connection) && b) ≡ true) × (r.number ≡ length before)
     inner true g =

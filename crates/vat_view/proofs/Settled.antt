@@ -60,8 +60,8 @@ module _ (before : Past) (questions : Questions) (lives : ExportsImports) (bound
   settled_known (Answer c results) = refl
   settled_known (AnswerBy c by) = refl
   settled_known (Fault c) = refl
-  settled_known (Wire false k c rs (Return q release outcome light)) =
-      let i : TableKey = id k true q in ap (λ s. unless_elsewhere outcome s) (ap (λ o. results_by o) (kept.tabled.known i) ∙ results_from i (opening i before))
+  settled_known (Wire false k c rs (Return head outcome)) =
+      let i : TableKey = id k true head.answer in ap (λ s. unless_elsewhere outcome s) (ap (λ o. results_by o) (kept.tabled.known i) ∙ results_from i (opening i before))
   settled_known (Wire false k c rs (Resolve n resolution)) = import_known (id k false n)
   settled_known _ = refl
 

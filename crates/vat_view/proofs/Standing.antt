@@ -21,13 +21,13 @@ settles_none named lives known (Break r) h = absurd (false≢true (sym h))
 settles_none named lives known (Answer c results) h = absurd (false≢true (sym h))
 settles_none named lives known (AnswerBy c by) h = absurd (false≢true (sym h))
 settles_none named lives known (Fault c) h = absurd (false≢true (sym h))
-settles_none named lives known (Wire false k c rs (Return q release outcome light)) h = absurd (false≢true (sym h))
+settles_none named lives known (Wire false k c rs (Return head outcome)) h = absurd (false≢true (sym h))
 settles_none named lives known (Wire false k c rs (Resolve n resolution)) h = absurd (false≢true (sym h))
 settles_none named lives known _ h = refl
 
 pub takes_none : (known : TableKey → Option QuestionState) (e : DecodedRecord) → may_turn e ≡ false → None ≡ taken_from_by known e
 takes_none known (AnswerBy c by) h = absurd (false≢true (sym h))
-takes_none known (Wire false k c rs (Return q release outcome light)) h = absurd (false≢true (sym h))
+takes_none known (Wire false k c rs (Return head outcome)) h = absurd (false≢true (sym h))
 takes_none known _ h = refl
 
 pub resolves_none : (e : DecodedRecord) → may_turn e ≡ false → None ≡ promise_resolved e
@@ -63,7 +63,7 @@ asks_none table (Break r) h = record { asked = λ c. refl; aborted = λ k. refl;
 asks_none table (Answer c results) h = record { asked = λ c. refl; aborted = λ k. refl; aborted_here = λ k. refl }
 asks_none table (AnswerBy c by) h = record { asked = λ c. refl; aborted = λ k. refl; aborted_here = λ k. refl }
 asks_none table (Fault c) h = record { asked = λ c. refl; aborted = λ k. refl; aborted_here = λ k. refl }
-asks_none table (Wire false k c rs (Return q release outcome light)) h = record { asked = λ c. refl; aborted = λ k. refl; aborted_here = λ k. refl }
+asks_none table (Wire false k c rs (Return head outcome)) h = record { asked = λ c. refl; aborted = λ k. refl; aborted_here = λ k. refl }
 asks_none table (Wire false k c rs (Resolve n resolution)) h = record { asked = λ c. refl; aborted = λ k. refl; aborted_here = λ k. refl }
 asks_none table (Wire true k c rs (Resolve n resolution)) h = record { asked = λ c. refl; aborted = λ k. refl; aborted_here = λ k. refl }
 asks_none table _ h = absurd (false≢true h)

@@ -103,27 +103,17 @@ finishes_step q before e false false o = refl
 pub known_step : (q : TableKey) (before : Past) (e : DecodedRecord) → question_known q (e ∷ before)
     ≡ noted_by e (introductions before e) q (if names q (question_opened e) then Some (just_opened (noted_call e) (asks_elsewhere e) (introductions before e)) else question_known q before)
 known_step q before (Wire s k c rs (Bootstrap n)) = opens_step q before (Wire s k c rs (Bootstrap n)) (same_id q (id k s n))
-known_step q before (Wire s k c rs (Call n t f m p yourself)) = opens_step q before (Wire s k c rs (Call n t f m p yourself)) (same_id q (id k s n))
-known_step q before (Wire s k c rs (Return n release (Results payload) true)) =
-    returns_step q before (Wire s k c rs (Return n release (Results payload) true)) (same_id q (id k (not s) n)) (same_id q (id k (not s) n)) false (opening q before)
-known_step q before (Wire s k c rs (Return n release (Results payload) false)) =
-    returns_step q before (Wire s k c rs (Return n release (Results payload) false)) (same_id q (id k (not s) n)) false false (opening q before)
-known_step q before (Wire s k c rs (Return n release Exception true)) =
-    returns_step q before (Wire s k c rs (Return n release Exception true)) (same_id q (id k (not s) n)) (same_id q (id k (not s) n)) false (opening q before)
-known_step q before (Wire s k c rs (Return n release Exception false)) =
-    returns_step q before (Wire s k c rs (Return n release Exception false)) (same_id q (id k (not s) n)) false false (opening q before)
-known_step q before (Wire s k c rs (Return n release Canceled true)) =
-    returns_step q before (Wire s k c rs (Return n release Canceled true)) (same_id q (id k (not s) n)) (same_id q (id k (not s) n)) false (opening q before)
-known_step q before (Wire s k c rs (Return n release Canceled false)) =
-    returns_step q before (Wire s k c rs (Return n release Canceled false)) (same_id q (id k (not s) n)) false false (opening q before)
-known_step q before (Wire s k c rs (Return n release Elsewhere true)) =
-    returns_step q before (Wire s k c rs (Return n release Elsewhere true)) (same_id q (id k (not s) n)) (same_id q (id k (not s) n)) false (opening q before)
-known_step q before (Wire s k c rs (Return n release Elsewhere false)) =
-    returns_step q before (Wire s k c rs (Return n release Elsewhere false)) (same_id q (id k (not s) n)) false false (opening q before)
-known_step q before (Wire s k c rs (Return n release (TakeFrom m) true)) =
-    returns_step q before (Wire s k c rs (Return n release (TakeFrom m) true)) (same_id q (id k (not s) n)) (same_id q (id k (not s) n)) (same_id q (id k s m)) (opening q before)
-known_step q before (Wire s k c rs (Return n release (TakeFrom m) false)) =
-    returns_step q before (Wire s k c rs (Return n release (TakeFrom m) false)) (same_id q (id k (not s) n)) false (same_id q (id k s m)) (opening q before)
+known_step q before (Wire s k c rs (Call head t p)) = opens_step q before (Wire s k c rs (Call head t p)) (same_id q (id k s head.question))
+known_step q before (Wire s k c rs (Return head (Results payload))) =
+    let e : DecodedRecord = Wire s k c rs (Return head (Results payload)) in returns_step q before e (same_id q (id k (not s) head.answer)) (returns_lightly q before e) false (opening q before)
+known_step q before (Wire s k c rs (Return head Exception)) =
+    let e : DecodedRecord = Wire s k c rs (Return head Exception) in returns_step q before e (same_id q (id k (not s) head.answer)) (returns_lightly q before e) false (opening q before)
+known_step q before (Wire s k c rs (Return head Canceled)) =
+    let e : DecodedRecord = Wire s k c rs (Return head Canceled) in returns_step q before e (same_id q (id k (not s) head.answer)) (returns_lightly q before e) false (opening q before)
+known_step q before (Wire s k c rs (Return head Elsewhere)) =
+    let e : DecodedRecord = Wire s k c rs (Return head Elsewhere) in returns_step q before e (same_id q (id k (not s) head.answer)) (returns_lightly q before e) false (opening q before)
+known_step q before (Wire s k c rs (Return head (TakeFrom m))) =
+    let e : DecodedRecord = Wire s k c rs (Return head (TakeFrom m)) in returns_step q before e (same_id q (id k (not s) head.answer)) (returns_lightly q before e) (same_id q (id k s m)) (opening q before)
 known_step q before (Wire s k c rs (Finish n true)) =
     finishes_step q before (Wire s k c rs (Finish n true)) (same_id q (id k s n)) (same_id q (id k s n)) (opening q before)
 known_step q before (Wire s k c rs (Finish n false)) = finishes_step q before (Wire s k c rs (Finish n false)) (same_id q (id k s n)) false (opening q before)
@@ -135,12 +125,12 @@ none_some e = cc
 -- a record that opens a question notes nothing of another, and gives nothing back
 opens_notes : (e : DecodedRecord) (i : TableKey) → question_opened e ≡ Some i → (ids : List TableKey) (q : TableKey) (known : Option QuestionState) → noted_by e ids q known ≡ known
 opens_notes (Wire s k c rs (Bootstrap n)) i h ids q known = refl
-opens_notes (Wire s k c rs (Call n t f m p yourself)) i h ids q known = refl
+opens_notes (Wire s k c rs (Call head t p)) i h ids q known = refl
 opens_notes _ i h ids q known = absurd (none_some h)
 
 opens_gives : (e : DecodedRecord) (i : TableKey) → question_opened e ≡ Some i → (before : Past) (j : TableKey) → gives_back j before e ≡ 0
 opens_gives (Wire s k c rs (Bootstrap n)) i h before j = refl
-opens_gives (Wire s k c rs (Call n t f m p yourself)) i h before j = refl
+opens_gives (Wire s k c rs (Call head t p)) i h before j = refl
 opens_gives _ i h before j = absurd (none_some h)
 
 -- ---- counts
@@ -148,7 +138,7 @@ opens_gives _ i h before j = absurd (none_some h)
 -- what a record gives back is what it closes and what it lets go
 pub gives_parts : (i : TableKey) (before : Past) (e : DecodedRecord) → gives_back i before e ≡ count_by (same_id i) (introductions_at (closes before e)) + count_released i e
 gives_parts i before (Wire s k c rs (Release n count)) = omega arith
-gives_parts i before (Wire s k c rs (Return n release outcome light)) = omega arith
+gives_parts i before (Wire s k c rs (Return head outcome)) = omega arith
 gives_parts i before (Wire s k c rs (Finish n release)) = omega arith
 gives_parts i before _ = omega arith
 

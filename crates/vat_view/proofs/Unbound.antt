@@ -40,8 +40,8 @@ named_bound before c d h same = subst (λ x. is_bound_call before x ≡ true) (e
 
 noted_bound : (before : Past) (e : DecodedRecord) (q : TableKey) (c : ℕ) → Refers before e → opens q before e ≡ true → is c (call_at (Some (point before e))) ≡ true → is_bound_call (e ∷ before) c ≡ true
 noted_bound before (Wire s k d rs (Bootstrap n)) q c refers new same = is_there c d (is_bound_call before c) same
-noted_bound before (Wire false k d rs (Call n t f m p yourself)) q c refers new same = is_there c d (is_bound_call before c) same
-noted_bound before (Wire true k d rs (Call n t f m p yourself)) q c refers new same = named_bound before c d refers.bound_call same
+noted_bound before (Wire false k d rs (Call head t p)) q c refers new same = is_there c d (is_bound_call before c) same
+noted_bound before (Wire true k d rs (Call head t p)) q c refers new same = named_bound before c d refers.bound_call same
 noted_bound before _ q c refers new same = absurd (false≢true new)
 
 pub opening_bound : (past : Past) → Each IsSound past → (q : TableKey) (c : ℕ) → is c (call_at (opening q past)) ≡ true → is_bound_call past c ≡ true
@@ -86,32 +86,32 @@ module _ (c : ℕ) (before : Past) (sound : Each IsSound before) (unbound : is_b
       record { brings = refl; takes = refl; delivers = refl; boots = refl; settles = apart; knows = apart }
   nothing (Fault d) refers h = record { brings = refl; takes = not_named d refers.bound_call; delivers = refl; boots = refl; settles = not_named d refers.bound_call; knows = refl }
   nothing (Wire false k d rs (Bootstrap q)) refers h = record { brings = refl; takes = refl; delivers = refl; boots = not_new d h; settles = refl; knows = refl }
-  nothing (Wire false k d rs (Call q t f m p yourself)) refers h = record {
-    brings = (let a : Request = record { goal = view_of_target before (Wire false k d rs (Call q t f m p yourself)); interface = f; method = m } in ap (λ b. if b then Some a else None) (not_new d h));
+  nothing (Wire false k d rs (Call head t p)) refers h = record {
+    brings = (let a : Request = record { goal = view_of_target before (Wire false k d rs (Call head t p)); interface = head.interface; method = head.method } in ap (λ b. if b then Some a else None) (not_new d h));
     takes = refl;
     delivers = refl;
     boots = refl;
     settles = refl;
     knows = refl;
   }
-  nothing (Wire true k d rs (Call q t f m p yourself)) refers h = record { brings = refl; takes = not_named d refers.bound_call; delivers = refl; boots = refl; settles = refl; knows = refl }
-  nothing (Wire true k d rs (Return q release Exception light)) refers h = record { brings = refl; takes = not_opening (id k false q); delivers = refl; boots = refl; settles = refl; knows = refl }
-  nothing (Wire true k d rs (Return q release Canceled light)) refers h = record { brings = refl; takes = not_opening (id k false q); delivers = refl; boots = refl; settles = refl; knows = refl }
-  nothing (Wire false k d rs (Return q release (Results payload) light)) refers h = record {
+  nothing (Wire true k d rs (Call head t p)) refers h = record { brings = refl; takes = not_named d refers.bound_call; delivers = refl; boots = refl; settles = refl; knows = refl }
+  nothing (Wire true k d rs (Return head Exception)) refers h = record { brings = refl; takes = not_opening (id k false head.answer); delivers = refl; boots = refl; settles = refl; knows = refl }
+  nothing (Wire true k d rs (Return head Canceled)) refers h = record { brings = refl; takes = not_opening (id k false head.answer); delivers = refl; boots = refl; settles = refl; knows = refl }
+  nothing (Wire false k d rs (Return head (Results payload))) refers h = record {
     brings = refl;
     takes = refl;
     delivers = refl;
     boots = refl;
     settles = refl;
-    knows = ap (λ b. b && not (is_late before (Wire false k d rs (Return q release (Results payload) light)))) (not_opening (id k true q));
+    knows = ap (λ b. b && not (is_late before (Wire false k d rs (Return head (Results payload))))) (not_opening (id k true head.answer));
   }
-  nothing (Wire false k d rs (Return q release (TakeFrom n) light)) refers h = record {
+  nothing (Wire false k d rs (Return head (TakeFrom n))) refers h = record {
     brings = refl;
     takes = refl;
     delivers = refl;
     boots = refl;
     settles = refl;
-    knows = ap (λ b. is_some (if b then call_taken_from before (Wire false k d rs (Return q release (TakeFrom n) light)) else None)) (not_opening (id k true q));
+    knows = ap (λ b. is_some (if b then call_taken_from before (Wire false k d rs (Return head (TakeFrom n))) else None)) (not_opening (id k true head.answer));
   }
   nothing _ refers h = record { brings = refl; takes = refl; delivers = refl; boots = refl; settles = refl; knows = refl }
 

@@ -38,7 +38,7 @@ is_aborted_here connection past = has_passed (λ before e. is connection (abort_
 -- the connection on which a record asks a question of this vat's for this call: a sent Bootstrap or Call
 abbrev pub asks : ℕ → DecodedRecord → Option ℕ
 asks call (Wire true k c rs (Bootstrap q)) = if c == call then Some k else None
-asks call (Wire true k c rs (Call q target interface method params yourself)) = if c == call then Some k else None
+asks call (Wire true k c rs (Call head target params)) = if c == call then Some k else None
 asks call _ = None
 
 -- the connection on which this vat asked its question for a call
@@ -87,9 +87,9 @@ names_back _ = false
 -- what a received record has at a path is its receiver's: a result in a Return, any result where a Return takes those of
 -- another question, and whatever a Resolve resolves to
 abbrev pub brings_back : List ℕ → DecodedRecord → Bool
-brings_back path (Wire false k c rs (Return q release (Results payload) light)) =
+brings_back path (Wire false k c rs (Return head (Results payload))) =
     names_back (option_and_then (λ field. slice_get payload.descriptors field.1) (find (λ field. same_path field.0 path) payload.fields))
-brings_back path (Wire false k c rs (Return q release (TakeFrom n) light)) = true
+brings_back path (Wire false k c rs (Return head (TakeFrom n))) = true
 brings_back path (Wire false k c rs (Resolve n (Cap d))) = names_back (Some d)
 brings_back path _ = false
 

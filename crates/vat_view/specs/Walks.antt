@@ -61,15 +61,15 @@ abbrev pub answers : ℕ → List ℕ → Past → DecodedRecord → Option Next
 answers call path before (Answer c results) = if c == call then Some (on_to (answer_view_at path before results)) else None
 answers call path before (AnswerBy c by) = if c == call then Some (turns (FieldOf by path)) else None
 answers call path before (Fault c) = if c == call then Some stops else None
-answers call path before (Wire false k c rs (Return q release Elsewhere light)) = None
-answers call path before (Wire false k c rs (Return q release (TakeFrom n) light)) =
-    let e = Wire false k c rs (Return q release (TakeFrom n) light) in
-    if is call (call_at (opening (id k true q) before)) then Some (if is_late before e then stops else on_to (field_view (id k false n) path before)) else None
-answers call path before (Wire false k c rs (Return q release outcome light)) =
-    let e = Wire false k c rs (Return q release outcome light) in
-    if is call (call_at (opening (id k true q) before)) then Some (if is_late before e then stops else on_to (result_at path before e outcome)) else None
+answers call path before (Wire false k c rs (Return head Elsewhere)) = None
+answers call path before (Wire false k c rs (Return head (TakeFrom n))) =
+    let e = Wire false k c rs (Return head (TakeFrom n)) in
+    if is call (call_at (opening (id k true head.answer) before)) then Some (if is_late before e then stops else on_to (field_view (id k false n) path before)) else None
+answers call path before (Wire false k c rs (Return head outcome)) =
+    let e = Wire false k c rs (Return head outcome) in
+    if is call (call_at (opening (id k true head.answer) before)) then Some (if is_late before e then stops else on_to (result_at path before e outcome)) else None
 answers call path before (Wire false k c rs (Bootstrap q)) = None
-answers call path before (Wire false k c rs (Call q target interface method params yourself)) = None
+answers call path before (Wire false k c rs (Call head target params)) = None
 answers call path before (Wire false k c rs (Finish q release)) = None
 answers call path before (Wire false k c rs (Resolve n resolution)) = None
 answers call path before (Wire false k c rs (Release n count)) = None

@@ -6,10 +6,7 @@ use crate::message::{Aim, Entry, Kind, Named, Planned, ReturnKind};
 use crate::paths::Paths;
 use bytes::Bytes;
 use cap_frame::Frame;
-use rpc_view::{
-    Descriptor, Edition, Limits, Loopback, Outcome, Payload, Resolution, RpcMessage, Target,
-    ViewError, read_message,
-};
+use rpc_view::{Descriptor, Edition, Limits, Loopback, Outcome, Payload, Resolution, ReturnHead, RpcMessage, Target, ViewError, read_message};
 use std::alloc::{AllocError, Global};
 
 /// What is made use of while messages are read.
@@ -104,13 +101,7 @@ impl Reading<'_> {
     }
 
     /// A Return.
-    fn answer(
-        &mut self,
-        answer: u32,
-        release: bool,
-        outcome: &Outcome,
-        light: bool,
-    ) -> Result<Planned, AllocError> {
+    fn answer(&mut self, head: ReturnHead, outcome: &Outcome) -> Result<Planned, AllocError> {
         let results = match outcome {
             Outcome::Results(_) => ReturnKind::There,
             Outcome::Exception => ReturnKind::Exception,
@@ -119,10 +110,10 @@ impl Reading<'_> {
             Outcome::TakeFrom(question) => ReturnKind::TakenFrom(*question),
         };
         let kind = Kind::Return {
-            answer,
-            release,
+            answer: head.answer,
+            release: head.release_param_caps,
             results,
-            light,
+            light: head.light,
         };
         match outcome {
             Outcome::Results(payload) => self.with_payload(kind, payload),
@@ -138,23 +129,20 @@ impl Reading<'_> {
         message: &RpcMessage,
     ) -> Result<Planned, AllocError> {
         let RpcMessage::Call {
-            question,
+            head,
             target,
-            interface,
-            method,
             params,
-            yourself,
         } = message
         else {
             return Ok(self.bare(Kind::Unread));
         };
         let kind = Kind::Call {
-            question: *question,
+            question: head.question,
             aim: self.aim(target)?,
-            digest: digest_of(self.alloc, frame, words, *interface, *method)?,
-            interface: *interface,
-            method: *method,
-            yourself: *yourself,
+            digest: digest_of(self.alloc, frame, words, head.interface, head.method)?,
+            interface: head.interface,
+            method: head.method,
+            yourself: head.yourself,
         };
         self.with_payload(kind, params)
     }
@@ -184,12 +172,7 @@ impl Reading<'_> {
         match message {
             RpcMessage::Bootstrap { question } => Ok(self.bare(Kind::Bootstrap(*question))),
             RpcMessage::Call { .. } => self.call(frame, words, message),
-            RpcMessage::Return {
-                answer,
-                release_param_caps,
-                outcome,
-                light,
-            } => self.answer(*answer, *release_param_caps, outcome, *light),
+            RpcMessage::Return { head, outcome } => self.answer(*head, outcome),
             RpcMessage::Finish {
                 question,
                 release_result_caps,

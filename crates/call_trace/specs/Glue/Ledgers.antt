@@ -100,9 +100,9 @@ return_said call facts caps (TakeFrom n) = option_and_then (λ name. say_taken f
 -- the message that a record sends, by what its numbers stand for, its descriptors for these caps
 abbrev pub message_said : Naming → Facts → ℕ → Option (List Cap) → RpcMessage → Option Message
 message_said names facts c caps (Bootstrap q) = option_map message.Boot (names.call c)
-message_said names facts c caps (Call q target interface method params yourself) =
-    say_call interface method caps (names.call c) (option_and_then names.cap facts.target)
-message_said names facts c caps (Return q release came light) = return_said names.call facts caps came
+message_said names facts c caps (Call head target params) =
+    say_call head.interface head.method caps (names.call c) (option_and_then names.cap facts.target)
+message_said names facts c caps (Return head came) = return_said names.call facts caps came
 message_said names facts c caps (Resolve n resolution) = resolve_said (option_and_then names.cap facts.promise) caps
 message_said names facts c caps (Finish q release) = Some (message.Plain plain.Finish)
 message_said names facts c caps (Release n count) = Some (message.Plain plain.Release)
@@ -188,7 +188,7 @@ abbrev pub call_bound_by : ℕ → DecodedRecord → Option Message → Option (
 call_bound_by v (Make d r interface method) m = Some (d, call v d)
 call_bound_by v (Wire true k d references (Bootstrap q)) m = Some (d, call v d)
 call_bound_by v (Wire false k d references (Bootstrap q)) m = option_map (λ name. (d, name)) (option_and_then call_in_message m)
-call_bound_by v (Wire false k d references (Call q target interface method params yourself)) m = option_map (λ name. (d, name)) (option_and_then call_in_message m)
+call_bound_by v (Wire false k d references (Call head target params)) m = option_map (λ name. (d, name)) (option_and_then call_in_message m)
 call_bound_by v _ m = None
 
 -- the name of a call, where it is this one that is given a name, and else the one that it had

@@ -9,7 +9,7 @@ ghost use Rattle.call_trace.specs.Glue.Ledgers.{naming_by_tables, view_in, call_
 
 use crate::records::vat_ledger::VatLedger;
 use cap_frame::Path;
-use rpc_view::{Descriptor, Outcome, Payload, RpcMessage};
+use rpc_view::{CallHead, Descriptor, Outcome, Payload, RpcMessage};
 use run_model::{Cap, Caps, Message, Name, Plain, Results, Step};
 use std::alloc::{AllocError, Global};
 use vat_rules::RecordFacts;
@@ -235,11 +235,7 @@ fn message_said(
 {
     match message {
         RpcMessage::Bootstrap { .. } => Ok(ledger.call(call).map(|name| Message::Boot(name))),
-        RpcMessage::Call {
-            interface,
-            method,
-            ..
-        } => call_said(ledger, steps, facts, call, (*interface, *method), caps),
+        RpcMessage::Call { head: CallHead { interface, method, .. }, .. } => call_said(ledger, steps, facts, call, (*interface, *method), caps),
         RpcMessage::Return { outcome, .. } => return_said(alloc, ledger, facts, caps, outcome),
         RpcMessage::Resolve { .. } => resolve_said(ledger, steps, facts, caps),
         RpcMessage::Finish { .. } => Ok(Some(Message::Plain(Plain::Finish))),

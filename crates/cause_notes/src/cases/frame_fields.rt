@@ -112,30 +112,22 @@ impl FieldList<'_> {
         match message {
             RpcMessage::Bootstrap { question } => self.add("questionId", question),
             RpcMessage::Call {
-                question,
+                head,
                 target,
-                interface,
-                method,
                 params,
-                yourself,
             } => {
-                self.add("questionId", question);
+                self.add("questionId", &head.question);
                 self.add("target", &Shown(target));
-                self.add("interfaceId", &ShownValue::Interface(*interface));
-                self.add("methodId", method);
-                let results_to = if *yourself { "yourself" } else { "caller" };
+                self.add("interfaceId", &ShownValue::Interface(head.interface));
+                self.add("methodId", &head.method);
+                let results_to = if head.yourself { "yourself" } else { "caller" };
                 self.add("sendResultsTo", &results_to);
                 self.payload("params", params);
             }
-            RpcMessage::Return {
-                answer,
-                release_param_caps,
-                outcome,
-                light,
-            } => {
-                self.add("answerId", answer);
-                self.add("releaseParamCaps", release_param_caps);
-                self.add("noFinishNeeded", light);
+            RpcMessage::Return { head, outcome } => {
+                self.add("answerId", &head.answer);
+                self.add("releaseParamCaps", &head.release_param_caps);
+                self.add("noFinishNeeded", &head.light);
                 self.outcome(outcome);
             }
             _ => self.later_message(message),

@@ -91,11 +91,11 @@ call_by None = None
 
 -- whether a Return is late, by a table of questions
 abbrev pub late_by : (TableKey → Option QuestionState) → DecodedRecord → Bool
-late_by known (Wire sent k call references (Return q release outcome light)) = results_released_in (known (id k (not sent) q))
+late_by known (Wire sent k call references (Return head outcome)) = results_released_in (known (id k (not sent) head.answer))
 late_by known _ = false
 
 -- the introductions that a Return or a Finish gives back, by a table of questions
 abbrev pub given_back_by : (TableKey → Option QuestionState) → DecodedRecord → List TableKey
-given_back_by known (Wire sent k call references (Return q true outcome light)) = params_introduced_in (known (id k (not sent) q))
+given_back_by known (Wire sent k call references (Return head outcome)) = if head.release_param_caps then params_introduced_in (known (id k (not sent) head.answer)) else []
 given_back_by known (Wire sent k call references (Finish q true)) = results_introduced_in (known (id k sent q))
 given_back_by known _ = []

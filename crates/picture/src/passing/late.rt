@@ -10,7 +10,7 @@ ghost use Rattle.picture.specs.Glue.{turn_in};
 use crate::passing::record_messages::message_of;
 use crate::record_place::Place;
 use crate::vat_logs::{body_in, log_of};
-use rpc_view::{Edition, RpcMessage};
+use rpc_view::{CallHead, Edition, ReturnHead, RpcMessage};
 use std::alloc::{AllocError, Global};
 use std::sync::Arc;
 use vat_log::{Body, VatLog};
@@ -33,10 +33,7 @@ fn turn_of(message: &RpcMessage, question: u32) -> Option<bool>
 {
     match message {
         RpcMessage::Bootstrap { question: opened }
-        | RpcMessage::Call {
-            question: opened,
-            ..
-        } => {
+        | RpcMessage::Call { head: CallHead { question: opened, .. }, .. } => {
             if *opened == question {
                 Some(false)
             } else {
@@ -129,7 +126,7 @@ pub fn is_late(
         ≡ is_late_return (edition_of log.now) passage message.now (take number log.now.records)) }
 {
     match (passage, message) {
-        (Some((sent, connection)), Some(RpcMessage::Return { answer, .. })) => {
+        (Some((sent, connection)), Some(RpcMessage::Return { head: ReturnHead { answer, .. }, .. })) => {
             let question = LoggedQuestion {
                 asks: !sent,
                 connection,

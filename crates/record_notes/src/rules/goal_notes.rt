@@ -4,7 +4,7 @@ use crate::rules::call_notes::put_origin;
 use crate::rules::view_text::ViewText;
 use crate::rules::view_turns::{Way, put_way};
 use past_records::{NoteText, Past, put_life, put_opening};
-use rpc_view::{Edition, RpcMessage};
+use rpc_view::{CallHead, Edition, RpcMessage};
 use std::alloc::AllocError;
 use std::fmt;
 use std::fmt::{Display, Formatter};
@@ -135,11 +135,7 @@ pub(crate) fn put_astray(past: &Past<'_>, text: &mut NoteText) {
         DecodedRecord::Wire {
             sent: true,
             call,
-            message: RpcMessage::Call {
-                interface,
-                method,
-                ..
-            },
+            message: RpcMessage::Call { head: CallHead { interface, method, .. }, .. },
             ..
         } => {
             let sent = Method {

@@ -47,14 +47,14 @@ abbrev pub bare_may_break : RpcMessage → Rule → Bool
 bare_may_break _ rule.Closed = true
 bare_may_break _ rule.Ref = true
 bare_may_break (Bootstrap q) rule.QNew = true
-bare_may_break (Call q target interface method params yourself) rule.Here = true
-bare_may_break (Call q target interface method params yourself) rule.QNew = true
-bare_may_break (Call q target interface method params yourself) rule.QUse = true
-bare_may_break (Call q target interface method params yourself) rule.XUse = true
-bare_may_break (Call q target interface method params yourself) rule.Goal = true
-bare_may_break (Return q release outcome light) rule.QUse = true
-bare_may_break (Return q release outcome light) rule.Count = true
-bare_may_break (Return q release outcome light) rule.Result = true
+bare_may_break (Call head target params) rule.Here = true
+bare_may_break (Call head target params) rule.QNew = true
+bare_may_break (Call head target params) rule.QUse = true
+bare_may_break (Call head target params) rule.XUse = true
+bare_may_break (Call head target params) rule.Goal = true
+bare_may_break (Return head outcome) rule.QUse = true
+bare_may_break (Return head outcome) rule.Count = true
+bare_may_break (Return head outcome) rule.Result = true
 bare_may_break (Finish q release) rule.QUse = true
 bare_may_break (Finish q release) rule.Count = true
 bare_may_break (Resolve promise resolution) rule.Resolve = true
@@ -82,8 +82,8 @@ is_of_own _ = false
 -- a message may break a rule that carries capabilities. The last five never have a descriptor, so it is always a fault
 -- that references are noted beside them
 abbrev pub carrying_may_break : RpcMessage → Rule → Bool
-carrying_may_break (Call q target interface method params yourself) each = bare_may_break (Call q target interface method params yourself) each || is_of_caps each
-carrying_may_break (Return q release outcome light) each = bare_may_break (Return q release outcome light) each || is_of_caps each
+carrying_may_break (Call head target params) each = bare_may_break (Call head target params) each || is_of_caps each
+carrying_may_break (Return head outcome) each = bare_may_break (Return head outcome) each || is_of_caps each
 carrying_may_break (Resolve promise resolution) each = bare_may_break (Resolve promise resolution) each || is_of_caps each
 carrying_may_break _ each = not (is_of_own each)
 

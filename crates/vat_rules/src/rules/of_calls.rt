@@ -10,7 +10,7 @@ ghost use Rattle.vat_rules.specs.OfCalls.{IsHere, GoesToGoal, MayAnswer};
 
 use crate::rules::leads::{goes_for, leads_to};
 use crate::rules::result_paths::distinct_paths;
-use rpc_view::{Edition, RpcMessage};
+use rpc_view::{CallHead, Edition, RpcMessage};
 use std::alloc::{AllocError, Global};
 use vat_view::{DecodedRecord, VatState, View};
 
@@ -86,11 +86,7 @@ pub(crate) fn goes_to_goal(
         DecodedRecord::Wire {
             sent: true,
             call,
-            message: RpcMessage::Call {
-                interface,
-                method,
-                ..
-            },
+            message: RpcMessage::Call { head: CallHead { interface, method, .. }, .. },
             ..
         } => is_asked(edition, state, target, *call, *interface, *method),
         _ => Ok(true),

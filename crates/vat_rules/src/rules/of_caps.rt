@@ -13,7 +13,7 @@ ghost use Rattle.vat_rules.specs.Glue.Facts.{view_at, facts_before};
 
 use crate::facts::plain_facts::PlainFacts;
 use crate::rules::leads::goes_for;
-use rpc_view::{Descriptor, Edition, RpcMessage};
+use rpc_view::{Descriptor, Edition, ReturnHead, RpcMessage};
 use std::alloc::{AllocError, Global};
 use vat_view::{BorrowedView, DecodedRecord, VatState, View, ends_are_one};
 
@@ -41,7 +41,7 @@ fn is_light_without_caps(event: &DecodedRecord) -> bool
     match event {
         DecodedRecord::Wire {
             references,
-            message: RpcMessage::Return { light: true, .. },
+            message: RpcMessage::Return { head: ReturnHead { light: true, .. }, .. },
             ..
         } => references.as_slice().is_empty(),
         _ => true,

@@ -10,7 +10,7 @@ ghost use Rattle.vat_rules.specs.OfResults.{ReturnsField, ReturnsFields, Returns
 use crate::rules::leads::went_on;
 use crate::rules::of_caps::{is_cap_at, is_own_number, view_at};
 use cap_frame::Path;
-use rpc_view::{Edition, Outcome, RpcMessage};
+use rpc_view::{Edition, Outcome, ReturnHead, RpcMessage};
 use std::alloc::AllocError;
 use vat_view::{DecodedRecord, Number, TableKey, VatState, View};
 
@@ -156,11 +156,7 @@ pub(crate) fn returns_known(
     let DecodedRecord::Wire {
         sent: true,
         connection,
-        message: RpcMessage::Return {
-            answer,
-            outcome,
-            ..
-        },
+        message: RpcMessage::Return { head: ReturnHead { answer, .. }, outcome },
         ..
     } = event
     else {

@@ -28,8 +28,8 @@ has_back described = list_any (λ d. names_back (Some d)) described
 -- whether a record may bring something back: whether a Return or Resolve that came in has a descriptor of its receiver's,
 -- or takes the results of another question
 abbrev pub may_bring_back : DecodedRecord → Bool
-may_bring_back (Wire false k c rs (Return q release (Results payload) light)) = has_back payload.descriptors
-may_bring_back (Wire false k c rs (Return q release (TakeFrom n) light)) = true
+may_bring_back (Wire false k c rs (Return head (Results payload))) = has_back payload.descriptors
+may_bring_back (Wire false k c rs (Return head (TakeFrom n))) = true
 may_bring_back (Wire false k c rs (Resolve n (Cap d))) = names_back (Some d)
 may_bring_back _ = false
 

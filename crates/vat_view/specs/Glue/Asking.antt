@@ -24,7 +24,7 @@ targeted_by named lives known _ = None
 
 -- the question whose results a received record takes
 abbrev pub question_taken_here : DecodedRecord → Option TableKey
-question_taken_here (Wire false k c rs (Return q release (TakeFrom n) light)) = Some (id k false n)
+question_taken_here (Wire false k c rs (Return head (TakeFrom n))) = Some (id k false n)
 question_taken_here _ = None
 
 -- the call that ANSWERBY names second

@@ -58,19 +58,19 @@ change_of_call step None = Nothing
 -- what a sent record tells of calls, by the calls of questions
 abbrev pub sent_effect : (TableKey → Option ℕ) → DecodedRecord → CallEffect
 sent_effect opened (Wire true k c rs (Bootstrap q)) = Begins c (bootstrap_call false)
-sent_effect opened (Wire true k c rs (Call q target interface method params yourself)) = Moves c Left
-sent_effect opened (Wire true k c rs (Return q release Exception light)) = change_of_call Left (opened (id k false q))
-sent_effect opened (Wire true k c rs (Return q release Canceled light)) = change_of_call Left (opened (id k false q))
+sent_effect opened (Wire true k c rs (Call head target params)) = Moves c Left
+sent_effect opened (Wire true k c rs (Return head Exception)) = change_of_call Left (opened (id k false head.answer))
+sent_effect opened (Wire true k c rs (Return head Canceled)) = change_of_call Left (opened (id k false head.answer))
 sent_effect opened _ = Nothing
 
 -- what a received record tells of calls, by the views of targets, whether it is late, the call whose results it takes,
 -- and the calls of questions
 abbrev pub received_effect : Option View → Bool → Option ℕ → (TableKey → Option ℕ) → DecodedRecord → CallEffect
 received_effect target late taken opened (Wire false k c rs (Bootstrap q)) = Begins c (bootstrap_call true)
-received_effect target late taken opened (Wire false k c rs (Call q t interface method params yourself)) = Begins c (arriving_call target interface method)
-received_effect target late taken opened (Wire false k c rs (Return q release (Results payload) light)) = if late then Nothing else change_of_call Known (opened (id k true q))
-received_effect target late taken opened (Wire false k c rs (Return q release (TakeFrom n) light)) =
-    if is_some taken then change_of_call Known (opened (id k true q)) else Nothing
+received_effect target late taken opened (Wire false k c rs (Call head t params)) = Begins c (arriving_call target head.interface head.method)
+received_effect target late taken opened (Wire false k c rs (Return head (Results payload))) = if late then Nothing else change_of_call Known (opened (id k true head.answer))
+received_effect target late taken opened (Wire false k c rs (Return head (TakeFrom n))) =
+    if is_some taken then change_of_call Known (opened (id k true head.answer)) else Nothing
 received_effect target late taken opened _ = Nothing
 
 -- what a record tells of calls
@@ -94,14 +94,14 @@ effect_by named lives known e = effect_from named (targeted_by named lives known
 abbrev pub begins_call : DecodedRecord → Bool
 begins_call (Make c r interface method) = true
 begins_call (Wire sent k c rs (Bootstrap q)) = true
-begins_call (Wire sent k c rs (Call q target interface method params yourself)) = not sent
+begins_call (Wire sent k c rs (Call head target params)) = not sent
 begins_call _ = false
 
 -- the call that it begins, by the views of references and targets
 abbrev pub begun_from : (ℕ → Option View) → Option View → DecodedRecord → Option (ℕ × CallState)
 begun_from named target (Make c r interface method) = Some (c, arriving_call (named r) interface method)
 begun_from named target (Wire sent k c rs (Bootstrap q)) = Some (c, bootstrap_call (not sent))
-begun_from named target (Wire false k c rs (Call q t interface method params yourself)) = Some (c, arriving_call target interface method)
+begun_from named target (Wire false k c rs (Call head t params)) = Some (c, arriving_call target head.interface head.method)
 begun_from named target _ = None
 
 -- by the tables
@@ -115,15 +115,15 @@ moved step None = None
 
 -- what a sent record tells of a call that was begun before it
 abbrev pub sent_step : (TableKey → Option ℕ) → DecodedRecord → Option (ℕ × CallChange)
-sent_step opened (Wire true k c rs (Call q target interface method params yourself)) = Some (c, Left)
-sent_step opened (Wire true k c rs (Return q release Exception light)) = moved Left (opened (id k false q))
-sent_step opened (Wire true k c rs (Return q release Canceled light)) = moved Left (opened (id k false q))
+sent_step opened (Wire true k c rs (Call head target params)) = Some (c, Left)
+sent_step opened (Wire true k c rs (Return head Exception)) = moved Left (opened (id k false head.answer))
+sent_step opened (Wire true k c rs (Return head Canceled)) = moved Left (opened (id k false head.answer))
 sent_step opened _ = None
 
 -- what a received record tells of a call that was begun before it
 abbrev pub received_step : Bool → Option ℕ → (TableKey → Option ℕ) → DecodedRecord → Option (ℕ × CallChange)
-received_step late taken opened (Wire false k c rs (Return q release (Results payload) light)) = if late then None else moved Known (opened (id k true q))
-received_step late taken opened (Wire false k c rs (Return q release (TakeFrom n) light)) = if is_some taken then moved Known (opened (id k true q)) else None
+received_step late taken opened (Wire false k c rs (Return head (Results payload))) = if late then None else moved Known (opened (id k true head.answer))
+received_step late taken opened (Wire false k c rs (Return head (TakeFrom n))) = if is_some taken then moved Known (opened (id k true head.answer)) else None
 received_step late taken opened _ = None
 
 -- what a record tells of a call that was begun before it

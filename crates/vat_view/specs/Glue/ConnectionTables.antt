@@ -19,7 +19,7 @@ use Rattle.vat_view.specs.Glue.TurnTables.{settled_at, turn_by, after_turns}
 -- the call for which a record asks a question of this vat's, with the connection
 abbrev pub call_sent_on : DecodedRecord → Option (ℕ × ℕ)
 call_sent_on (Wire true k c rs (Bootstrap q)) = Some (c, k)
-call_sent_on (Wire true k c rs (Call q target interface method params yourself)) = Some (c, k)
+call_sent_on (Wire true k c rs (Call head target params)) = Some (c, k)
 call_sent_on _ = None
 
 -- the connection, where it is this call

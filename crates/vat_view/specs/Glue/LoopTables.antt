@@ -59,7 +59,7 @@ put_by i None old = old
 
 -- where a record receives this call, if it does
 abbrev pub receipt : ℕ → Past → DecodedRecord → Option Receipt
-receipt call before (Wire false k c rs (Call q target interface method params yourself)) = if c == call then Some (record { connection = k; number = length before }) else None
+receipt call before (Wire false k c rs (Call head target params)) = if c == call then Some (record { connection = k; number = length before }) else None
 receipt call before _ = None
 
 -- where a call was received, if it was
@@ -80,16 +80,16 @@ AreReceived past table = (call : ℕ) → receipt_at table call ≡ receipt_here
 
 -- the call that a record of this number receives
 abbrev pub call_received_by : ℕ → DecodedRecord → Option (ℕ × Receipt)
-call_received_by number (Wire false k c rs (Call q target interface method params yourself)) = Some (c, record { connection = k; number = number })
+call_received_by number (Wire false k c rs (Call head target params)) = Some (c, record { connection = k; number = number })
 call_received_by number _ = None
 
 -- the call that a record takes from the vat, by the calls of questions
 abbrev pub call_taken_by : (TableKey → Option ℕ) → DecodedRecord → Option ℕ
 call_taken_by opened (Deliver c object) = Some c
 call_taken_by opened (Fault c) = Some c
-call_taken_by opened (Wire true k c rs (Call q target interface method params yourself)) = Some c
-call_taken_by opened (Wire true k c rs (Return q release Exception light)) = opened (id k false q)
-call_taken_by opened (Wire true k c rs (Return q release Canceled light)) = opened (id k false q)
+call_taken_by opened (Wire true k c rs (Call head target params)) = Some c
+call_taken_by opened (Wire true k c rs (Return head Exception)) = opened (id k false head.answer)
+call_taken_by opened (Wire true k c rs (Return head Canceled)) = opened (id k false head.answer)
 call_taken_by opened _ = None
 
 -- the table has room for a call, if there is one

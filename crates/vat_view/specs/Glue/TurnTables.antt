@@ -82,7 +82,7 @@ settlement_of before (Break r) = promise_of (view_of_reference before r)
 settlement_of before (Answer c results) = Some (ResultsOf c)
 settlement_of before (AnswerBy c by) = Some (ResultsOf c)
 settlement_of before (Fault c) = Some (ResultsOf c)
-settlement_of before (Wire false k c rs (Return q release outcome light)) = unless_elsewhere outcome (option_map ResultsOf (call_at (opening (id k true q) before)))
+settlement_of before (Wire false k c rs (Return head outcome)) = unless_elsewhere outcome (option_map ResultsOf (call_at (opening (id k true head.answer) before)))
 settlement_of before (Wire false k c rs (Resolve n resolution)) = option_map import_at (birth (id k false n) before)
 settlement_of before _ = None
 
@@ -101,7 +101,7 @@ settled_by named lives known (Break r) = promise_of (named r)
 settled_by named lives known (Answer c results) = Some (ResultsOf c)
 settled_by named lives known (AnswerBy c by) = Some (ResultsOf c)
 settled_by named lives known (Fault c) = Some (ResultsOf c)
-settled_by named lives known (Wire false k c rs (Return q release outcome light)) = unless_elsewhere outcome (results_by (known (id k true q)))
+settled_by named lives known (Wire false k c rs (Return head outcome)) = unless_elsewhere outcome (results_by (known (id k true head.answer)))
 settled_by named lives known (Wire false k c rs (Resolve n resolution)) = import_by (held_origin lives (id k false n))
 settled_by named lives known _ = None
 
@@ -112,7 +112,7 @@ may_turn (Break r) = true
 may_turn (Answer c results) = true
 may_turn (AnswerBy c by) = true
 may_turn (Fault c) = true
-may_turn (Wire false k c rs (Return q release outcome light)) = true
+may_turn (Wire false k c rs (Return head outcome)) = true
 may_turn (Wire s k c rs (Resolve n resolution)) = true
 may_turn _ = false
 
@@ -134,7 +134,7 @@ returned_at noted path fields = option_and_then (λ field. noted field.1) (find 
 abbrev pub turn_target : List ℕ → DecodedRecord → Option ℕ
 turn_target path (Fulfil r to) = Some to
 turn_target path (Answer c results) = answered_at path results
-turn_target path (Wire s k c rs (Return q release (Results payload) light)) = returned_at (reference_at (Wire s k c rs (Return q release (Results payload) light))) path payload.fields
+turn_target path (Wire s k c rs (Return head (Results payload))) = returned_at (reference_at (Wire s k c rs (Return head (Results payload)))) path payload.fields
 turn_target path (Wire s k c rs (Resolve n resolution)) = reference_at (Wire s k c rs (Resolve n resolution)) 0
 turn_target path _ = None
 

@@ -12,7 +12,7 @@ use crate::lookups::table_answers::view_of_target;
 use crate::tables::references::BoundReferences;
 use decoded_records::{DecodedRecord, Request, TableKey, View};
 use number_tables::{CallChange, CallState, ExportsImports, Questions, is_late, opening_call};
-use rpc_view::{Outcome, RpcMessage};
+use rpc_view::{CallHead, Outcome, ReturnHead, RpcMessage};
 use std::alloc::AllocError;
 
 /// A call that comes to the vat.
@@ -94,11 +94,7 @@ pub(crate) fn call_begun(
         DecodedRecord::Wire {
             sent: false,
             call,
-            message: RpcMessage::Call {
-                interface,
-                method,
-                ..
-            },
+            message: RpcMessage::Call { head: CallHead { interface, method, .. }, .. },
             ..
         } => {
             let goal = view_of_target(bound, lives, questions, event)?;
@@ -136,11 +132,7 @@ fn sent_step(questions: &Questions, event: &DecodedRecord) -> Option<(u64, CallC
     };
     match message {
         RpcMessage::Call { .. } => Some((*call, CallChange::Left)),
-        RpcMessage::Return {
-            answer: number,
-            outcome: Outcome::Exception | Outcome::Canceled,
-            ..
-        } => {
+        RpcMessage::Return { head: ReturnHead { answer: number, .. }, outcome: Outcome::Exception | Outcome::Canceled } => {
             let question = TableKey::of_receiver(true, *connection, *number);
             moved(CallChange::Left, opening_call(questions, question))
         }
@@ -165,22 +157,14 @@ fn received_step(questions: &Questions, event: &DecodedRecord) -> Option<(u64, C
         return None;
     };
     match message {
-        RpcMessage::Return {
-            answer: number,
-            outcome: Outcome::Results(_),
-            ..
-        } => {
+        RpcMessage::Return { head: ReturnHead { answer: number, .. }, outcome: Outcome::Results(_) } => {
             if is_late(questions, event) {
                 return None;
             }
             let question = TableKey::of_receiver(false, *connection, *number);
             moved(CallChange::Known, opening_call(questions, question))
         }
-        RpcMessage::Return {
-            answer: number,
-            outcome: Outcome::TakeFrom(_),
-            ..
-        } => {
+        RpcMessage::Return { head: ReturnHead { answer: number, .. }, outcome: Outcome::TakeFrom(_) } => {
             if taken_from_by(questions, event).is_none() {
                 return None;
             }

@@ -13,7 +13,7 @@ use crate::tables::references::BoundReferences;
 use crate::tables::turns::settlements::Settling;
 use decoded_records::{DecodedRecord, TableKey, View};
 use number_tables::{ExportsImports, Questions, call_of, is_late, opening_call};
-use rpc_view::{Outcome, RpcMessage};
+use rpc_view::{Outcome, ReturnHead, RpcMessage};
 use std::alloc::{AllocError, Global};
 
 /// Whether a record may turn views, by its kind: whether it may settle something, or resolves a promise.
@@ -97,7 +97,7 @@ fn settled_by(
         DecodedRecord::Wire {
             sent: false,
             connection,
-            message: RpcMessage::Return { answer: number, .. },
+            message: RpcMessage::Return { head: ReturnHead { answer: number, .. }, .. },
             ..
         } => results_of(
             questions,

@@ -9,7 +9,7 @@ use crate::walks::shortcuts::{
 };
 use cap_frame::Path;
 use decoded_records::{BorrowedView, DecodedRecord, Number, TableKey};
-use rpc_view::{Loopback, Outcome, Payload, RpcMessage, Target};
+use rpc_view::{Loopback, Outcome, Payload, ReturnHead, RpcMessage, Target};
 
 /// How walks are made shorter before a record is applied.
 impl VatState {
@@ -142,11 +142,7 @@ impl VatState {
                 let way = self.way_of_goal(call);
                 self.shorten_way(way);
             }
-            RpcMessage::Return {
-                answer,
-                outcome: Outcome::Results(results),
-                ..
-            } => self.shorten_results(Number::Answer(*answer).on(connection), results),
+            RpcMessage::Return { head: ReturnHead { answer, .. }, outcome: Outcome::Results(results) } => self.shorten_results(Number::Answer(*answer).on(connection), results),
             RpcMessage::Resolve { promise, .. } => {
                 let way = self.way_of_number(Number::Export(*promise).on(connection));
                 self.shorten_way(way);

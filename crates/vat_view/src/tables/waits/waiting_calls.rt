@@ -13,7 +13,7 @@ use crate::tables::waits::loopbacks::Unechoed;
 use crate::tables::waits::queued_call::QueuedCall;
 use decoded_records::{DecodedRecord, TableKey};
 use number_tables::{Calls, Questions, opening_call};
-use rpc_view::{Outcome, RpcMessage};
+use rpc_view::{Outcome, ReturnHead, RpcMessage};
 use std::alloc::{AllocError, Global};
 use std::collections::BTreeMap;
 
@@ -66,11 +66,7 @@ pub(crate) fn call_taken_by(questions: &Questions, event: &DecodedRecord) -> Opt
         DecodedRecord::Wire {
             sent: true,
             connection,
-            message: RpcMessage::Return {
-                answer: number,
-                outcome: Outcome::Exception | Outcome::Canceled,
-                ..
-            },
+            message: RpcMessage::Return { head: ReturnHead { answer: number, .. }, outcome: Outcome::Exception | Outcome::Canceled },
             ..
         } => opening_call(
             questions,

@@ -29,7 +29,13 @@ pub fn question_opened(event: &DecodedRecord) -> Option<TableKey>
             sent,
             connection,
             message: RpcMessage::Bootstrap { question: number }
-            | RpcMessage::Call { head: CallHead { question: number, .. }, .. },
+            | RpcMessage::Call {
+                head: CallHead {
+                    question: number,
+                    ..
+                },
+                ..
+            },
             ..
         } => Some(TableKey::of_sender(*sent, *connection, *number)),
         _ => None,
@@ -45,7 +51,10 @@ pub fn question_returned(event: &DecodedRecord) -> Option<TableKey>
         DecodedRecord::Wire {
             sent,
             connection,
-            message: RpcMessage::Return { head: ReturnHead { answer: number, .. }, .. },
+            message: RpcMessage::Return {
+                head: ReturnHead { answer: number, .. },
+                ..
+            },
             ..
         } => Some(TableKey::of_receiver(*sent, *connection, *number)),
         _ => None,
@@ -62,7 +71,14 @@ pub fn question_returned_lightly(event: &DecodedRecord) -> Option<TableKey>
         DecodedRecord::Wire {
             sent,
             connection,
-            message: RpcMessage::Return { head: ReturnHead { answer: number, light: true, .. }, .. },
+            message: RpcMessage::Return {
+                head: ReturnHead {
+                    answer: number,
+                    light: true,
+                    ..
+                },
+                ..
+            },
             ..
         } => Some(TableKey::of_receiver(*sent, *connection, *number)),
         _ => None,
@@ -134,7 +150,10 @@ pub fn asks_elsewhere(event: &DecodedRecord) -> bool
 {
     match event {
         DecodedRecord::Wire {
-            message: RpcMessage::Call { head: CallHead { yourself, .. }, .. },
+            message: RpcMessage::Call {
+                head: CallHead { yourself, .. },
+                ..
+            },
             ..
         } => *yourself,
         _ => false,

@@ -158,7 +158,11 @@ impl Openings {
     }
 
     /// What is handed out of a file: what is read of it piece by piece, or all its bytes where too many files are open.
-    fn opened<F: Read + OpenFile + Drop, I>(&mut self, alloc: Global, file: F) -> io::Result<Opened<F, I>>
+    fn opened<F: Read + OpenFile + Drop, I>(
+        &mut self,
+        alloc: Global,
+        file: F,
+    ) -> io::Result<Opened<F, I>>
         ensures { IfOk result (λ opened. IfSome (F.remaining file)
             (λ all. (input : I → Option (List ℕ)) → left_of F.remaining input opened ≡ Some all)) }
     {

@@ -118,12 +118,7 @@ impl<R: LogHost> FolderReader<R> {
     }
 
     /// What gives nothing, since what stands under a name can't be read, for this reason; whether it can be tried once more.
-    pub(crate) fn refused(
-        alloc: Global,
-        name: &str,
-        why: io::Error,
-        lasts: bool,
-    ) -> FolderReader<R>
+    pub(crate) fn refused(alloc: Global, name: &str, why: io::Error, lasts: bool) -> FolderReader<R>
         ensures fresh { IsFresh result.came }
         ensures of { IsOf (as_read (held_under R.in_file R.in_input name.now)) result.came }
     {

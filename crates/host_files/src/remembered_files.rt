@@ -112,11 +112,7 @@ impl<R: LogHost> RememberingFolder<'_, R> {
     }
 
     /// Keeps the name whose reading ends, and what its reader has. Where memory is refused less is kept.
-    fn keep_closed(
-        &mut self,
-        name: &str,
-        reader: &FolderReader<R>,
-    ) -> Result<(), AllocError> {
+    fn keep_closed(&mut self, name: &str, reader: &FolderReader<R>) -> Result<(), AllocError> {
         self.keep_name(name)?;
         let file = ClosedFile::of(self.rt.alloc(), name, reader)?;
         Ok(self.closed.push(file)?)

@@ -61,11 +61,11 @@ called_field : (o : Option ℕ) → call_of_question (option_map (λ c. FieldOf 
 called_field None = refl
 called_field (Some c) = refl
 
-question_as : (names : Naming) (es : Past) (k c : ℕ) (references : List ℕ) (head : ReturnHead) (outcome : Outcome) → 
+question_as : (names : Naming) (es : Past) (k c : ℕ) (references : List ℕ) (head : ReturnHead) (outcome : Outcome) →
     answered_in names.call (question_view es (Wire true k c references (Return head outcome))) ≡ call_answered names es k true head.answer
 question_as names es k c references head outcome = ap (option_and_then names.call) (called_field (call_of (id k false head.answer) es))
 
-taken_as : (names : Naming) (es : Past) (k c : ℕ) (references : List ℕ) (head : ReturnHead) (n : ℕ) → 
+taken_as : (names : Naming) (es : Past) (k c : ℕ) (references : List ℕ) (head : ReturnHead) (n : ℕ) →
     answered_in names.call (taken_view es (Wire true k c references (Return head (TakeFrom n)))) ≡ option_and_then names.call (call_of (id k true n) es)
 taken_as names es k c references head n = ap (option_and_then names.call) (called_field (call_of (id k true n) es))
 

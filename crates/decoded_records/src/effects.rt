@@ -28,7 +28,13 @@ pub fn question_opened(event: &DecodedRecord) -> Option<TableKey>
             sent,
             connection,
             message: RpcMessage::Bootstrap { question: number }
-            | RpcMessage::Call { head: CallHead { question: number, .. }, .. },
+            | RpcMessage::Call {
+                head: CallHead {
+                    question: number,
+                    ..
+                },
+                ..
+            },
             ..
         } => Some(TableKey::of_sender(*sent, *connection, *number)),
         _ => None,
@@ -43,7 +49,10 @@ pub fn question_returned(event: &DecodedRecord) -> Option<TableKey>
         DecodedRecord::Wire {
             sent,
             connection,
-            message: RpcMessage::Return { head: ReturnHead { answer: number, .. }, .. },
+            message: RpcMessage::Return {
+                head: ReturnHead { answer: number, .. },
+                ..
+            },
             ..
         } => Some(TableKey::of_receiver(*sent, *connection, *number)),
         _ => None,
@@ -59,7 +68,14 @@ pub fn question_returned_lightly(event: &DecodedRecord) -> Option<TableKey>
         DecodedRecord::Wire {
             sent,
             connection,
-            message: RpcMessage::Return { head: ReturnHead { answer: number, light: true, .. }, .. },
+            message: RpcMessage::Return {
+                head: ReturnHead {
+                    answer: number,
+                    light: true,
+                    ..
+                },
+                ..
+            },
             ..
         } => Some(TableKey::of_receiver(*sent, *connection, *number)),
         _ => None,
@@ -127,7 +143,10 @@ pub fn asks_elsewhere(event: &DecodedRecord) -> bool
 {
     match event {
         DecodedRecord::Wire {
-            message: RpcMessage::Call { head: CallHead { yourself, .. }, .. },
+            message: RpcMessage::Call {
+                head: CallHead { yourself, .. },
+                ..
+            },
             ..
         } => *yourself,
         _ => false,

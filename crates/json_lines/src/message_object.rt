@@ -3,7 +3,9 @@
 use crate::json_text::JsonText;
 use cap_frame::Path;
 use report_lines::loopback_text;
-use rpc_view::{CallHead, Descriptor, Loopback, Outcome, Payload, Resolution, ReturnHead, RpcMessage, Target};
+use rpc_view::{
+    CallHead, Descriptor, Loopback, Outcome, Payload, Resolution, ReturnHead, RpcMessage, Target,
+};
 
 /// Writes a kind and the number that is alone beside it.
 fn put_numbered(json: &mut JsonText<'_>, kind: &str, id: u32) {

@@ -94,7 +94,10 @@ pub fn is_late(questions: &Questions, event: &DecodedRecord) -> bool
     let DecodedRecord::Wire {
         sent,
         connection,
-        message: RpcMessage::Return { head: ReturnHead { answer: number, .. }, .. },
+        message: RpcMessage::Return {
+            head: ReturnHead { answer: number, .. },
+            ..
+        },
         ..
     } = event
     else {
@@ -115,7 +118,14 @@ pub fn given_back_by<'a>(questions: &'a Questions, event: &DecodedRecord) -> &'a
         DecodedRecord::Wire {
             sent,
             connection,
-            message: RpcMessage::Return { head: ReturnHead { answer: number, release_param_caps: true, .. }, .. },
+            message: RpcMessage::Return {
+                head: ReturnHead {
+                    answer: number,
+                    release_param_caps: true,
+                    ..
+                },
+                ..
+            },
             ..
         } => questions.asked_in(TableKey::of_receiver(*sent, *connection, *number)),
         DecodedRecord::Wire {

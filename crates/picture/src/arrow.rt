@@ -96,7 +96,12 @@ fn stroke_of(late: bool, message: &Option<RpcMessage>) -> Stroke
                 outcome_stroke(outcome)
             }
         }
-        Some(RpcMessage::Call { head: CallHead { yourself, .. }, .. }) => {
+        Some(
+            RpcMessage::Call {
+                head: CallHead { yourself, .. },
+                ..
+            },
+        ) => {
             if *yourself {
                 Stroke::Tail
             } else {

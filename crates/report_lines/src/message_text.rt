@@ -7,7 +7,9 @@ ghost use Rattle.report_lines.specs.MessageText.{path_text, target_text, descrip
 
 use crate::shown::Shown;
 use cap_frame::Path;
-use rpc_view::{CallHead, Descriptor, Loopback, Outcome, Payload, Resolution, ReturnHead, RpcMessage, Target};
+use rpc_view::{
+    CallHead, Descriptor, Loopback, Outcome, Payload, Resolution, ReturnHead, RpcMessage, Target,
+};
 use std::fmt;
 use std::fmt::{Display, Formatter};
 

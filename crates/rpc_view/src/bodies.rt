@@ -57,7 +57,16 @@ fn read_call_parts(
 {
     let target = target(alloc, frame, call, CALL_TARGET, limits)?;
     let params = payload(alloc, frame, call, CALL_PARAMS, limits)?;
-    Ok(RpcMessage::Call { head: CallHead { question: u32_within(word, CALL_QUESTION), interface: u64_of(frame, call, CALL_INTERFACE), method: u16_within(word, CALL_METHOD), yourself: u16_within(word, CALL_SEND_RESULTS_TO) == 1 }, target, params })
+    Ok(RpcMessage::Call {
+        head: CallHead {
+            question: u32_within(word, CALL_QUESTION),
+            interface: u64_of(frame, call, CALL_INTERFACE),
+            method: u16_within(word, CALL_METHOD),
+            yourself: u16_within(word, CALL_SEND_RESULTS_TO) == 1,
+        },
+        target,
+        params,
+    })
 }
 
 /// Whether a field of the later edition is set in a message that is read by the first one.
@@ -137,7 +146,14 @@ fn read_return_parts(
         (run (returned_in (sections_of frame.now answer.now)) limits.old.words) }
 {
     let outcome = outcome(alloc, frame, answer, u16_within(word, RETURN_TAG), limits)?;
-    Ok(RpcMessage::Return { head: ReturnHead { answer: u32_within(word, RETURN_ANSWER), release_param_caps: !bit_within(word, RETURN_RELEASE_PARAM_CAPS), light: bit_within(word, RETURN_NO_FINISH_NEEDED) }, outcome })
+    Ok(RpcMessage::Return {
+        head: ReturnHead {
+            answer: u32_within(word, RETURN_ANSWER),
+            release_param_caps: !bit_within(word, RETURN_RELEASE_PARAM_CAPS),
+            light: bit_within(word, RETURN_NO_FINISH_NEEDED),
+        },
+        outcome,
+    })
 }
 
 /// The Return behind a Message's pointer.

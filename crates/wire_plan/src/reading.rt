@@ -6,7 +6,10 @@ use crate::message::{Aim, Entry, Kind, Named, Planned, ReturnKind};
 use crate::paths::Paths;
 use bytes::Bytes;
 use cap_frame::Frame;
-use rpc_view::{Descriptor, Edition, Limits, Loopback, Outcome, Payload, Resolution, ReturnHead, RpcMessage, Target, ViewError, read_message};
+use rpc_view::{
+    Descriptor, Edition, Limits, Loopback, Outcome, Payload, Resolution, ReturnHead, RpcMessage,
+    Target, ViewError, read_message,
+};
 use std::alloc::{AllocError, Global};
 
 /// What is made use of while messages are read.

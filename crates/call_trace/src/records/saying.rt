@@ -235,7 +235,14 @@ fn message_said(
 {
     match message {
         RpcMessage::Bootstrap { .. } => Ok(ledger.call(call).map(|name| Message::Boot(name))),
-        RpcMessage::Call { head: CallHead { interface, method, .. }, .. } => call_said(ledger, steps, facts, call, (*interface, *method), caps),
+        RpcMessage::Call {
+            head: CallHead {
+                interface,
+                method,
+                ..
+            },
+            ..
+        } => call_said(ledger, steps, facts, call, (*interface, *method), caps),
         RpcMessage::Return { outcome, .. } => return_said(alloc, ledger, facts, caps, outcome),
         RpcMessage::Resolve { .. } => resolve_said(ledger, steps, facts, caps),
         RpcMessage::Finish { .. } => Ok(Some(Message::Plain(Plain::Finish))),

@@ -33,7 +33,13 @@ fn turn_of(message: &RpcMessage, question: u32) -> Option<bool>
 {
     match message {
         RpcMessage::Bootstrap { question: opened }
-        | RpcMessage::Call { head: CallHead { question: opened, .. }, .. } => {
+        | RpcMessage::Call {
+            head: CallHead {
+                question: opened,
+                ..
+            },
+            ..
+        } => {
             if *opened == question {
                 Some(false)
             } else {
@@ -126,7 +132,15 @@ pub fn is_late(
         ≡ is_late_return (edition_of log.now) passage message.now (take number log.now.records)) }
 {
     match (passage, message) {
-        (Some((sent, connection)), Some(RpcMessage::Return { head: ReturnHead { answer, .. }, .. })) => {
+        (
+            Some((sent, connection)),
+            Some(
+                RpcMessage::Return {
+                    head: ReturnHead { answer, .. },
+                    ..
+                },
+            ),
+        ) => {
             let question = LoggedQuestion {
                 asks: !sent,
                 connection,

@@ -135,7 +135,14 @@ pub(crate) fn put_astray(past: &Past<'_>, text: &mut NoteText) {
         DecodedRecord::Wire {
             sent: true,
             call,
-            message: RpcMessage::Call { head: CallHead { interface, method, .. }, .. },
+            message: RpcMessage::Call {
+                head: CallHead {
+                    interface,
+                    method,
+                    ..
+                },
+                ..
+            },
             ..
         } => {
             let sent = Method {

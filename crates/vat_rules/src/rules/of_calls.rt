@@ -82,7 +82,14 @@ pub(crate) fn goes_to_goal(
         DecodedRecord::Wire {
             sent: true,
             call,
-            message: RpcMessage::Call { head: CallHead { interface, method, .. }, .. },
+            message: RpcMessage::Call {
+                head: CallHead {
+                    interface,
+                    method,
+                    ..
+                },
+                ..
+            },
             ..
         } => is_asked(edition, state, target, *call, *interface, *method),
         _ => Ok(true),

@@ -38,7 +38,10 @@ fn is_light_without_caps(event: &DecodedRecord) -> bool
     match event {
         DecodedRecord::Wire {
             references,
-            message: RpcMessage::Return { head: ReturnHead { light: true, .. }, .. },
+            message: RpcMessage::Return {
+                head: ReturnHead { light: true, .. },
+                ..
+            },
             ..
         } => references.as_slice().is_empty(),
         _ => true,

@@ -149,7 +149,10 @@ pub(crate) fn returns_known(
     let DecodedRecord::Wire {
         sent: true,
         connection,
-        message: RpcMessage::Return { head: ReturnHead { answer, .. }, outcome },
+        message: RpcMessage::Return {
+            head: ReturnHead { answer, .. },
+            outcome,
+        },
         ..
     } = event
     else {

@@ -91,7 +91,14 @@ pub(crate) fn call_begun(
         DecodedRecord::Wire {
             sent: false,
             call,
-            message: RpcMessage::Call { head: CallHead { interface, method, .. }, .. },
+            message: RpcMessage::Call {
+                head: CallHead {
+                    interface,
+                    method,
+                    ..
+                },
+                ..
+            },
             ..
         } => {
             let goal = view_of_target(bound, lives, questions, event)?;
@@ -127,7 +134,10 @@ fn sent_step(questions: &Questions, event: &DecodedRecord) -> Option<(u64, CallC
     };
     match message {
         RpcMessage::Call { .. } => Some((*call, CallChange::Left)),
-        RpcMessage::Return { head: ReturnHead { answer: number, .. }, outcome: Outcome::Exception | Outcome::Canceled } => {
+        RpcMessage::Return {
+            head: ReturnHead { answer: number, .. },
+            outcome: Outcome::Exception | Outcome::Canceled,
+        } => {
             let question = TableKey::of_receiver(true, *connection, *number);
             moved(CallChange::Left, opening_call(questions, question))
         }
@@ -152,14 +162,20 @@ fn received_step(questions: &Questions, event: &DecodedRecord) -> Option<(u64, C
         return None;
     };
     match message {
-        RpcMessage::Return { head: ReturnHead { answer: number, .. }, outcome: Outcome::Results(_) } => {
+        RpcMessage::Return {
+            head: ReturnHead { answer: number, .. },
+            outcome: Outcome::Results(_),
+        } => {
             if is_late(questions, event) {
                 return None;
             }
             let question = TableKey::of_receiver(false, *connection, *number);
             moved(CallChange::Known, opening_call(questions, question))
         }
-        RpcMessage::Return { head: ReturnHead { answer: number, .. }, outcome: Outcome::TakeFrom(_) } => {
+        RpcMessage::Return {
+            head: ReturnHead { answer: number, .. },
+            outcome: Outcome::TakeFrom(_),
+        } => {
             if taken_from_by(questions, event).is_none() {
                 return None;
             }

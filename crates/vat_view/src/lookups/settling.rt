@@ -93,7 +93,10 @@ fn settled_by(
         DecodedRecord::Wire {
             sent: false,
             connection,
-            message: RpcMessage::Return { head: ReturnHead { answer: number, .. }, .. },
+            message: RpcMessage::Return {
+                head: ReturnHead { answer: number, .. },
+                ..
+            },
             ..
         } => results_of(
             questions,

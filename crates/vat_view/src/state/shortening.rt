@@ -142,7 +142,10 @@ impl VatState {
                 let way = self.way_of_goal(call);
                 self.shorten_way(way);
             }
-            RpcMessage::Return { head: ReturnHead { answer, .. }, outcome: Outcome::Results(results) } => self.shorten_results(Number::Answer(*answer).on(connection), results),
+            RpcMessage::Return {
+                head: ReturnHead { answer, .. },
+                outcome: Outcome::Results(results),
+            } => self.shorten_results(Number::Answer(*answer).on(connection), results),
             RpcMessage::Resolve { promise, .. } => {
                 let way = self.way_of_number(Number::Export(*promise).on(connection));
                 self.shorten_way(way);

@@ -65,7 +65,10 @@ pub(crate) fn call_taken_by(questions: &Questions, event: &DecodedRecord) -> Opt
         DecodedRecord::Wire {
             sent: true,
             connection,
-            message: RpcMessage::Return { head: ReturnHead { answer: number, .. }, outcome: Outcome::Exception | Outcome::Canceled },
+            message: RpcMessage::Return {
+                head: ReturnHead { answer: number, .. },
+                outcome: Outcome::Exception | Outcome::Canceled,
+            },
             ..
         } => opening_call(
             questions,

@@ -272,7 +272,7 @@ module _ (k v w c : ℕ) (one : Past) (its_steps : List Step) (other : Past) (st
       let went = passing_is k true m sent h.passed.sends in
       let late = (good_agree k one (received ∷ other) h.met.one_good (h.good, h.met.other_good) h.linked).there.late m from other sent received h.passed in
       let alike : IsReadAlike mine from sent theirs other received k c m message = record {
-        calls = λ name is head.answer asks. answerer_names w other steps r k c references m head.answer message name asks refl is;
+        calls = λ name is asked asks. answerer_names w other steps r k c references m asked message name asks refl is;
         caps = λ in_time cs named. caps_are_one k v one its_steps w other steps c references m from its_from s message sent bound in_time h cs named;
         target = λ t named. targets_are_one k v one its_steps w other steps c references m from its_from s message sent bound h t named;
         late = late;

@@ -3,7 +3,7 @@
 -- Message's tag says, then, where a message is read by the first edition, a field that only the later one has. Nothing
 -- else depends on the edition. The data of a body is judged whole before its pointers are followed; pointers that a
 -- union doesn't select are unread.
-use Rattle.std.specs.Prelude.{◌≡◌, ℕ, ◌<◌, ◌≤◌, ◌==◌, Bool, false, ◌||◌, List, [], ◌∷◌, Result, Ok, Err, nat_lt, if◌then◌else◌}
+use Rattle.std.specs.Prelude.{◌≡◌, ℕ, ◌<◌, ◌≤◌, ◌==◌, Bool, true, false, ◌||◌, List, [], ◌∷◌, Result, Ok, Err, nat_lt, if◌then◌else◌}
 use Rattle.cap_frame.specs.declared.frame_error.FrameError.{FrameError}
 use Rattle.cap_frame.specs.Segments.{segments_of}
 use Rattle.cap_reader.specs.declared.limits.Limits.{Limits}

@@ -1,10 +1,10 @@
 -- What came so far, and what a read makes of it.
-use Rattle.std.proofs.Common.{◌≡◌, ℕ, ◌<◌, Bool, true, false, List, [], ◌++◌, length, Option, None, Some, refl, sym, ap, ap₂, subst, ◌∙◌, append_assoc, arith, inl, inr}
+use Rattle.std.proofs.Common.{◌≡◌, ℕ, ◌<◌, Bool, true, false, List, [], ◌++◌, length, drop, Option, None, Some, refl, sym, ap, ap₂, subst, ◌∙◌, append_assoc, arith, inl, inr}
 use Rattle.std.specs.Prelude.{IfSome, is_some}
 use Rattle.std.specs.Io.KnownBytes.{Consumes, IsAtEnd, Keeps}
-use Rattle.std.proofs.lemmas.List.{append-nil, length-append}
+use Rattle.std.proofs.lemmas.List.{append-nil, drop_at}
 use Rattle.byte_pieces.specs.declared.fault.PieceFault.{PieceFault}
-use Rattle.byte_pieces.specs.Coming.{Brings, CameNothing, CameSoFar, ComesOn, IsFresh, IsPart, MayBeAll, ReadsOn}
+use Rattle.byte_pieces.specs.Coming.{CameNothing, CameSoFar, ComesOn, IsFresh, IsPart, MayBeAll, ReadsOn}
 
 -- ---- what came
 
@@ -86,19 +86,10 @@ begins (Some xs) = refl
 pub reads_begin : (left : Option (List ℕ)) (fault : Option PieceFault) → ReadsOn (record { bytes = []; is_over = false; fault = fault; whole = left }) left
 reads_begin left fault = record { left = λ h. begins left; part = nothing_of left [] false refl refl }
 
-true_false : (b : Bool) → b ≡ true → b ≡ false → ⊥
-true_false true yes no = cc
-true_false false yes no = cc
-
-some_none : {A : Type 0} (o : Option A) → is_some o ≡ true → o ≡ None → ⊥
-some_none None yes no = cc
-some_none (Some x) yes no = cc
-
--- a piece came where it wasn't over
-pub comes_piece : (old new : CameSoFar) (rest window : List ℕ) → Brings rest old.bytes window new.bytes → old.is_over ≡ false → new.is_over ≡ false → new.whole ≡ old.whole → old.fault ≡ None → ComesOn old new
-comes_piece old new rest window b open still whole none = record {
-  first = record { more = b.piece; parts = b.behind_all; over = λ h. absurd (true_false old.is_over h open) };
-  over = λ h. absurd (true_false old.is_over h open);
-  whole = whole;
-  fault = λ h. absurd (some_none old.fault h none);
-}
+-- one more piece was read, in a window behind the rest
+pub piece_read : (whole left later : Option (List ℕ)) (gave rest window piece : List ℕ) (n : ℕ) (is_over : Bool) (fault : Option PieceFault) → n ≡ length rest → window ≡ rest ++ piece → is_over ≡ false → Consumes whole left gave → Consumes left later piece
+    → ReadsOn (record { bytes = gave ++ drop n window; is_over = is_over; fault = fault; whole = whole }) later
+piece_read whole left later gave rest window piece n is_over fault long is begun before read =
+    let dropped : drop n window ≡ piece = ap (drop n) is ∙ drop_at rest piece n (sym long) in
+    let more = consumes_more whole left later gave piece before read in
+    rw (dropped, begun) (record { left = λ none. more; part = consumed_part whole later (gave ++ piece) more })

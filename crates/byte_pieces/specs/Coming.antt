@@ -63,6 +63,6 @@ left_at_first remaining [] = None
 left_at_first remaining (reader ∷ _) = remaining reader
 
 -- A reader has left what of the whole didn't come, unless no more can be read of it.
-pub record ReadsOn (came : CameSoFar) (left : Option (List ℕ)) : Type 0 where
-  pub left : came.fault ≡ None → Consumes came.whole left came.bytes
+pub record ReadsOn (came : CameSoFar) (remaining : Option (List ℕ)) : Type 0 where
+  pub left : came.fault ≡ None → Consumes came.whole remaining came.bytes
   pub part : IsPart came

@@ -112,30 +112,11 @@ fn read_once<R: Read>(window: &mut BytesMut, reader: &mut R) -> io::Result<usize
     Err(io::Error::other("reading it was interrupted again and again"))
 }
 
-impl<R: Read> ReadPieces<R> {
-    /// That nothing more is read: what comes next couldn't be told apart from what follows a gap.
-    fn stop(&mut self, fault: PieceFault) -> PieceFault
-        ensures stopped { self.new ≡ record self.old { fault = Some fault } }
-        ensures same { result ≡ fault }
-    {
-        self.fault = Some(fault);
-        fault
-    }
-
-    /// The fault that a read answered.
-    fn refuse(&mut self, error: io::Error) -> PieceFault
-        ensures { self.new ≡ record self.old { fault = Some result } }
-    {
-        let fault = fault_of(&error);
-        self.refusal = Some(error);
-        self.stop(fault)
-    }
-}
-
 impl<R: Read> Pieces for ReadPieces<R> {
     ghost so_far = { λ pieces. pieces };
 
-    /// Where a read fails, or what it gave can't be handed out, each later call answers the same fault.
+    /// Where a read fails, or what it gave can't be handed out, nothing more is read, and each later call answers the same fault:
+    /// what comes next couldn't be told apart from what follows a gap.
     fn more(
         &mut self,
         alloc: Global,
@@ -163,9 +144,17 @@ impl<R: Read> Pieces for ReadPieces<R> {
                     self.gave = self.gave.with(&piece);
                     Ok(Some(piece.1))
                 }
-                Err(_) => Err(self.stop(PieceFault::OutOfMemory)),
+                Err(_) => {
+                    self.fault = Some(PieceFault::OutOfMemory);
+                    Err(PieceFault::OutOfMemory)
+                }
             },
-            Err(error) => Err(self.refuse(error)),
+            Err(error) => {
+                let fault = fault_of(&error);
+                self.fault = Some(fault);
+                self.refusal = Some(error);
+                Err(fault)
+            }
         }
     }
 }

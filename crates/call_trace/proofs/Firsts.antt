@@ -19,15 +19,15 @@ use Rattle.vat_rules.specs.First.{AllGood, IsFirst}
 use Rattle.vat_rules.specs.Judged.{IsGoodBy}
 use Rattle.vat_rules.specs.Types.{First}
 use Rattle.vat_rules.proofs.Firsts.{past_at-more}
-use Rattle.call_trace.specs.Findings.{AreOfFirst, AreTrue, MayBeNamed, is_good}
+use Rattle.call_trace.specs.Findings.{AreOfFirstEdition, AreTrue, MayBeNamed, is_good}
 use Rattle.call_trace.specs.Named.{past_before}
 use Rattle.call_trace.specs.Taking.{row_of}
-use Rattle.call_trace.specs.Running.{IsFirstNext}
 use Rattle.call_trace.specs.Types.{RpcMessage, DecodedRecord, Wire}
 use Rattle.call_trace.proofs.Next.{some_same, ok_same, each_next}
 use Rattle.call_trace.proofs.Reading.{IsGoodRecord, there_is, with_is}
 use Rattle.call_trace.proofs.Sharing.{says_good, says_true}
 use Rattle.agree.specs.Points.{AtEach}
+use Rattle.agree.specs.Rows.{Row, log_of_vat}
 
 -- ---- what is read by the first edition is read alike by the later one
 
@@ -85,7 +85,11 @@ all_first log limits (outcome.Good story) first true_of good = (subst (λ editio
 all_first log limits (outcome.Broken at rule) first true_of good = absurd (let no : ⊥ = cc in no)
 all_first log limits (outcome.Outside at why) first true_of good = absurd (let no : ⊥ = cc in no)
 
--- where all logs are of the first edition, each record of the row is good by it
-pub firsts_good : (findings : List Found) (order : List ℕ) → AreTrue findings → MayBeNamed findings order → AreOfFirst findings → AtEach IsFirstNext (row_of findings order)
+-- a record of a row is good by the first edition after those of its vat
+abbrev pub IsFirstNext : Row → ℕ × DecodedRecord → Type 0
+IsFirstNext before r = IsGoodBy First (log_of_vat r.0 before) r.1
+
+-- where all logs are of the first edition, each record of the row is so
+pub firsts_good : (findings : List Found) (order : List ℕ) → AreTrue findings → MayBeNamed findings order → AreOfFirstEdition findings → AtEach IsFirstNext (row_of findings order)
 firsts_good findings order true_all asked firsts = each_next findings order true_all asked (IsGoodBy First) (λ f there i r.
 good_by_first f (all_first f.log f.limits f.outcome (subst (λ (g : Found). edition_of g.log ≡ First) there.2 (firsts there.0 f there.1)) (says_true findings order true_all asked f there) (says_good findings order true_all asked f there)) i r)

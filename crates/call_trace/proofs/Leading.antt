@@ -18,18 +18,18 @@ use Rattle.vat_rules.specs.Types.{First}
 use Rattle.vat_rules.specs.Ways.{LeadsTo, LeadsOnTo}
 use Rattle.vat_rules.specs.declared.rule.Rule.TheVariants as rule
 use Rattle.rpc_view.specs.declared.message.Payload.{Payload}
-use Rattle.call_trace.specs.Findings.{AreOfFirst, AreTrue, MayBeNamed}
+use Rattle.call_trace.specs.Findings.{AreOfFirstEdition, AreTrue, MayBeNamed}
 use Rattle.call_trace.specs.Named.{IsRunOf}
 use Rattle.call_trace.specs.Naming.{naming, call_named, cap_named}
 use Rattle.call_trace.specs.Part.{Says}
-use Rattle.call_trace.specs.Running.{steps_by, IsFirstNext, IsNamedRow, MayRun}
+use Rattle.call_trace.specs.Running.{steps_by, IsNamedRow, MayRun}
 use Rattle.call_trace.specs.Said.{caps_named, call_answered, caps_at_paths, message_of_record}
 use Rattle.call_trace.specs.Taking.{row_of}
 use Rattle.call_trace.specs.Tells.{Tells}
 use Rattle.call_trace.specs.Types.{Results, Exception, Canceled, Elsewhere, TakeFrom, RpcMessage, Bootstrap, Call, Return, Finish, Resolve, Release, Disembargo, Abort, DecodedRecord, Host, Vow, Fulfil, Break, Make, Field, Deliver, Answer, AnswerBy, Fault, Wire, View, Name, Cap, Message, Step}
 use Rattle.call_trace.specs.Within.{IsWithin, HasNameAfter}
 use Rattle.call_trace.proofs.Carrying.{named_next, passed, says_alike}
-use Rattle.call_trace.proofs.Firsts.{firsts_good}
+use Rattle.call_trace.proofs.Firsts.{IsFirstNext, firsts_good}
 use Rattle.call_trace.proofs.Naming.{mapped_is}
 use Rattle.call_trace.proofs.Next.{may_run, run_before}
 use Rattle.call_trace.proofs.Placing.{call_sent_on}
@@ -180,6 +180,6 @@ row_led ((v, e) ∷ row) whole run first named =
     let now = record_led v (log_of_vat v row) (steps_by v n.before) n.before (within_row v row n.before good.0 n.rest) good.0 rest e n.step good.1 (first row (v, e) ([], refl)) n.says in
     subst (EachStep SendsLedTo) (sym n.all) (now, rest)
 
-pub firsts_lead : (findings : List Found) (order : List ℕ) → AreTrue findings → MayBeNamed findings order → AreOfFirst findings → (run : List Step) → IsRunOf findings order run → EachOf SendsLedTo run
+pub firsts_lead : (findings : List Found) (order : List ℕ) → AreTrue findings → MayBeNamed findings order → AreOfFirstEdition findings → (run : List Step) → IsRunOf findings order run → EachOf SendsLedTo run
 firsts_lead findings order true_all asked firsts run is =
     row_led (row_of findings order) (reverse run) (may_run findings order true_all asked) (firsts_good findings order true_all asked firsts) (named_row findings order true_all asked run is)

@@ -15,8 +15,8 @@ abbrev pub AreTrue : List Found → Type 0
 AreTrue findings = All (λ finding. IsTrueOf finding.log finding.limits finding.outcome) findings
 
 -- each log is of version 1 or 2: it is judged by the first edition of rpc.capnp
-abbrev pub AreOfFirst : List Found → Type 0
-AreOfFirst findings = All (λ finding. edition_of finding.log ≡ First) findings
+abbrev pub AreOfFirstEdition : List Found → Type 0
+AreOfFirstEdition findings = All (λ finding. edition_of finding.log ≡ First) findings
 
 -- a finding says that every record is good
 abbrev pub is_good : Outcome → Bool

@@ -12,8 +12,7 @@ use Rattle.run_model.specs.Legal.{IsLegal}
 use Rattle.run_model.specs.Links.{IsLinked, sent_to, receives_on}
 use Rattle.run_model.specs.Steps.{count_steps, vat_of}
 use Rattle.run_model.specs.Steps.{EachStep}
-use Rattle.vat_rules.specs.Judged.{IsGood, IsGoodBy}
-use Rattle.vat_rules.specs.Types.{First}
+use Rattle.vat_rules.specs.Judged.{IsGood}
 use Rattle.decoded_records.specs.Past.{Past, Each}
 use Rattle.run_model.specs.declared.step.Step.TheVariants as step
 
@@ -71,10 +70,6 @@ IsUser k v row = (before : Row) × (e : DecodedRecord) × GoesOn row ((v, e) ∷
 -- a record is good after those of its vat
 abbrev pub IsGoodNext : Row → ℕ × DecodedRecord → Type 0
 IsGoodNext before r = IsGood (log_of_vat r.0 before) r.1
-
--- a record is good by the first edition too
-abbrev pub IsFirstNext : Row → ℕ × DecodedRecord → Type 0
-IsFirstNext before r = IsGoodBy First (log_of_vat r.0 before) r.1
 
 -- a row of records that has a run: each record is good; what is received comes where the others sent more; a connection has
 -- two users at most, and what either received there is the beginning of what the other sent

@@ -36,7 +36,7 @@ ghost use Rattle.call_trace.specs.Tells.{TurnsNames};
 ghost use Rattle.call_trace.specs.Within.{IsWithin, HasNameAfter};
 ghost use Rattle.call_trace.specs.Placed.{IsThere};
 ghost use Rattle.call_trace.specs.Carried.{IsCarried, HasOneName};
-ghost use Rattle.call_trace.specs.Findings.{AreEnds, logs_of, AreOfFirst, AreTrue, MayBeNamed};
+ghost use Rattle.call_trace.specs.Findings.{AreEnds, logs_of, AreOfFirstEdition, AreTrue, MayBeNamed};
 ghost use Rattle.call_trace.specs.Taking.{row_of};
 ghost use Rattle.call_trace.specs.Kinds.{is_own_making};
 ghost use Rattle.call_trace.specs.Named.{taken_before, AtEachPoint, AreBalanced, IsRunOf};
@@ -303,7 +303,7 @@ pub fn findings_have_one_run()
 /// results of another was answered by that one. It isn't so of the vats of such logs in a run of logs of all versions.
 pub fn first_editions_lead()
     ensures { (findings : List Found) (order : List ℕ) → AreTrue findings
-        → MayBeNamed findings order → AreOfFirst findings → (run : List Step)
+        → MayBeNamed findings order → AreOfFirstEdition findings → (run : List Step)
         → IsRunOf findings order run → EachOf SendsLedTo run }
 {}
 

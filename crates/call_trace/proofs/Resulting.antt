@@ -384,14 +384,14 @@ module _ (v : ℕ) (es : Past) (steps before : List Step) (w : IsWithin v es ste
 
     -- what is so of each message that such a Return may say is so of the one that it says
     module _ (Q : Message → Type 0) (if_late : (name : Name) → Q (message.Late name))
-        (in_time : is_late es giving ≡ false → (name : Name) (call : ℕ) (cs : List Cap) → call_at (opening (id k false q) es) ≡ Some call → call_named v es steps call ≡ Some name → caps_named names es giving ≡ Some cs →
+        (if_timely : is_late es giving ≡ false → (name : Name) (call : ℕ) (cs : List Cap) → call_at (opening (id k false q) es) ≡ Some call → call_named v es steps call ≡ Some name → caps_named names es giving ≡ Some cs →
         Q (message.Return name (caps_at_paths cs payload.fields) cs)) where
       results_said : (late : Bool) → is_late es giving ≡ late → (M : Message) (name : Name) (call : ℕ) → call_at (opening (id k false q) es) ≡ Some call → call_named v es steps call ≡ Some name →
           say_return (is_late es giving) payload.fields name (caps_named names es giving) ≡ Some M → Q M
       results_said true late M name call asked named h =
           let same : message.Late name ≡ M = some_same (sym (ap (λ b. say_return b payload.fields name (caps_named names es giving)) late) ∙ h) in subst Q same (if_late name)
       results_said false late M name call asked named h =
-          let told = return_said (is_late es giving) payload.fields name (caps_named names es giving) M late h in subst Q (sym told.2) (in_time late name call told.0 asked named told.1)
+          let told = return_said (is_late es giving) payload.fields name (caps_named names es giving) M late h in subst Q (sym told.2) (if_timely late name call told.0 asked named told.1)
 
       pub each_returned : (M : Message) → message_of_record names es giving ≡ Some M → Q M
       each_returned M said =
@@ -423,7 +423,7 @@ module _ (v : ℕ) (es : Past) (steps before : List Step) (w : IsWithin v es ste
 
     -- what is so of each message that such a Return may say is so of the one that it says
     module _ (Q : Message → Type 0) (if_late : (name : Name) → Q (message.Late name))
-        (in_time : is_late es taking ≡ false → (name other : Name) (call by : ℕ) → call_at (opening (id k false q) es) ≡ Some call → call_named v es steps call ≡ Some name → call_of (id k true n) es ≡ Some by →
+        (if_timely : is_late es taking ≡ false → (name other : Name) (call by : ℕ) → call_at (opening (id k false q) es) ≡ Some call → call_named v es steps call ≡ Some name → call_of (id k true n) es ≡ Some by →
         call_named v es steps by ≡ Some other → Q (message.Taken name other)) where
       taken_said : (late : Bool) → is_late es taking ≡ late → (M : Message) (name : Name) (call : ℕ) → call_at (opening (id k false q) es) ≡ Some call → call_named v es steps call ≡ Some name →
           say_taken (is_late es taking) name from ≡ Some M → Q M
@@ -432,7 +432,7 @@ module _ (v : ℕ) (es : Past) (steps before : List Step) (w : IsWithin v es ste
       taken_said false late M name call asked named h =
           let other = mapped_is (λ by. message.Taken name by) from M (sym (ap (λ b. say_taken b name from) late) ∙ h) in
           let by = then_is (naming v (taking ∷ es) (s ∷ steps)).call (call_of (id k true n) es) other.0 other.1 in
-          subst Q other.2 (in_time late name other.0 call by.0 asked named by.1 by.2)
+          subst Q other.2 (if_timely late name other.0 call by.0 asked named by.1 by.2)
 
       pub each_taken : (M : Message) → message_of_record (naming v (taking ∷ es) (s ∷ steps)) es taking ≡ Some M → Q M
       each_taken M said =

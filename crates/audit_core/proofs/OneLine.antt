@@ -29,7 +29,7 @@ use Rattle.run_model.specs.declared.step.Step.{Step}
 use Rattle.run_model.specs.Edges.{AreEdges, Edge}
 use Rattle.run_model.specs.Early.{IsOrderFault}
 use Rattle.call_trace.specs.Balance.{IsBalanced}
-use Rattle.call_trace.specs.Findings.{AreEnds, AreTrue, logs_of, MayBeNamed}
+use Rattle.call_trace.specs.Findings.{AreEnds, AreOfFirstEdition, AreTrue, logs_of, MayBeNamed}
 use Rattle.call_trace.specs.InLife.{UsesLives}
 use Rattle.call_trace.specs.Named.{past_of, taken_before, AtEachPoint, IsRunOf}
 use Rattle.call_trace.specs.Part.{IsPart}
@@ -355,6 +355,9 @@ one_line held case tied = one_line_of held case tied
 
   -- where all logs are of versions 1 and 2, each step of the run sends what is led to
   pub led_of : IsOfFirstEdition held → (order : List ℕ) → IsFitting held.logs order → (run : List Step) → Explains held.logs order run → EachOf SendsLedTo run
-  led_of firsts order fits run so = firsts_lead (findings_for held.logs) order all_true (asked_of order fits) (λ k d lt.
-  let own = finding_is held.logs k (get_or (findings_for held.logs) k d) (slice_get-get_or (findings_for held.logs) k d lt) in
-  subst (λ (found : Found). edition_of found.log ≡ First) own.2 (firsts own.0 (contained held.logs k own.0 own.1))) run (run_of order run so)
+  led_of firsts order fits run so = firsts_lead (findings_for held.logs) order all_true (asked_of order fits) all_first run (run_of order run so)
+    where
+      all_first : AreOfFirstEdition (findings_for held.logs)
+      all_first k d lt =
+          let own = finding_is held.logs k (get_or (findings_for held.logs) k d) (slice_get-get_or (findings_for held.logs) k d lt) in
+          subst (λ (found : Found). edition_of found.log ≡ First) own.2 (firsts own.0 (contained held.logs k own.0 own.1))

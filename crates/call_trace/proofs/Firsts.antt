@@ -1,5 +1,6 @@
 -- Of a good log of version 1 or 2 each record is good by the first edition, read as the later one reads it.
 use Rattle.std.proofs.Common.{◌≡◌, refl, sym, ◌∙◌, ap, subst, ℕ, zero, suc, ◌+◌, ◌<◌, ◌≤◌, List, ◌∷◌, length, Bool, true, false, Some, Result, Ok, Err, slice_get, arith}
+use Rattle.std.specs.Prelude.{Contains}
 use Rattle.std.proofs.lemmas.Option.{slice_get_within}
 use Rattle.cap_frame.specs.Segments.{segments_of}
 use Rattle.cap_reader.specs.declared.limits.Limits.{Limits}
@@ -91,5 +92,9 @@ IsFirstNext before r = IsGoodBy First (log_of_vat r.0 before) r.1
 
 -- where all logs are of the first edition, each record of the row is so
 pub firsts_good : (findings : List Found) (order : List ℕ) → AreTrue findings → MayBeNamed findings order → AreOfFirstEdition findings → AtEach IsFirstNext (row_of findings order)
-firsts_good findings order true_all asked firsts = each_next findings order true_all asked (IsGoodBy First) (λ f there i r.
-good_by_first f (all_first f.log f.limits f.outcome (subst (λ (g : Found). edition_of g.log ≡ First) there.2 (firsts there.0 f there.1)) (says_true findings order true_all asked f there) (says_good findings order true_all asked f there)) i r)
+firsts_good findings order true_all asked firsts = each_next findings order true_all asked (IsGoodBy First) good_there
+  where
+    good_there : (f : Found) → Contains findings f → (i : ℕ) (r : IsGoodRecord f i) → IsGoodBy First (past_before f i) r.event
+    good_there f there i r =
+        let first = subst (λ (g : Found). edition_of g.log ≡ First) there.2 (firsts there.0 f there.1) in
+        good_by_first f (all_first f.log f.limits f.outcome first (says_true findings order true_all asked f there) (says_good findings order true_all asked f there)) i r

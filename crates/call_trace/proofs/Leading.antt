@@ -101,9 +101,9 @@ module _ (v : ℕ) (es : Past) (steps before : List Step) (w : IsWithin v es ste
 
 -- ---- what a good record of such a log sends is led to
 
-some_first : {A : Type 0} (P Q : A → Type 0) (o : Option A) → IsSomeAnd o (λ x. P x × Q x) → IsSomeAnd o P
-some_first P Q (Some x) h = h.0
-some_first P Q None h = h
+first_of : {A : Type 0} (P Q R : A → Type 0) (o : Option A) → IsSomeAnd o (λ x. P x × Q x × R x) → IsSomeAnd o P
+first_of P Q R (Some x) h = h.0
+first_of P Q R None h = h
 
 module _ (v : ℕ) (es : Past) (steps before : List Step) (w : IsWithin v es steps before) (good : Each IsGood es) (led : EachStep SendsLedTo before) (k c : ℕ) (rs : List ℕ) where
   handed_led : (es : Past) (by : ℕ) (name other : Name) → IsHandedOn before es by name other → list_any (hands name other) before ≡ true
@@ -118,7 +118,7 @@ module _ (v : ℕ) (es : Past) (steps before : List Step) (w : IsWithin v es ste
   message_led (Call q target interface method params yourself) s g first M said =
       let m = call_sent_on v es steps before w good (LeadsTo es) (RunLeads before) (led_there v es steps before w led) k c rs q target interface method params yourself s g (first rule.Goal) M said in
       subst (IsLedTo before v) m.is
-      (some_first (λ asked. RunLeads before asked.goal m.to) (λ asked. (interface ≡ asked.interface) × (method ≡ asked.method)) (at_vat before m.call v) m.goal)
+      (first_of (λ asked. RunLeads before asked.goal m.to) (λ asked. interface ≡ asked.interface) (λ asked. method ≡ asked.method) (at_vat before m.call v) m.goal)
   message_led (Return q release (Results payload) light) s g first M said =
       let e : DecodedRecord = Wire true k c rs (Return q release (Results payload) light) in
       let follow = led_on_there v es steps before w led in

@@ -650,12 +650,12 @@ pub call_sent_on : (v : ℕ) (es : Past) (steps before : List Step) → IsWithin
     (k c : ℕ) (rs : List ℕ) (q : ℕ) (target : Target) (interface method : ℕ) (params : Payload) (yourself : Bool) (s : Step) → IsGood es (Wire true k c rs (Call q target interface method params yourself)) →
     GoesSo S (view_of_target es (Wire true k c rs (Call q target interface method params yourself))) interface method (request_of c es) → (M : Message) →
     message_of_record (naming v (Wire true k c rs (Call q target interface method params yourself) ∷ es) (s ∷ steps)) es (Wire true k c rs (Call q target interface method params yourself)) ≡ Some M → IsSentOn v interface method R before M
-call_sent_on v es steps before w goods S R follow k c rs q target interface method params yourself s good goes M said =
+call_sent_on v es steps before w goods S R follow k c rs q target interface method params yourself s good asks M said =
     let e = Wire true k c rs (Call q target interface method params yourself) in
     let names = naming v (e ∷ es) (s ∷ steps) in
     let m = call_said interface method (caps_named names es e) (names.call c) (option_and_then names.cap (view_of_target es e)) M said in
     let t = is_there v es steps before w goods c (good rule.Here) in
-    let goal = goes_by (cap_named v es steps) S t.here interface method (view_of_target es e) (request_of c es) t.asks goes in
+    let goal = goes_by (cap_named v es steps) S t.here interface method (view_of_target es e) (request_of c es) t.asks asks in
     let known = target_known es k c rs q target interface method params yourself (all_sound (e ∷ es) (good, goods)) in
     let targeted = known_named v es steps before w e s (good rule.Ref) (view_of_target es e) known m.to m.targeted in
     let so = goal_so (cap_named v es steps) S R follow t.here (request_of c es) (view_of_target es e) m.to t.asks targeted goal.0 in

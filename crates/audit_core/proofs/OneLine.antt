@@ -222,6 +222,15 @@ module _ (held : Contents) (case : IsCase held) (tied : tie_fault_of held ≡ No
   pub one_run_of : (order : List ℕ) → IsFitting held.logs order → (run other : List Step) → Explains held.logs order run → Explains held.logs order other → run ≡ other
   one_run_of order fits run other so so_too = one_run (findings_for held.logs) order all_true (asked_of order fits) run other (run_of order run so) (run_of order other so_too)
 
+  -- where all logs are of versions 1 and 2, each step of the run sends what is led to
+  pub led_of : IsOfFirstEdition held → (order : List ℕ) → IsFitting held.logs order → (run : List Step) → Explains held.logs order run → EachOf SendsLedTo run
+  led_of firsts order fits run so = firsts_lead (findings_for held.logs) order all_true (asked_of order fits) all_first run (run_of order run so)
+    where
+      all_first : AreOfFirstEdition (findings_for held.logs)
+      all_first k d lt =
+          let own = finding_is held.logs k (get_or (findings_for held.logs) k d) (slice_get-get_or (findings_for held.logs) k d lt) in
+          subst (λ (found : Found). edition_of found.log ≡ First) own.2 (firsts own.0 (contained held.logs k own.0 own.1))
+
   one_graph_of : (order other : List ℕ) → IsFitting held.logs order → IsFitting held.logs other → (run other_run : List Step) → Explains held.logs order run → Explains held.logs other other_run
       → (edges other_edges : List Edge) → AreEdges run edges → AreEdges other_run other_edges → edges ≡ other_edges
   one_graph_of order other fits fits_too run other_run so so_too =
@@ -352,12 +361,3 @@ module _ (held : Contents) (case : IsCase held) (tied : tie_fault_of held ≡ No
 pub one_line : (held : Contents) → IsCase held → tie_fault_of held ≡ None → (given other_given : Option (List ℕ)) → IsFittingIfGiven held.logs given → IsFittingIfGiven held.logs other_given
     → (one other : Report) → IsReport held given one → IsReport held other_given other → line_in one ≡ line_in other
 one_line held case tied = one_line_of held case tied
-
-  -- where all logs are of versions 1 and 2, each step of the run sends what is led to
-  pub led_of : IsOfFirstEdition held → (order : List ℕ) → IsFitting held.logs order → (run : List Step) → Explains held.logs order run → EachOf SendsLedTo run
-  led_of firsts order fits run so = firsts_lead (findings_for held.logs) order all_true (asked_of order fits) all_first run (run_of order run so)
-    where
-      all_first : AreOfFirstEdition (findings_for held.logs)
-      all_first k d lt =
-          let own = finding_is held.logs k (get_or (findings_for held.logs) k d) (slice_get-get_or (findings_for held.logs) k d lt) in
-          subst (λ (found : Found). edition_of found.log ≡ First) own.2 (firsts own.0 (contained held.logs k own.0 own.1))

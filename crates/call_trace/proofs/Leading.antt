@@ -1,5 +1,5 @@
 -- Where all logs are of versions 1 and 2, each step of their run sends what is led to.
-use Rattle.std.proofs.Common.{◌≡◌, ◌⊎◌, inl, inr, refl, sym, ◌∙◌, ap, subst, ℕ, ◌==◌, List, [], ◌∷◌, reverse, Bool, true, false, ◌&&◌, Option, Some, None, if◌then◌else◌, is_some}
+use Rattle.std.proofs.Common.{◌≡◌, ◌⊎◌, inl, inr, refl, sym, ◌∙◌, ap, subst, ℕ, List, [], ◌∷◌, reverse, true, false, ◌&&◌, Option, Some, None, if◌then◌else◌, is_some}
 use Rattle.std.specs.Prelude.{IsSomeAnd}
 use Rattle.std.specs.List.{list_any}
 use Rattle.std.proofs.lemmas.Bool.{and_parts, eq-eqb, false≢true}
@@ -7,9 +7,8 @@ use Rattle.agree.specs.Points.{AtEach}
 use Rattle.agree.specs.Rows.{Row, log_of_vat}
 use Rattle.agree.proofs.Points.{at_each_before}
 use Rattle.decoded_records.specs.Past.{Past, Each, id}
-use Rattle.decoded_records.specs.Calls.{request_of, answered_by}
-use Rattle.decoded_records.specs.Questions.{call_at, call_of, is_late, opening}
-use Rattle.decoded_records.specs.Views.{view_of_target}
+use Rattle.decoded_records.specs.Calls.{answered_by}
+use Rattle.decoded_records.specs.Questions.{call_of}
 use Rattle.vat_view.specs.Walks.{turns, next, Leads, LeadsByTurns, here, onward, turned}
 use Rattle.vat_rules.specs.Audit.{Found}
 use Rattle.vat_rules.specs.Judged.{IsGood, IsGoodBy}
@@ -17,16 +16,15 @@ use Rattle.vat_rules.specs.OfResults.{ReturnsField, ReturnsFields, ReturnsTaken}
 use Rattle.vat_rules.specs.Types.{First}
 use Rattle.vat_rules.specs.Ways.{LeadsTo, LeadsOnTo}
 use Rattle.vat_rules.specs.declared.rule.Rule.TheVariants as rule
-use Rattle.rpc_view.specs.declared.message.Payload.{Payload}
 use Rattle.call_trace.specs.Findings.{AreOfFirstEdition, AreTrue, MayBeNamed}
 use Rattle.call_trace.specs.Named.{IsRunOf}
 use Rattle.call_trace.specs.Naming.{naming, call_named, cap_named}
 use Rattle.call_trace.specs.Part.{Says}
 use Rattle.call_trace.specs.Running.{steps_by, IsNamedRow, MayRun}
-use Rattle.call_trace.specs.Said.{caps_named, call_answered, caps_at_paths, message_of_record}
+use Rattle.call_trace.specs.Said.{call_answered, message_of_record}
 use Rattle.call_trace.specs.Taking.{row_of}
 use Rattle.call_trace.specs.Tells.{Tells}
-use Rattle.call_trace.specs.Types.{Results, Exception, Canceled, Elsewhere, TakeFrom, RpcMessage, Bootstrap, Call, Return, Finish, Resolve, Release, Disembargo, Abort, DecodedRecord, Host, Vow, Fulfil, Break, Make, Field, Deliver, Answer, AnswerBy, Fault, Wire, View, Name, Cap, Message, Step}
+use Rattle.call_trace.specs.Types.{Results, Exception, Canceled, Elsewhere, TakeFrom, RpcMessage, Bootstrap, Call, Return, Finish, Resolve, Release, Disembargo, Abort, DecodedRecord, Host, Field, Wire, View, Name, Cap, Message, Step}
 use Rattle.call_trace.specs.Within.{IsWithin, HasNameAfter}
 use Rattle.call_trace.proofs.Carrying.{named_next, passed, says_alike}
 use Rattle.call_trace.proofs.Firsts.{IsFirstNext, firsts_good}

@@ -30,7 +30,7 @@ use Rattle.call_trace.specs.Within.{IsWithin}
 use Rattle.call_trace.proofs.Asking.{call_in_use}
 use Rattle.call_trace.proofs.SendingOn.{IsHeard, sent_on}
 use Rattle.call_trace.proofs.AsSent.{read, heard, says_read, says_heard, taken_heard, taken_parts}
-use Rattle.call_trace.proofs.Naming.{then_is, mapped_is, call_keeps, cap_step}
+use Rattle.call_trace.proofs.Naming.{then_is, mapped_is, call_keeps}
 use Rattle.call_trace.proofs.Carried.{paired_at, each_after}
 use Rattle.call_trace.proofs.Tells.{read_return, return_said, call_is, in_time}
 use Rattle.call_trace.proofs.Within.{NamesFollow, StandsIn, stands_in, each_earlier, became_there}

@@ -1,5 +1,5 @@
 -- Where each step sends what is led to, what is received is led to as well.
-use Rattle.std.proofs.Common.{◌≡◌, inl, inr, sym, ◌∙◌, subst, ℕ, List, [], ◌∷◌, ◌++◌, Bool, true, append_assoc}
+use Rattle.std.proofs.Common.{◌≡◌, inl, inr, sym, ◌∙◌, subst, ℕ, List, [], ◌∷◌, ◌++◌, true, append_assoc}
 use Rattle.std.specs.List.{AllByRecursion, list_any}
 use Rattle.std.proofs.lemmas.Bool.{and_parts, false≢true}
 use Rattle.run_model.specs.Types.{Name, Cap, FieldOf, Message, Return, Taken, Resolve, Step, Send, Receive}

@@ -9,6 +9,7 @@ use Rattle.vat_log.specs.Log.{Log}
 use Rattle.decoded_records.specs.Past.{Each}
 use Rattle.vat_rules.specs.Audit.{Found, IsTrueOf, reads_by, edition_of}
 use Rattle.vat_rules.specs.LogFacts.{Told}
+use Rattle.vat_rules.specs.Types.{First}
 use Rattle.vat_rules.specs.Events.{Reader}
 use Rattle.vat_rules.specs.Telling.{told_of}
 use Rattle.vat_rules.specs.declared.rule.Rule.{Rule as RuleType}
@@ -22,15 +23,17 @@ use Rattle.link_check.proofs.Faults.{one_outcome as one_link_outcome, length_pre
 use Rattle.merge_order.specs.Fits.{IsFitting}
 use Rattle.merge_order.specs.declared.order_check.OrderFinding.TheVariants.{Fits, Fails}
 use Rattle.merge_order.proofs.Steps.{finding_fits}
-use Rattle.run_model.specs.Steps.{vat_of}
+use Rattle.run_model.specs.Led.{SendsLedTo}
+use Rattle.run_model.specs.Steps.{vat_of, EachOf}
 use Rattle.run_model.specs.declared.step.Step.{Step}
 use Rattle.run_model.specs.Edges.{AreEdges, Edge}
 use Rattle.run_model.specs.Early.{IsOrderFault}
 use Rattle.call_trace.specs.Balance.{IsBalanced}
-use Rattle.call_trace.specs.Findings.{AreEnds, AreTrue, logs_of, MayBeNamed}
+use Rattle.call_trace.specs.Findings.{AreEnds, AreOfFirstEdition, AreTrue, logs_of, MayBeNamed}
 use Rattle.call_trace.specs.InLife.{UsesLives}
 use Rattle.call_trace.specs.Named.{past_of, taken_before, AtEachPoint, IsRunOf}
 use Rattle.call_trace.specs.Part.{IsPart}
+use Rattle.call_trace.proofs.Leading.{firsts_lead}
 use Rattle.call_trace.proofs.Orders.{one_order_fault, one_list_of_edges}
 use Rattle.call_trace.proofs.Single.{one_run}
 use Rattle.case_book.specs.Case.{Contents, IsCase}
@@ -39,6 +42,7 @@ use Rattle.case_book.specs.Pieces.{IsComparisonOf}
 use Rattle.case_book.specs.declared.link.Link.{Link}
 use Rattle.audit_core.specs.Headline.{Explains}
 use Rattle.audit_core.specs.Report.{IsGoodLog, AreGoodEnds, IsFirstBad, IsFirstBroken, IsGoodLink, AreGoodLogs, IsGoodCase, IsEarlyAt, IsYes, FailsAt, HasNoOrder, IsReport, line_in, IsFittingIfGiven, HoldsOfEach, IsGoodFinding}
+use Rattle.audit_core.specs.Versions.{IsOfFirstEdition}
 use Rattle.audit_core.specs.Glue.{line_of}
 use Rattle.case_report.specs.declared.report.Breach.TheVariants.{Rule, Order}
 use Rattle.case_report.specs.declared.report.Report.{Report}
@@ -217,6 +221,15 @@ module _ (held : Contents) (case : IsCase held) (tied : tie_fault_of held ≡ No
 
   pub one_run_of : (order : List ℕ) → IsFitting held.logs order → (run other : List Step) → Explains held.logs order run → Explains held.logs order other → run ≡ other
   one_run_of order fits run other so so_too = one_run (findings_for held.logs) order all_true (asked_of order fits) run other (run_of order run so) (run_of order other so_too)
+
+  -- where all logs are of versions 1 and 2, each step of the run sends what is led to
+  pub led_of : IsOfFirstEdition held → (order : List ℕ) → IsFitting held.logs order → (run : List Step) → Explains held.logs order run → EachOf SendsLedTo run
+  led_of firsts order fits run so = firsts_lead (findings_for held.logs) order all_true (asked_of order fits) all_first run (run_of order run so)
+    where
+      all_first : AreOfFirstEdition (findings_for held.logs)
+      all_first k d lt =
+          let own = finding_is held.logs k (get_or (findings_for held.logs) k d) (slice_get-get_or (findings_for held.logs) k d lt) in
+          subst (λ (found : Found). edition_of found.log ≡ First) own.2 (firsts own.0 (contained held.logs k own.0 own.1))
 
   one_graph_of : (order other : List ℕ) → IsFitting held.logs order → IsFitting held.logs other → (run other_run : List Step) → Explains held.logs order run → Explains held.logs other other_run
       → (edges other_edges : List Edge) → AreEdges run edges → AreEdges other_run other_edges → edges ≡ other_edges

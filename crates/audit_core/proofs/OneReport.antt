@@ -6,15 +6,18 @@ use Rattle.vat_rules.specs.declared.outcome.Outcome.TheVariants.{Broken, Outside
 use Rattle.merge_order.specs.Fits.{Part, after, begin, IsFitting, TakesLeastFrom}
 use Rattle.merge_order.specs.declared.order_check.OrderFinding.TheVariants.{Fails}
 use Rattle.merge_order.proofs.Greedy.{none_left}
+use Rattle.run_model.specs.Led.{SendsLedTo}
+use Rattle.run_model.specs.Steps.{EachOf}
 use Rattle.run_model.specs.declared.step.Step.{Step}
 use Rattle.case_book.specs.Case.{Contents, IsCase}
 use Rattle.case_book.specs.Ties.{tie_fault_of}
 use Rattle.audit_core.specs.Headline.{Explains}
 use Rattle.audit_core.specs.Report.{IsGoodCase, IsOrderFor, FailsAt, HasNoOrder, IsReport, line_in, IsFittingIfGiven}
+use Rattle.audit_core.specs.Versions.{IsOfFirstEdition}
 use Rattle.case_report.specs.declared.report.Breach.TheVariants.{Rule, Order}
 use Rattle.case_report.specs.declared.report.Report.{Report}
 use Rattle.case_report.specs.declared.report.Report.TheVariants as report
-use Rattle.audit_core.proofs.OneLine.{no_bad_log, no_bad_link, broken_is_bad, outside_is_bad, fails_not, bad_line, broken_line, early_line, yes_line, none_line, one_run_of}
+use Rattle.audit_core.proofs.OneLine.{no_bad_log, no_bad_link, broken_is_bad, outside_is_bad, fails_not, bad_line, broken_line, early_line, yes_line, none_line, one_run_of, led_of}
 
 -- ---- the order by which a case is judged is one
 
@@ -136,3 +139,8 @@ same_report held case tied = one_report_of held case tied
 pub one_run_by : (held : Contents) → IsCase held → tie_fault_of held ≡ None → IsGoodCase held → (order : List ℕ) → IsFitting held.logs order → (run other : List Step) → Explains held.logs order run
     → Explains held.logs order other → run ≡ other
 one_run_by held case tied good order fits = one_run_of held case tied good order fits
+
+-- in the run of a yes whose logs are all of versions 1 and 2 each step sends what is led to
+pub yes_leads : (held : Contents) → IsCase held → tie_fault_of held ≡ None → IsOfFirstEdition held → (given : Option (List ℕ)) (vats records delivered under_way : ℕ) (run : List Step)
+    → IsReport held given (report.Yes vats records delivered under_way run) → EachOf SendsLedTo run
+yes_leads held case tied firsts given vats records delivered under_way run is = led_of held case tied is.0 firsts is.1.order is.1.fits run is.1.headline.explained

@@ -3,6 +3,8 @@
 ghost use Rattle.std.specs.Prelude.{◌≡◌, List, ℕ, Option, None, Bool, map, if◌then◌else◌};
 ghost use Rattle.merge_order.specs.Fits.{IsFitting};
 ghost use Rattle.run_model.specs.Edges.{AreEdges, Edge};
+ghost use Rattle.run_model.specs.Led.{SendsLedTo};
+ghost use Rattle.run_model.specs.Steps.{EachOf};
 ghost use Rattle.run_model.specs.declared.step.Step.{Step};
 ghost use Rattle.call_trace.specs.Findings.{logs_of, MayBeNamed};
 ghost use Rattle.case_book.specs.Books.{AllFound};
@@ -10,7 +12,7 @@ ghost use Rattle.case_book.specs.Case.{Contents, IsCase};
 ghost use Rattle.case_book.specs.Ties.{tie_fault_of};
 ghost use Rattle.audit_core.specs.Headline.{Explains};
 ghost use Rattle.audit_core.specs.Report.{IsReport, IsGoodCase, IsFittingIfGiven, line_in, AreGoodFindings};
-ghost use Rattle.audit_core.specs.Versions.{AreSameButVersions, with_raised};
+ghost use Rattle.audit_core.specs.Versions.{AreSameButVersions, IsOfFirstEdition, with_raised};
 ghost use Rattle.vat_log.specs.Log.{Log};
 ghost use Rattle.vat_log.specs.Migrated.{migrated};
 ghost use Rattle.case_report.specs.declared.report.Report.{Report};
@@ -105,4 +107,13 @@ pub fn raising_keeps_a_yes()
         (Yes other_vats other_records other_delivered other_under_way other_run)
         → (edges other_edges : List Edge) → AreEdges run edges → AreEdges other_run other_edges
         → edges ≡ other_edges }
+{}
+
+/// A yes for logs that are all of versions 1 and 2 says more: each step of its run sends what is led to, and not only what
+/// is one with it ([`call_trace::first_editions_lead`]).
+pub fn a_yes_of_first_editions_leads()
+    ensures { (held : Contents) → IsCase held → tie_fault_of held ≡ None → IsOfFirstEdition held
+        → (given : Option (List ℕ)) (vats records delivered under_way : ℕ) (run : List Step)
+        → IsReport held given (Yes vats records delivered under_way run)
+        → EachOf SendsLedTo run }
 {}

@@ -9,7 +9,8 @@
 //! findings of a case and an order that fits are such as name a run ([`good_findings_name_a_run`]), a case has one report by
 //! an order ([`a_case_has_one_report`]), also with logs migrated ([`versions_change_nothing`]), and one line, whichever order fits
 //! ([`a_case_has_one_line`]), and one graph ([`a_case_has_one_graph`]); and where it says yes, it says the same yes with logs
-//! raised ([`raising_keeps_a_yes`]).
+//! raised ([`raising_keeps_a_yes`]), and more of the run where all logs are of versions 1 and 2
+//! ([`a_yes_of_first_editions_leads`]).
 #![tactic(auto)]
 
 mod auditing;
@@ -31,8 +32,9 @@ pub use found_run::run_of_findings;
 pub use gate::Gate;
 pub use judging::{judge, judge_unordered};
 pub use laws::{
-    a_case_has_one_graph, a_case_has_one_line, a_case_has_one_report, good_findings_name_a_run,
-    raising_keeps_a_yes, versions_change_nothing,
+    a_case_has_one_graph, a_case_has_one_line, a_case_has_one_report,
+    a_yes_of_first_editions_leads, good_findings_name_a_run, raising_keeps_a_yes,
+    versions_change_nothing,
 };
 pub use log_count::count_in_log;
 pub use with_findings::audit_with_findings;

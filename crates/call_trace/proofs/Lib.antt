@@ -29,6 +29,8 @@ pub mod Good
 pub mod Reordering
 pub mod Orders
 pub mod Single
+pub mod Firsts
+pub mod Leading
 pub mod Noting
 pub mod Behind
 pub mod Early

@@ -28,6 +28,7 @@ use Rattle.call_trace.specs.Taking.{row_of}
 use Rattle.call_trace.specs.Taking.{steps_counted_by as turns_of}
 use Rattle.call_trace.specs.Types.{RpcMessage, DecodedRecord, Wire, Message, Step}
 use Rattle.call_trace.proofs.Carrying.{apart_from, passed, IsAlike, there_too, named_next, log_here, log_there, comes_next, are_met}
+use Rattle.call_trace.proofs.Reading.{IsGoodRecord}
 use Rattle.call_trace.proofs.Sharing.{found_in, taken_at, stored_at, sends_it, receives_it, all_good, fits, shared}
 use Rattle.call_trace.proofs.Taking.{log_taken}
 use Rattle.run_model.specs.Links.{IsEnd, IsLinked, other_user, are_one}
@@ -52,15 +53,16 @@ record IsUsing (findings : List Found) (k v : ℕ) : Type 0 where
   pub own : finding.log.vat ≡ v
   pub used : IsTrue (uses k finding.log)
 
-some_same : {A : Type 0} (o : Option A) (x y : A) → o ≡ Some x → o ≡ Some y → x ≡ y
+pub some_same : {A : Type 0} (o : Option A) (x y : A) → o ≡ Some x → o ≡ Some y → x ≡ y
 some_same o x y h g = let same : Some x ≡ Some y = sym h ∙ g in cc
 
-ok_same : (r : Result DecodedRecord Why) (x y : DecodedRecord) → r ≡ Ok x → r ≡ Ok y → x ≡ y
+pub ok_same : (r : Result DecodedRecord Why) (x y : DecodedRecord) → r ≡ Ok x → r ≡ Ok y → x ≡ y
 ok_same r x y h g = let same : ◌≡◌ {A = Result DecodedRecord Why} (Ok x) (Ok y) = sym h ∙ g in cc
 
 module _ (findings : List Found) (order : List ℕ) (true_all : AreTrue findings) (asked : MayBeNamed findings order) where
-  goods : AtEach IsGoodNext (row_of findings order)
-  goods before r p =
+  -- what each record of a log is after those before it, each record of the row is after those of its vat
+  pub each_next : (P : Past → DecodedRecord → Type 0) → ((f : Found) → Contains findings f → (i : ℕ) (r : IsGoodRecord f i) → P (past_before f i) r.event) → AtEach (λ before r. P (log_of_vat r.0 before) r.1) (row_of findings order)
+  each_next P so before r p =
       let t = taken_at findings (reverse order) r before p in
       let s = stored_at findings t.vat t.before r.1 t.next in
       let f = s.finding in
@@ -71,7 +73,10 @@ module _ (findings : List Found) (order : List ℕ) (true_all : AreTrue findings
       let event = ok_same (event_of (reads_within f.limits) s.stored) g.event r.1 (ap (event_of (reads_within f.limits)) (sym body) ∙ g.reads) s.reads in
       let log : past_before f i ≡ log_of_vat r.0 before =
       sym (log_taken findings t.vat f s.found t.before) ∙ ap₂ (λ v row. log_of_vat v row) (sym t.own) t.earlier in
-      subst (λ es. IsGood es r.1) log (subst (IsGood (past_before f i)) event g.good)
+      subst (λ es. P es r.1) log (subst (P (past_before f i)) event (so f at.1 i g))
+
+  goods : AtEach IsGoodNext (row_of findings order)
+  goods = each_next IsGood (λ f there i r. r.good)
 
   using : (k v : ℕ) → IsUser k v (row_of findings order) → IsUsing findings k v
   using k v (before, e, p, passes) =

@@ -24,11 +24,11 @@ use Rattle.call_trace.specs.Placed.{AsksFor, IsThere}
 use Rattle.call_trace.specs.Within.{IsWithin}
 use Rattle.call_trace.proofs.AsSent.{read, heard, says_read, says_heard}
 use Rattle.call_trace.proofs.Naming.{mapped_is, then_is, call_keeps, cap_keeps}
-use Rattle.call_trace.proofs.Within.{heads, tails, each_earlier, ones_meet_there}
+use Rattle.call_trace.proofs.Within.{NamesFollow, heads, tails, each_earlier, ones_meet_there}
 use Rattle.call_trace.proofs.Using.{known_named, target_known}
 use Rattle.run_model.specs.Leads.{Meets}
 use Rattle.run_model.specs.Leads.{Leads as RunLeads}
-use Rattle.run_model.specs.Legal.{IsLegal, MayCome, begins_call, arrives}
+use Rattle.run_model.specs.Legal.{IsLegal, MayCome, MaySend, begins_call, arrives}
 use Rattle.run_model.specs.Links.{IsLinked}
 use Rattle.run_model.specs.Places.{Asked, asked_by_parts, Move, brings_it, takes_it_away, leaves_it, move_of, asked_after, at_vat}
 use Rattle.run_model.specs.Steps.{is_same_call, call, vat_of}
@@ -609,11 +609,11 @@ led_one es None to led = absurd led
 led_one es (Some a) None led = absurd led
 led_one es (Some a) (Some b) led = (b, led, stay)
 
--- a call's goal is one in the run with what it is one with in the log
-goal_meets : (v : ℕ) (es : Past) (steps before : List Step) → IsWithin v es steps before → (here : Asked) (o : Option AskedOf) (to : Option View) (y : Cap) →
-    IsSomeAnd o (AsksFor (cap_named v es steps) here) → option_and_then (cap_named v es steps) to ≡ Some y → AreOneThere es (option_and_then (λ a. a.goal) o) to → Meets before here.goal y
-goal_meets v es steps before w here None to y said to_named one = absurd said
-goal_meets v es steps before w here (Some a) to y said to_named one = ones_meet_there v es steps before w a.goal to here.goal y said.0 to_named one
+-- where a call's goal and a view are so related in the log, so are their names in the run
+goal_so : (names : View → Option Cap) (S : Option View → Option View → Type 0) (R : Cap → Cap → Type 0) → NamesFollow names S R → (here : Asked) (o : Option AskedOf) (to : Option View) (y : Cap) →
+    IsSomeAnd o (AsksFor names here) → option_and_then names to ≡ Some y → S (option_and_then (λ a. a.goal) o) to → R here.goal y
+goal_so names S R follow here None to y said to_named so = absurd said
+goal_so names S R follow here (Some a) to y said to_named so = follow a.goal to here.goal y said.0 to_named so
 
 pub delivery_may_come : (v : ℕ) (es : Past) (steps before : List Step) (c object : ℕ) (s : Step) → IsWithin v es steps before → Each IsGood es → IsGood es (Deliver c object) →
     Says v es steps (Deliver c object) s → MayCome before s
@@ -621,35 +621,57 @@ delivery_may_come v es steps before c object s w goods good says =
     let name = mapped_is (λ name. step.Deliver v name object) (call_named v es steps c) s says in
     let t = is_there v es steps before w goods c (good rule.Here) in
     let one = led_one es (goal_of c es) (Some (Object object)) (good rule.Goal) in
-    let leads = meets_object before t.here.goal v object (goal_meets v es steps before w t.here (request_of c es) (Some (Object object)) (cap.Object v object) t.asks refl one) in
+    let meets = goal_so (cap_named v es steps) (AreOneThere es) (Meets before) (ones_meet_there v es steps before w) t.here (request_of c es) (Some (Object object)) (cap.Object v object) t.asks refl one in
+    let leads = meets_object before t.here.goal v object meets in
     subst (MayCome before) name.2
     (subst (λ n. IsSomeAnd (at_vat before n v) (λ asked. RunLeads before asked.goal (cap.Object v object))) (one_answer t.name name.0 (call_named v es steps c) t.named name.1)
     (subst (λ o. IsSomeAnd o (λ asked. RunLeads before asked.goal (cap.Object v object))) (sym t.there) leads))
 
--- what GOAL says of a Call that is sent, where it asks for this
-abbrev GoesOn : Past → Option View → ℕ → ℕ → Option AskedOf → Type 0
-GoesOn es to interface method o = IsSomeAnd o (λ a. AreOneThere es a.goal to × (interface ≡ a.interface) × (method ≡ a.method))
+-- what GOAL says of a Call that is sent, where it asks for this: its goal and the target are so related
+abbrev pub GoesSo : (Option View → Option View → Type 0) → Option View → ℕ → ℕ → Option AskedOf → Type 0
+GoesSo S to interface method o = IsSomeAnd o (λ a. S a.goal to × (interface ≡ a.interface) × (method ≡ a.method))
 
-goes_by : (names : View → Option Cap) (es : Past) (here : Asked) (interface method : ℕ) (to : Option View) (o : Option AskedOf) → IsSomeAnd o (AsksFor names here) →
-    GoesOn es to interface method o →
-    AreOneThere es (option_and_then (λ a. a.goal) o) to × (interface ≡ here.interface) × (method ≡ here.method)
-goes_by names es here interface method to None said goal = absurd said
-goes_by names es here interface method to (Some a) said goal = (goal.0, goal.1 ∙ sym said.1, goal.2 ∙ sym said.2)
+goes_by : (names : View → Option Cap) (S : Option View → Option View → Type 0) (here : Asked) (interface method : ℕ) (to : Option View) (o : Option AskedOf) → IsSomeAnd o (AsksFor names here) →
+    GoesSo S to interface method o → S (option_and_then (λ a. a.goal) o) to × (interface ≡ here.interface) × (method ≡ here.method)
+goes_by names S here interface method to None said goal = absurd said
+goes_by names S here interface method to (Some a) said goal = (goal.0, goal.1 ∙ sym said.1, goal.2 ∙ sym said.2)
+
+-- a message is a Call of a call that is at the vat, whose goal there and the target are so related, and interface and method are
+-- the call's
+pub record IsSentOn (v interface method : ℕ) (R : Cap → Cap → Type 0) (before : List Step) (m : Message) : Type 0 where
+  pub call : Name
+  pub to : Cap
+  pub caps : List Cap
+  pub is : message.Call call to interface method caps ≡ m
+  pub goal : IsSomeAnd (at_vat before call v) (λ asked. R asked.goal to × (interface ≡ asked.interface) × (method ≡ asked.method))
+
+-- as the goal and the target of a Call that is sent are related in the log, so they are in the run
+pub call_sent_on : (v : ℕ) (es : Past) (steps before : List Step) → IsWithin v es steps before → Each IsGood es → (S : Option View → Option View → Type 0) (R : Cap → Cap → Type 0) → NamesFollow (cap_named v es steps) S R →
+    (k c : ℕ) (rs : List ℕ) (head : CallHead) (target : Target) (params : Payload) (s : Step) → IsGood es (Wire true k c rs (Call head target params)) →
+    GoesSo S (view_of_target es (Wire true k c rs (Call head target params))) head.interface head.method (request_of c es) → (M : Message) →
+    message_of_record (naming v (Wire true k c rs (Call head target params) ∷ es) (s ∷ steps)) es (Wire true k c rs (Call head target params)) ≡ Some M → IsSentOn v head.interface head.method R before M
+call_sent_on v es steps before w goods S R follow k c rs head target params s good asks M said =
+    let e = Wire true k c rs (Call head target params) in
+    let names = naming v (e ∷ es) (s ∷ steps) in
+    let m = call_said head.interface head.method (caps_named names es e) (names.call c) (option_and_then names.cap (view_of_target es e)) M said in
+    let t = is_there v es steps before w goods c (good rule.Here) in
+    let goal = goes_by (cap_named v es steps) S t.here head.interface head.method (view_of_target es e) (request_of c es) t.asks asks in
+    let known = target_known es k c rs head target params (all_sound (e ∷ es) (good, goods)) in
+    let targeted = known_named v es steps before w e s (good rule.Ref) (view_of_target es e) known m.to m.targeted in
+    let so = goal_so (cap_named v es steps) S R follow t.here (request_of c es) (view_of_target es e) m.to t.asks targeted goal.0 in
+    let P : Asked → Type 0 = λ asked. R asked.goal m.to × (head.interface ≡ asked.interface) × (head.method ≡ asked.method) in
+    record {
+      call = m.call;
+      to = m.to;
+      caps = m.caps;
+      is = sym m.is;
+      goal = subst (λ n. IsSomeAnd (at_vat before n v) P) (one_answer t.name m.call (call_named v es steps c) t.named m.named) (subst (λ o. IsSomeAnd o P) (sym t.there) (so, goal.1, goal.2));
+    }
 
 pub sent_call_may_come : (v : ℕ) (es : Past) (steps before : List Step) (k c : ℕ) (rs : List ℕ) (head : CallHead) (target : Target) (params : Payload) (s : Step) →
     IsWithin v es steps before → Each IsGood es → IsGood es (Wire true k c rs (Call head target params)) → Says v es steps (Wire true k c rs (Call head target params)) s → MayCome before s
 sent_call_may_come v es steps before k c rs head target params s w goods good says =
     let e = Wire true k c rs (Call head target params) in
-    let names = naming v (e ∷ es) (s ∷ steps) in
-    let sent = mapped_is (λ m. step.Send v k m) (message_of_record names es e) s says in
-    let m = call_said head.interface head.method (caps_named names es e) (names.call c) (option_and_then names.cap (view_of_target es e)) sent.0 sent.1 in
-    let is : step.Send v k (message.Call m.call m.to head.interface head.method m.caps) ≡ s = ap (λ m. step.Send v k m) (sym m.is) ∙ sent.2 in
-    let t = is_there v es steps before w goods c (good rule.Here) in
-    let goal = goes_by (cap_named v es steps) es t.here head.interface head.method (view_of_target es e) (request_of c es) t.asks (good rule.Goal) in
-    let known = target_known es k c rs head target params (all_sound (e ∷ es) (good, goods)) in
-    let targeted = known_named v es steps before w e s (good rule.Ref) (view_of_target es e) known m.to m.targeted in
-    let meets = goal_meets v es steps before w t.here (request_of c es) (view_of_target es e) m.to t.asks targeted goal.0 in
-    let P : Asked → Type 0 = λ asked. Meets before asked.goal m.to × (head.interface ≡ asked.interface) × (head.method ≡ asked.method) in
-    subst (MayCome before) is
-    (subst (λ n. IsSomeAnd (at_vat before n v) P) (one_answer t.name m.call (call_named v es steps c) t.named m.named)
-    (subst (λ o. IsSomeAnd o P) (sym t.there) (meets, goal.1, goal.2)))
+    let sent = mapped_is (λ m. step.Send v k m) (message_of_record (naming v (e ∷ es) (s ∷ steps)) es e) s says in
+    let m = call_sent_on v es steps before w goods (AreOneThere es) (Meets before) (ones_meet_there v es steps before w) k c rs head target params s good (good rule.Goal) sent.0 sent.1 in
+    subst (MayCome before) sent.2 (subst (MaySend before v) m.is m.goal)

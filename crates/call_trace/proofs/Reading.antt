@@ -45,7 +45,7 @@ pub record IsGoodRecord (f : Found) (i : ℕ) : Type 0 where
 abbrev pub AllRecordsGood : Found → Type 0
 AllRecordsGood f = (i : ℕ) → i < length f.log.records → IsGoodRecord f i
 
-there_is : (P : Body → Type 0) (o : Option Body) → IsSomeAnd o P → (b : Body) × (o ≡ Some b) × P b
+pub there_is : (P : Body → Type 0) (o : Option Body) → IsSomeAnd o P → (b : Body) × (o ≡ Some b) × P b
 there_is P (Some b) p = (b, refl, p)
 there_is P None p = absurd p
 

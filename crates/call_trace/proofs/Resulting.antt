@@ -30,10 +30,10 @@ use Rattle.call_trace.specs.Within.{IsWithin}
 use Rattle.call_trace.proofs.Asking.{call_in_use}
 use Rattle.call_trace.proofs.SendingOn.{IsHeard, sent_on}
 use Rattle.call_trace.proofs.AsSent.{read, heard, says_read, says_heard, taken_heard, taken_parts}
-use Rattle.call_trace.proofs.Naming.{then_is, mapped_is, call_keeps, cap_step}
+use Rattle.call_trace.proofs.Naming.{then_is, mapped_is, call_keeps}
 use Rattle.call_trace.proofs.Carried.{paired_at, each_after}
 use Rattle.call_trace.proofs.Tells.{read_return, return_said, call_is, in_time}
-use Rattle.call_trace.proofs.Within.{StandsIn, stands_in, each_earlier, became_there}
+use Rattle.call_trace.proofs.Within.{NamesFollow, StandsIn, stands_in, each_earlier, became_there}
 use Rattle.call_trace.proofs.Using.{number_known, described_known, known_named}
 use Rattle.call_trace.proofs.Sayable.{cap_at_is, unresolved_lives}
 use Rattle.run_model.specs.Legal.{is_present, answers_call, hands, sends_on, passes_back, is_passed_back, Became, IsLegal, MayCome, MaySend}
@@ -265,7 +265,7 @@ given_at ask (e ∷ before) x h = at (ask before e) refl h (given_at ask before 
     at (Some y) n h rest = ([], e, before, refl, n ∙ h)
 
 -- the other call was asked of this vat where the first was passed back
-abbrev IsHandedOn : List Step → Past → ℕ → Name → Name → Type 0
+abbrev pub IsHandedOn : List Step → Past → ℕ → Name → Name → Type 0
 IsHandedOn before es by name other = (list_any (hands name other) before ≡ true) ⊎ (((is_same_call name other && is_passed_back name before) ≡ true) × IsHeard es by)
 
 told_on : (before : List Step) (es later : Past) (e : DecodedRecord) (past : Past) (by : ℕ) (name other : Name) (s : Step) → EachStep IsLegal before → EachStep IsLinked before → StandsIn before s → es ≡ later ++ e ∷ past →
@@ -277,7 +277,7 @@ told_on before es later e past by name other s legal linked at whole (inr told) 
       | inr back ↦ inr (back, (told.1.0, told.1.1, e ∷ past, (later, whole), told.1.2))
     ]
 
-answered_on : (v : ℕ) (es : Past) (steps before : List Step) → IsWithin v es steps before → (call by : ℕ) (name other : Name) → answered_by call es ≡ Some by → call_named v es steps call ≡ Some name →
+pub answered_on : (v : ℕ) (es : Past) (steps before : List Step) → IsWithin v es steps before → (call by : ℕ) (name other : Name) → answered_by call es ≡ Some by → call_named v es steps call ≡ Some name →
     call_named v es steps by ≡ Some other → IsHandedOn before es by name other
 answered_on v es steps before w call by name other answered named by_named =
     let t = given_at (answerer call) es by answered in
@@ -334,39 +334,36 @@ resolved_to : (own : Bool) (es : Past) (from to : Option View) → ResolvesTo La
 resolved_to own es from to (inl led) = led_on es from to led
 resolved_to own es from to (inr became) = became.1
 
-module _ (v : ℕ) (es : Past) (steps before : List Step) (w : IsWithin v es steps before) (good : Each IsGood es) (k c : ℕ) (rs : List ℕ) (m : RpcMessage) (s : Step) (g : IsGood es (Wire true k c rs m)) (late : is_late es (Wire true k c rs m) ≡ false) where
+module _ (v : ℕ) (es : Past) (steps before : List Step) (w : IsWithin v es steps before) (good : Each IsGood es) (S : Option View → Option View → Type 0) (R : Cap → Cap → Type 0)
+    (follow : NamesFollow (cap_named v es steps) S R) (k c : ℕ) (rs : List ℕ) (m : RpcMessage) (s : Step) (g : IsGood es (Wire true k c rs m)) (late : is_late es (Wire true k c rs m) ≡ false) where
   abbrev telling : DecodedRecord
   telling = Wire true k c rs m
 
-  -- where a view became that of a descriptor, its name became the cap at that place
-  described_became : (from : Option View) (x : Cap) (place : ℕ) (y : Cap) → option_and_then (cap_named v es steps) from ≡ Some x → Describes (naming v (telling ∷ es) (s ∷ steps)) es telling place y →
-      (is_cap_at (slice_get (descriptors telling) place) ≡ true → BecameThere es from (view_of_descriptor es telling place)) → Became before x y
-  described_became from x place y named d keeps =
+  -- where a view and that of a descriptor are so related, so are its name and the cap at that place
+  pub described_so : (from : Option View) (x : Cap) (place : ℕ) (y : Cap) → option_and_then (cap_named v es steps) from ≡ Some x → Describes (naming v (telling ∷ es) (s ∷ steps)) es telling place y →
+      (is_cap_at (slice_get (descriptors telling) place) ≡ true → S from (view_of_descriptor es telling place)) → R x y
+  described_so from x place y named d so =
       let known = described_known es k c rs m (all_sound (telling ∷ es) (g, good)) late place d.0 d.1 in
       let there = known_named v es steps before w telling s (g rule.Ref) (Some d.0) known y d.2 in
-      became_there v es steps before w from (Some d.0) x y named there (subst (BecameThere es from) d.1 (keeps d.3))
+      follow from (Some d.0) x y named there (subst (S from) d.1 (so d.3))
 
-  results_became : (call : ℕ) (name : Name) (cs : List Cap) (fields : List (List ℕ × ℕ)) → call_named v es steps call ≡ Some name → caps_named (naming v (telling ∷ es) (s ∷ steps)) es telling ≡ Some cs →
-      AllByRecursion (ReturnsField Later es telling call) fields → AllByRecursion (λ result. Became before (cap.Field name result.0) result.1) (caps_at_paths cs fields)
-  results_became call name cs [] named all rules = tt
-  results_became call name cs (field ∷ fields) named all rules = at (cap_at field.1 cs) refl (results_became call name cs fields named all rules.1)
-    where
-      at : (o : Option Cap) → cap_at field.1 cs ≡ o → AllByRecursion (λ result. Became before (cap.Field name result.0) result.1) (caps_at_paths cs fields) →
-          AllByRecursion (λ (result : List ℕ × Cap). Became before (cap.Field name result.0) result.1) (cons_option (option_map (λ c. (field.0, c)) o) (caps_at_paths cs fields))
-      at None h rest = rest
-      at (Some y) h rest =
-          let there = cap_at_is field.1 cs y h in
-          let d = cap_there (naming v (telling ∷ es) (s ∷ steps)) es telling field.1 cs y all there.0 there.1 in
-          let from = Some (FieldOf call field.0) in
-          let own = is_own_number (slice_get (descriptors telling) field.1) in (
-            described_became from (cap.Field name field.0) field.1 y (ap (λ o. option_map (λ n. cap.Field n field.0) o) named) d
-                (λ caps. went_on own es from (view_of_descriptor es telling field.1) (rules.0 caps)),
-            rest,
-          )
+  module _ (call : ℕ) (name : Name) (cs : List Cap) (named : call_named v es steps call ≡ Some name) (all : caps_named (naming v (telling ∷ es) (s ∷ steps)) es telling ≡ Some cs) (P : List ℕ × ℕ → Type 0)
+      (rule_so : (field : List ℕ × ℕ) → P field → is_cap_at (slice_get (descriptors telling) field.1) ≡ true → S (Some (FieldOf call field.0)) (view_of_descriptor es telling field.1)) where
+    pub results_so : (fields : List (List ℕ × ℕ)) → AllByRecursion P fields → AllByRecursion (λ result. R (cap.Field name result.0) result.1) (caps_at_paths cs fields)
+    results_so [] rules = tt
+    results_so (field ∷ fields) rules = at (cap_at field.1 cs) refl (results_so fields rules.1)
+      where
+        at : (o : Option Cap) → cap_at field.1 cs ≡ o → AllByRecursion (λ result. R (cap.Field name result.0) result.1) (caps_at_paths cs fields) →
+            AllByRecursion (λ (result : List ℕ × Cap). R (cap.Field name result.0) result.1) (cons_option (option_map (λ c. (field.0, c)) o) (caps_at_paths cs fields))
+        at None h rest = rest
+        at (Some y) h rest =
+            let there = cap_at_is field.1 cs y h in
+            let d = cap_there (naming v (telling ∷ es) (s ∷ steps)) es telling field.1 cs y all there.0 there.1 in
+            (described_so (Some (FieldOf call field.0)) (cap.Field name field.0) field.1 y (ap (λ o. option_map (λ n. cap.Field n field.0) o) named) d (rule_so field rules.0), rest)
 
 -- ---- together
 
-and_then_there : {A : Type 0} (o : Option A) (P : A → Type 0) → IsSomeAnd o P → (x : A) × (o ≡ Some x) × P x
+pub and_then_there : {A : Type 0} (o : Option A) (P : A → Type 0) → IsSomeAnd o P → (x : A) × (o ≡ Some x) × P x
 and_then_there (Some x) P h = (x, refl, h)
 and_then_there None P h = absurd h
 
@@ -378,36 +375,71 @@ module _ (v : ℕ) (es : Past) (steps before : List Step) (w : IsWithin v es ste
   sent_is : (m : RpcMessage) (s : Step) → Says v es steps (Wire true k c rs m) s → (M : Message) × (message_of_record (naming v (Wire true k c rs m ∷ es) (s ∷ steps)) es (Wire true k c rs m) ≡ Some M) × (step.Send v k M ≡ s)
   sent_is m s says = mapped_is (λ M. step.Send v k M) (message_of_record (naming v (Wire true k c rs m ∷ es) (s ∷ steps)) es (Wire true k c rs m)) s says
 
-  module _ (head : ReturnHead) (payload : Payload) (s : Step) (g : IsGood es (Wire true k c rs (Return head (Results payload)))) where
+  module _ (head : ReturnHead) (payload : Payload) (s : Step) where
     abbrev giving : DecodedRecord
     giving = Wire true k c rs (Return head (Results payload))
 
     abbrev names : Naming
     names = naming v (giving ∷ es) (s ∷ steps)
 
-    results_sent : (late : Bool) → is_late es giving ≡ late → (M : Message) (name : Name) (call : ℕ) → call_at (opening (id k false head.answer) es) ≡ Some call → call_named v es steps call ≡ Some name →
-        say_return (is_late es giving) payload.fields name (caps_named names es giving) ≡ Some M → MaySend before v M
-    results_sent true late M name call asked named h =
-        let same : message.Late name ≡ M = some_same (sym (ap (λ b. say_return b payload.fields name (caps_named names es giving)) late) ∙ h) in subst (MaySend before v) same tt
-    results_sent false late M name call asked named h =
-        let told = return_said (is_late es giving) payload.fields name (caps_named names es giving) M late h in
+    -- what is so of each message that such a Return may say is so of the one that it says
+    module _ (Q : Message → Type 0) (if_late : (name : Name) → Q (message.Late name))
+        (if_timely : is_late es giving ≡ false → (name : Name) (call : ℕ) (cs : List Cap) → call_at (opening (id k false head.answer) es) ≡ Some call → call_named v es steps call ≡ Some name → caps_named names es giving ≡ Some cs →
+        Q (message.Return name (caps_at_paths cs payload.fields) cs)) where
+      results_said : (late : Bool) → is_late es giving ≡ late → (M : Message) (name : Name) (call : ℕ) → call_at (opening (id k false head.answer) es) ≡ Some call → call_named v es steps call ≡ Some name →
+          say_return (is_late es giving) payload.fields name (caps_named names es giving) ≡ Some M → Q M
+      results_said true late M name call asked named h =
+          let same : message.Late name ≡ M = some_same (sym (ap (λ b. say_return b payload.fields name (caps_named names es giving)) late) ∙ h) in subst Q same (if_late name)
+      results_said false late M name call asked named h =
+          let told = return_said (is_late es giving) payload.fields name (caps_named names es giving) M late h in subst Q (sym told.2) (if_timely late name call told.0 asked named told.1)
+
+      pub each_returned : (M : Message) → message_of_record names es giving ≡ Some M → Q M
+      each_returned M said =
+          let name = then_is (λ name. say_return (is_late es giving) payload.fields name (caps_named names es giving)) (call_answered names es k true head.answer) M said in
+          let asked = then_is names.call (call_of (id k false head.answer) es) name.0 name.1 in
+          results_said (is_late es giving) refl M name.0 asked.0 (call_here (is_over (id k false head.answer) es) (call_at (opening (id k false head.answer) es)) asked.0 asked.1) asked.2 name.2
+
+    results_may : IsGood es giving → is_late es giving ≡ false → (name : Name) (call : ℕ) (cs : List Cap) → call_at (opening (id k false head.answer) es) ≡ Some call → call_named v es steps call ≡ Some name →
+        caps_named names es giving ≡ Some cs → MaySend before v (message.Return name (caps_at_paths cs payload.fields) cs)
+    results_may g late name call cs asked named all =
         let known : ReturnsFields Later es giving payload.fields call = subst (λ o. IsSomeAnd o (ReturnsFields Later es giving payload.fields)) asked (g rule.Result late).1 in
-        let became = results_became v es steps before w good k c rs (Return head (Results payload)) s g late call name told.0 payload.fields named told.1 known.1 in
-        subst (MaySend before v) (sym told.2) (known_returned v es steps before w call name known.0 named, became)
+        let follow = became_there v es steps before w in (
+          known_returned v es steps before w call name known.0 named,
+          results_so v es steps before w good (BecameThere es) (Became before) follow k c rs (Return head (Results payload)) s g late call name cs named all (ReturnsField Later es giving call)
+              (λ field went caps. went_on (is_own_number (slice_get (descriptors giving) field.1)) es (Some (FieldOf call field.0)) (view_of_descriptor es giving field.1) (went caps)) payload.fields known.1,
+        )
 
-    results_come : Says v es steps giving s → MayCome before s
-    results_come says =
+    results_come : IsGood es giving → Says v es steps giving s → MayCome before s
+    results_come g says =
         let M = sent_is (Return head (Results payload)) s says in
-        let name = then_is (λ name. say_return (is_late es giving) payload.fields name (caps_named names es giving)) (call_answered names es k true head.answer) M.0 M.1 in
-        let asked = then_is names.call (call_of (id k false head.answer) es) name.0 name.1 in
-        subst (MayCome before) M.2 (results_sent (is_late es giving) refl M.0 name.0 asked.0 (call_here (is_over (id k false head.answer) es) (call_at (opening (id k false head.answer) es)) asked.0 asked.1) asked.2 name.2)
+        subst (MayCome before) M.2 (each_returned (MaySend before v) (λ name. tt) (results_may g) M.0 M.1)
 
-  module _ (head : ReturnHead) (n : ℕ) (s : Step) (g : IsGood es (Wire true k c rs (Return head (TakeFrom n)))) where
+  module _ (head : ReturnHead) (n : ℕ) (s : Step) where
     abbrev taking : DecodedRecord
     taking = Wire true k c rs (Return head (TakeFrom n))
 
     abbrev from : Option Name
     from = option_and_then (naming v (taking ∷ es) (s ∷ steps)).call (call_of (id k true n) es)
+
+    -- what is so of each message that such a Return may say is so of the one that it says
+    module _ (Q : Message → Type 0) (if_late : (name : Name) → Q (message.Late name))
+        (if_timely : is_late es taking ≡ false → (name other : Name) (call by : ℕ) → call_at (opening (id k false head.answer) es) ≡ Some call → call_named v es steps call ≡ Some name → call_of (id k true n) es ≡ Some by →
+        call_named v es steps by ≡ Some other → Q (message.Taken name other)) where
+      taken_said : (late : Bool) → is_late es taking ≡ late → (M : Message) (name : Name) (call : ℕ) → call_at (opening (id k false head.answer) es) ≡ Some call → call_named v es steps call ≡ Some name →
+          say_taken (is_late es taking) name from ≡ Some M → Q M
+      taken_said true late M name call asked named h =
+          let same : message.Late name ≡ M = some_same (sym (ap (λ b. say_taken b name from) late) ∙ h) in subst Q same (if_late name)
+      taken_said false late M name call asked named h =
+          let other = mapped_is (λ by. message.Taken name by) from M (sym (ap (λ b. say_taken b name from) late) ∙ h) in
+          let by = then_is (naming v (taking ∷ es) (s ∷ steps)).call (call_of (id k true n) es) other.0 other.1 in
+          subst Q other.2 (if_timely late name other.0 call by.0 asked named by.1 by.2)
+
+      pub each_taken : (M : Message) → message_of_record (naming v (taking ∷ es) (s ∷ steps)) es taking ≡ Some M → Q M
+      each_taken M said =
+          let names = naming v (taking ∷ es) (s ∷ steps) in
+          let name = then_is (λ name. say_taken (is_late es taking) name from) (call_answered names es k true head.answer) M said in
+          let asked = then_is names.call (call_of (id k false head.answer) es) name.0 name.1 in
+          taken_said (is_late es taking) refl M name.0 asked.0 (call_here (is_over (id k false head.answer) es) (call_at (opening (id k false head.answer) es)) asked.0 asked.1) asked.2 name.2
 
     -- a call that is passed back was sent on
     passed_may : (name other : Name) (by : ℕ) → is_same_call name other ≡ true → IsHeard es by → call_of (id k true n) es ≡ Some by → call_named v es steps by ≡ Some other → MaySend before v (message.Taken name other)
@@ -431,23 +463,11 @@ module _ (v : ℕ) (es : Past) (steps before : List Step) (w : IsWithin v es ste
         let names : name ≡ other = some_same (sym named ∙ ap (call_named v es steps) same ∙ by_named) in
         passed_may name other by (subst (λ d. is_same_call name d ≡ true) names (own_same name)) (k, head.answer, es, ([], refl), asked ∙ ap (λ c. Some c) same) stands by_named
 
-    taken_sent : (late : Bool) → is_late es taking ≡ late → (M : Message) (name : Name) (call : ℕ) → call_at (opening (id k false head.answer) es) ≡ Some call → call_named v es steps call ≡ Some name →
-        say_taken (is_late es taking) name from ≡ Some M → MaySend before v M
-    taken_sent true late M name call asked named h =
-        let same : message.Late name ≡ M = some_same (sym (ap (λ b. say_taken b name from) late) ∙ h) in subst (MaySend before v) same tt
-    taken_sent false late M name call asked named h =
-        let other = mapped_is (λ by. message.Taken name by) from M (sym (ap (λ b. say_taken b name from) late) ∙ h) in
-        let by = then_is (naming v (taking ∷ es) (s ∷ steps)).call (call_of (id k true n) es) other.0 other.1 in
-        let known : ReturnsTaken Later es (call_of (id k true n) es) call = subst (λ o. IsSomeAnd o (ReturnsTaken Later es (call_of (id k true n) es))) asked (g rule.Result late) in
-        subst (MaySend before v) other.2 (taken_may name other.0 call by.0 asked named by.1 by.2 known)
-
-    taken_comes : Says v es steps taking s → MayCome before s
-    taken_comes says =
-        let names = naming v (taking ∷ es) (s ∷ steps) in
+    taken_comes : IsGood es taking → Says v es steps taking s → MayCome before s
+    taken_comes g says =
         let M = sent_is (Return head (TakeFrom n)) s says in
-        let name = then_is (λ name. say_taken (is_late es taking) name from) (call_answered names es k true head.answer) M.0 M.1 in
-        let asked = then_is names.call (call_of (id k false head.answer) es) name.0 name.1 in
-        subst (MayCome before) M.2 (taken_sent (is_late es taking) refl M.0 name.0 asked.0 (call_here (is_over (id k false head.answer) es) (call_at (opening (id k false head.answer) es)) asked.0 asked.1) asked.2 name.2)
+        subst (MayCome before) M.2 (each_taken (MaySend before v) (λ name. tt) (λ late name other call by asked named stands by_named.
+        taken_may name other call by asked named stands by_named (subst (λ o. IsSomeAnd o (ReturnsTaken Later es (call_of (id k true n) es))) asked (g rule.Result late))) M.0 M.1)
 
   -- a message of which nothing is asked
   free_comes : (m : RpcMessage) (s : Step) (answer : Name → Message) → ((name : Name) → MaySend before v (answer name)) → (q : ℕ) → ((names : Naming) → message_of_record names es (Wire true k c rs m) ≡ option_map answer (call_answered names es k true q)) →
@@ -465,28 +485,42 @@ module _ (v : ℕ) (es : Past) (steps before : List Step) (w : IsWithin v es ste
   return_comes head Elsewhere s g says = free_comes (Return head Elsewhere) s message.Elsewhere (λ name. tt) head.answer (λ names. refl) says
   return_comes head (TakeFrom n) s g says = taken_comes head n s g says
 
-  promise_became : (n : ℕ) (resolution : Resolution) (s : Step) (promise : Cap) (cs : List Cap) → IsGood es (Wire true k c rs (Resolve n resolution)) →
-      promise_named (naming v (Wire true k c rs (Resolve n resolution) ∷ es) (s ∷ steps)) es k true n ≡ Some promise → caps_named (naming v (Wire true k c rs (Resolve n resolution) ∷ es) (s ∷ steps)) es (Wire true k c rs (Resolve n resolution)) ≡ Some cs →
-      (x : Cap) → slice_get cs 0 ≡ Some x → is_present x ≡ true → Became before promise x
-  promise_became n resolution s promise cs g named all x there is =
-      let e = Wire true k c rs (Resolve n resolution) in
-      let resolves = g rule.Resolve in
-      let from = view_of_number (id k true n) es in
-      let known = number_known es k true n (all_sound es good) (unresolved_lives (id k true n) es resolves.0) in
-      let own = is_own_number (slice_get (descriptors e) 0) in
-      described_became v es steps before w good k c rs (Resolve n resolution) s g refl from promise 0 x (known_named v es steps before w e s (g rule.Ref) from known promise named)
-      (cap_there (naming v (e ∷ es) (s ∷ steps)) es e 0 cs x all there is) (λ caps. resolved_to own es from (view_of_descriptor es e 0) (resolves.1 caps))
+  module _ (n : ℕ) (resolution : Resolution) (s : Step) where
+    abbrev resolving : DecodedRecord
+    resolving = Wire true k c rs (Resolve n resolution)
 
-  resolve_sent : (promise : Cap) (cs : List Cap) → ((x : Cap) → slice_get cs 0 ≡ Some x → is_present x ≡ true → Became before promise x) → MaySend before v (say_resolve promise cs)
-  resolve_sent promise [] became = tt
-  resolve_sent promise (cap.Nothing ∷ cs) became = tt
-  resolve_sent promise (x ∷ cs) became = became x refl refl
+    -- where the view of the promise and that of the descriptor are so related, so are their names
+    pub promise_so : (S : Option View → Option View → Type 0) (R : Cap → Cap → Type 0) → NamesFollow (cap_named v es steps) S R → IsGood es resolving →
+        (is_cap_at (slice_get (descriptors resolving) 0) ≡ true → S (view_of_number (id k true n) es) (view_of_descriptor es resolving 0)) → (promise x : Cap) (cs : List Cap) →
+        promise_named (naming v (resolving ∷ es) (s ∷ steps)) es k true n ≡ Some promise → caps_named (naming v (resolving ∷ es) (s ∷ steps)) es resolving ≡ Some cs → slice_get cs 0 ≡ Some x → is_present x ≡ true → R promise x
+    promise_so S R follow g so promise x cs named all there is =
+        let from = view_of_number (id k true n) es in
+        let resolves = g rule.Resolve in
+        let known = number_known es k true n (all_sound es good) (unresolved_lives (id k true n) es resolves.0) in
+        described_so v es steps before w good S R follow k c rs (Resolve n resolution) s g refl from promise 0 x (known_named v es steps before w resolving s (g rule.Ref) from known promise named)
+        (cap_there (naming v (resolving ∷ es) (s ∷ steps)) es resolving 0 cs x all there is) so
+
+    -- what is so of each message that such a Resolve may say is so of the one that it says
+    module _ (Q : Message → Type 0) (if_broken : (promise : Cap) → Q (message.Broken promise))
+        (to_cap : (promise x : Cap) (cs : List Cap) → promise_named (naming v (resolving ∷ es) (s ∷ steps)) es k true n ≡ Some promise → caps_named (naming v (resolving ∷ es) (s ∷ steps)) es resolving ≡ Some cs →
+        slice_get cs 0 ≡ Some x → is_present x ≡ true → Q (message.Resolve promise x)) where
+      resolve_said : (promise : Cap) (cs : List Cap) → ((x : Cap) → slice_get cs 0 ≡ Some x → is_present x ≡ true → Q (message.Resolve promise x)) → Q (say_resolve promise cs)
+      resolve_said promise [] so = if_broken promise
+      resolve_said promise (cap.Nothing ∷ cs) so = if_broken promise
+      resolve_said promise (x ∷ cs) so = so x refl refl
+
+      pub each_resolved : (M : Message) → message_of_record (naming v (resolving ∷ es) (s ∷ steps)) es resolving ≡ Some M → Q M
+      each_resolved M said =
+          let names = naming v (resolving ∷ es) (s ∷ steps) in
+          let promise = then_is (λ promise. option_map (say_resolve promise) (caps_named names es resolving)) (promise_named names es k true n) M said in
+          let cs = mapped_is (say_resolve promise.0) (caps_named names es resolving) M promise.2 in
+          subst Q cs.2 (resolve_said promise.0 cs.0 (λ x there is. to_cap promise.0 x cs.0 promise.1 cs.1 there is))
 
   pub resolve_comes : (n : ℕ) (resolution : Resolution) (s : Step) → IsGood es (Wire true k c rs (Resolve n resolution)) → Says v es steps (Wire true k c rs (Resolve n resolution)) s → MayCome before s
   resolve_comes n resolution s g says =
       let e = Wire true k c rs (Resolve n resolution) in
-      let names = naming v (e ∷ es) (s ∷ steps) in
       let M = sent_is (Resolve n resolution) s says in
-      let promise = then_is (λ promise. option_map (say_resolve promise) (caps_named names es e)) (promise_named names es k true n) M.0 M.1 in
-      let cs = mapped_is (say_resolve promise.0) (caps_named names es e) M.0 promise.2 in
-      subst (MayCome before) M.2 (subst (MaySend before v) cs.2 (resolve_sent promise.0 cs.0 (promise_became n resolution s promise.0 cs.0 g promise.1 cs.1)))
+      let own = is_own_number (slice_get (descriptors e) 0) in
+      let resolves = g rule.Resolve in
+      subst (MayCome before) M.2 (each_resolved n resolution s (MaySend before v) (λ promise. tt) (promise_so n resolution s (BecameThere es) (Became before) (became_there v es steps before w) g
+      (λ caps. resolved_to own es (view_of_number (id k true n) es) (view_of_descriptor es e 0) (resolves.1 caps))) M.0 M.1)

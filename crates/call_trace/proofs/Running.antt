@@ -92,12 +92,14 @@ refers_all es good = each_so IsGood Refers (λ b e g. g rule.Ref) es good
 pub good_now : (v : ℕ) (e : DecodedRecord) (row : Row) → MayRun ((v, e) ∷ row) → Each IsGood (log_of_vat v row) × IsGood (log_of_vat v row) e
 good_now v e row run = (logs_good v row (at_each_before IsGoodNext ((v, e) ∷ row) row ((v, e) ∷ [], refl) run.good), run.good row (v, e) ([], refl))
 
+-- the log of each vat of a row is within its steps
+pub within_row : (v : ℕ) (row : Row) (before : List Step) → Each IsGood (log_of_vat v row) → IsNamedRow row before → IsWithin v (log_of_vat v row) (steps_by v before) before
+within_row v row before good named = record { paired = named.paired v; refers = refers_all (log_of_vat v row) good; own = refl; legal = named.legal; linked = named.linked }
+
 own_step : TakesStep → (v : ℕ) (e : DecodedRecord) (row : Row) (before : List Step) → MayRun ((v, e) ∷ row) → IsNamedRow row before → is_received e ≡ false → HasStep v e row before
 own_step takes v e row before run named own =
     let good = good_now v e row run in
-    let within : IsWithin v (log_of_vat v row) (steps_by v before) before =
-    record { paired = named.paired v; refers = refers_all (log_of_vat v row) good.0; own = refl; legal = named.legal; linked = named.linked } in
-    let t = takes v (log_of_vat v row) (steps_by v before) before e within good.0 good.1 own in
+    let t = takes v (log_of_vat v row) (steps_by v before) before e (within_row v row before good.0 named) good.0 good.1 own in
     (t.0, t.1, t.2, t.3, keeps_link v e row before t.0 run named own (says_alike v (log_of_vat v row) (steps_by v before) e t.0 t.2))
 
 received_step : IsRead → IsBrought → (v k c : ℕ) (rs : List ℕ) (m : RpcMessage) (row : Row) (before : List Step) → MayRun ((v, Wire false k c rs m) ∷ row) → IsNamedRow row before →

@@ -227,11 +227,14 @@ module _ (findings : List Found) (order : List ℕ) (true_all : AreTrue findings
   up : Rises (map (λ log. log.vat) (logs_of findings))
   up = rises _ asked.rising
 
+  pub says_good : (f : Found) → Contains findings f → is_good f.outcome ≡ true
+  says_good f there = member findings f (λ f. is_good f.outcome ≡ true) (all_test (λ f. is_good f.outcome) findings asked.good) there
+
+  pub says_true : (f : Found) → Contains findings f → IsTrueOf f.log f.limits f.outcome
+  says_true f there = subst (λ (g : Found). IsTrueOf g.log g.limits g.outcome) there.2 (true_all there.0 f there.1)
+
   pub all_good : (f : Found) → Contains findings f → AllRecordsGood f
-  all_good f there =
-      let says : is_good f.outcome ≡ true = member findings f (λ f. is_good f.outcome ≡ true) (all_test (λ f. is_good f.outcome) findings asked.good) there in
-      let tells : IsTrueOf f.log f.limits f.outcome = subst (λ (g : Found). IsTrueOf g.log g.limits g.outcome) there.2 (true_all there.0 f there.1) in
-      records_good f tells says
+  all_good f there = records_good f (says_true f there) (says_good f there)
 
   pub found_own : (f : Found) → Contains findings f → finding_of f.log.vat findings ≡ Some f
   found_own f there = own_found findings f up there

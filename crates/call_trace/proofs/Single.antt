@@ -14,11 +14,10 @@ use Rattle.call_trace.specs.Running.{step_received, step_of, steps_by, steps_of_
 use Rattle.call_trace.specs.Said.{all_there}
 use Rattle.call_trace.specs.Taking.{finding_of, row_of}
 use Rattle.call_trace.specs.Types.{RpcMessage, DecodedRecord, Host, Wire, Step}
-use Rattle.call_trace.specs.Within.{IsWithin}
 use Rattle.call_trace.proofs.Carrying.{named_next}
 use Rattle.call_trace.proofs.Fitting.{member}
 use Rattle.call_trace.proofs.Next.{may_run, run_before}
-use Rattle.call_trace.proofs.Running.{references_alike, refers_all, good_now}
+use Rattle.call_trace.proofs.Running.{references_alike, within_row, good_now}
 use Rattle.call_trace.proofs.Sayable.{says_taken}
 use Rattle.call_trace.proofs.Sharing.{found_in, whole_log}
 use Rattle.call_trace.proofs.Taking.{no_log}
@@ -45,10 +44,7 @@ module _ (v : ℕ) (row : Row) (before : List Step) where
   own_taken : (e : DecodedRecord) (s : Step) → MayRun ((v, e) ∷ row) → IsNamedRow row before → is_received e ≡ false → Says v (log_of_vat v row) (steps_by v before) e s →
       step_of v (log_of_vat v row) (steps_by v before) before e ≡ Some s
   own_taken e s run named own says =
-      let good = good_now v e row run in
-      let within : IsWithin v (log_of_vat v row) (steps_by v before) before =
-      record { paired = named.paired v; refers = refers_all (log_of_vat v row) good.0; own = refl; legal = named.legal; linked = named.linked } in
-      says_taken v (log_of_vat v row) (steps_by v before) before e s within good.0 good.1 own says
+      let good = good_now v e row run in says_taken v (log_of_vat v row) (steps_by v before) before e s (within_row v row before good.0 named) good.0 good.1 own says
 
   says_it : (e : DecodedRecord) (s : Step) → MayRun ((v, e) ∷ row) → IsNamedRow row before → Says v (log_of_vat v row) (steps_by v before) e s → IsLinked before s →
       step_of v (log_of_vat v row) (steps_by v before) before e ≡ Some s

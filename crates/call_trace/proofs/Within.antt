@@ -23,8 +23,9 @@ use Rattle.run_model.specs.Legal.{IsLegal, caps_brought, hands, is_passed_back}
 use Rattle.run_model.specs.Legal.{Became as RunBecame}
 use Rattle.run_model.specs.Links.{IsLinked}
 use Rattle.run_model.specs.Leads.{MakesTurn, Meets}
+use Rattle.run_model.specs.Leads.{LeadsByTurns as RunLeadsByTurns}
 use Rattle.run_model.specs.Leads.{here as stay}
-use Rattle.run_model.specs.Steps.{OneOf, is_same_call, vat_of}
+use Rattle.run_model.specs.Steps.{OneOf, PastSteps, is_same_call, vat_of}
 use Rattle.run_model.specs.Steps.{EachStep}
 use Rattle.run_model.proofs.Meeting.{meets_itself, meets_back, meets_through, became_meets, became_later, leads_on_became}
 use Rattle.run_model.proofs.Once.{names_same, or_either}
@@ -130,11 +131,12 @@ pub each_earlier : (P : List Step → Step → Type 0) (later rest : List Step) 
 each_earlier P [] rest h = h
 each_earlier P (s ∷ later) rest h = each_earlier P later rest h.1
 
-one_became : (before : List Step) (c : Name) (x y : Cap) (results : List (List ℕ × Cap)) → OneOf (λ result. (x ≡ cap.Field c result.0) × (y ≡ result.1)) results →
-    AllByRecursion (λ result. RunBecame before (cap.Field c result.0) result.1) results → RunBecame before x y
-one_became before c x y (r ∷ rs) (inl h) all = subst (λ x. RunBecame before x y) (sym h.0) (subst (λ y. RunBecame before (cap.Field c r.0) y) (sym h.1) all.0)
-one_became before c x y (r ∷ rs) (inr h) all = one_became before c x y rs h all.1
-one_became before c x y [] h all = absurd h
+-- what is so of each result of a Return is so of the two that one of them is
+pub one_so : (R : Cap → Cap → Type 0) (c : Name) (x y : Cap) (results : List (List ℕ × Cap)) → OneOf (λ result. (x ≡ cap.Field c result.0) × (y ≡ result.1)) results →
+    AllByRecursion (λ result. R (cap.Field c result.0) result.1) results → R x y
+one_so R c x y (r ∷ rs) (inl h) all = subst (λ x. R x y) (sym h.0) (subst (λ y. R (cap.Field c r.0) y) (sym h.1) all.0)
+one_so R c x y (r ∷ rs) (inr h) all = one_so R c x y rs h all.1
+one_so R c x y [] h all = absurd h
 
 -- a field of a call whose results are taken: of another's, or of its own, which was passed back
 taken_became : (before : List Step) (c by : Name) (path : List ℕ) → (list_any (hands c by) before || (is_same_call c by && is_passed_back c before)) ≡ true → RunBecame before (cap.Field c path) (cap.Field by path)
@@ -146,7 +148,7 @@ taken_became before c by path h = elim (or_either (list_any (hands c by) before)
 ]
 
 told_became : (earlier : List Step) (x y : Cap) (s : Step) → EachStep IsLegal earlier → IsLinked earlier s → Tells x y s → RunBecame earlier x y
-told_became earlier x y (step.Receive v k (message.Return c results caps) bound) legal linked tells = one_became earlier c x y results tells (received_leads earlier legal v k c results caps bound linked)
+told_became earlier x y (step.Receive v k (message.Return c results caps) bound) legal linked tells = one_so (RunBecame earlier) c x y results tells (received_leads earlier legal v k c results caps bound linked)
 told_became earlier x y (step.Receive v k (message.Taken c by) bound) legal linked tells =
     subst (λ x. RunBecame earlier x y) (sym tells.1)
     (subst (λ y. RunBecame earlier (cap.Field c tells.0) y) (sym tells.2) (taken_became earlier c by tells.0 (received_taken earlier legal v k c by bound linked)))
@@ -154,14 +156,19 @@ told_became earlier x y (step.Receive v k (message.Resolve promise to) bound) le
     subst (λ x. RunBecame earlier x y) (sym tells.0) (subst (λ y. RunBecame earlier promise y) (sym tells.1) (resolved_leads earlier legal v k promise to bound linked))
 told_became earlier x y s legal linked tells = absurd tells
 
-step_became : (before : List Step) (x y : Cap) (s : Step) → EachStep IsLegal before → EachStep IsLinked before → StandsIn before s → MakesTurn x y s ⊎ Tells x y s → RunBecame before x y
-step_became before x y s legal linked at says =
-    let legal_then = each_earlier IsLegal at.0 (s ∷ at.1) (subst (EachStep IsLegal) at.2 legal) in
-    let linked_then = each_earlier IsLinked at.0 (s ∷ at.1) (subst (EachStep IsLinked) at.2 linked) in
-    subst (λ l. RunBecame l x y) (sym at.2) (became_later at.0 (s ∷ at.1) x y (elim says [
-      | inl made ↦ leads_on_became (s ∷ at.1) x y (y, inl made, stay)
-      | inr tells ↦ became_later (s ∷ []) at.1 x y (told_became at.1 x y s legal_then.1 linked_then.0 tells)
-    ]))
+-- the caps that a step of a run turns or tells of are so related, where caps by turns are, where what a step tells is, and where
+-- what is so stays so
+module _ (P : PastSteps → Step → Type 0) (R : PastSteps → Cap → Cap → Type 0) (by_turns : (before : PastSteps) (a b : Cap) → RunLeadsByTurns before a b → R before a b)
+    (lasts : (later earlier : PastSteps) (a b : Cap) → R earlier a b → R (later ++ earlier) a b)
+    (told : (earlier : PastSteps) (x y : Cap) (s : Step) → EachStep P earlier → IsLinked earlier s → Tells x y s → R earlier x y) where
+  pub step_so : (before : List Step) (x y : Cap) (s : Step) → EachStep P before → EachStep IsLinked before → StandsIn before s → MakesTurn x y s ⊎ Tells x y s → R before x y
+  step_so before x y s each linked at says =
+      let each_then = each_earlier P at.0 (s ∷ at.1) (subst (EachStep P) at.2 each) in
+      let linked_then = each_earlier IsLinked at.0 (s ∷ at.1) (subst (EachStep IsLinked) at.2 linked) in
+      subst (λ l. R l x y) (sym at.2) (lasts at.0 (s ∷ at.1) x y (elim says [
+        | inl made ↦ by_turns (s ∷ at.1) x y (y, inl made, stay)
+        | inr tells ↦ lasts (s ∷ []) at.1 x y (told at.1 x y s each_then.1 linked_then.0 tells)
+      ]))
 
 -- ---- together
 
@@ -175,30 +182,36 @@ told_at v es past e added earlier s (Import i place) b x says len h named =
     let same = message_back i added (s ∷ earlier) (omega (arith, lt, len)) in
     of_import v i place past earlier e s b x says h (ap (λ o. option_and_then (λ m. cap_at place (caps_brought m)) o) (sym same) ∙ named)
 
-same_cap : (o : Option Cap) (x y : Cap) → o ≡ Some x → o ≡ Some y → x ≡ y
+pub same_cap : (o : Option Cap) (x y : Cap) → o ≡ Some x → o ≡ Some y → x ≡ y
 same_cap o x y p q = let same : ◌≡◌ {A = Option Cap} (Some x) (Some y) = sym p ∙ q in cc
 
 module _ (v : ℕ) (later past : Past) (e : DecodedRecord) (added earlier : List Step) (s : Step) (as_long : length later ≡ length added) (paired : PairsOff v (e ∷ past) (s ∷ earlier)) (refers : Each Refers (later ++ e ∷ past)) where
   name_grows : (view : View) (c : Cap) → cap_named v (e ∷ past) (s ∷ earlier) view ≡ Some c → cap_named v (later ++ e ∷ past) (added ++ s ∷ earlier) view ≡ Some c
   name_grows view c h = cap_keeps v later (e ∷ past) added (s ∷ earlier) as_long (each_after later (e ∷ past) refers) view c h
 
-  turned_then : (before : List Step) (a b : View) (x : Cap) → EachStep IsLegal before → EachStep IsLinked before → StandsIn before s → turn a past e ≡ Some (turns b) →
-      cap_named v (later ++ e ∷ past) (added ++ s ∷ earlier) a ≡ Some x → HasNameAfter (naming v (later ++ e ∷ past) (added ++ s ∷ earlier)) (RunBecame before) x b
-  turned_then before a b x legal linked at h named =
+  turned_then : (R : Cap → Cap → Type 0) → ((x y : Cap) → MakesTurn x y s ⊎ Tells x y s → R x y) → (a b : View) (x : Cap) → turn a past e ≡ Some (turns b) →
+      cap_named v (later ++ e ∷ past) (added ++ s ∷ earlier) a ≡ Some x → HasNameAfter (naming v (later ++ e ∷ past) (added ++ s ∷ earlier)) R x b
+  turned_then R so a b x h named =
       let t = told_at v (later ++ e ∷ past) past e added earlier s a b x paired.0 (pairs_as_long v past earlier paired.1) h named in
       let same = same_cap (cap_named v (later ++ e ∷ past) (added ++ s ∷ earlier) a) t.from x (name_grows a t.from t.from_named) named in
-      (t.to, name_grows b t.to t.to_named, subst (λ x. RunBecame before x t.to) same (step_became before t.from t.to s legal linked at t.turned))
+      (t.to, name_grows b t.to t.to_named, subst (λ x. R x t.to) same (so t.from t.to t.turned))
+
+-- where a view turned to another, their names are related as are all caps that a step of the run turns or tells of
+pub turned_so : (v : ℕ) (es : Past) (steps before : List Step) → IsWithin v es steps before → (R : Cap → Cap → Type 0) → ((x y : Cap) (s : Step) → StandsIn before s → MakesTurn x y s ⊎ Tells x y s → R x y) →
+    (a b : View) (x : Cap) → next es a ≡ turns b → cap_named v es steps a ≡ Some x → HasNameAfter (naming v es steps) R x b
+turned_so v es steps before w R so a b x h named =
+    let t = next_is a b es h in
+    let pair = paired_at v t.0 t.1 t.2 steps (subst (λ es. PairsOff v es steps) t.3 w.paired) in
+    let at = stands_in (λ s. vat_of s == v) before pair.added pair.earlier pair.step (w.own ∙ pair.whole) in
+    subst (λ es. HasNameAfter (naming v es steps) R x b) (sym t.3)
+    (subst (λ steps. HasNameAfter (naming v (t.0 ++ t.1 ∷ t.2) steps) R x b) (sym pair.whole)
+    (turned_then v t.0 t.2 t.1 pair.added pair.earlier pair.step pair.as_long pair.paired (subst (Each Refers) t.3 w.refers) R (λ x y says. so x y pair.step at says) a b x t.4
+    (sym (ap₂ (λ es steps. cap_named v es steps a) t.3 pair.whole) ∙ named)))
 
 pub turned_became : (v : ℕ) (es : Past) (steps before : List Step) → IsWithin v es steps before → (a b : View) (x : Cap) → next es a ≡ turns b → cap_named v es steps a ≡ Some x →
     HasNameAfter (naming v es steps) (RunBecame before) x b
 turned_became v es steps before w a b x h named =
-    let t = next_is a b es h in
-    let pair = paired_at v t.0 t.1 t.2 steps (subst (λ es. PairsOff v es steps) t.3 w.paired) in
-    let at = stands_in (λ s. vat_of s == v) before pair.added pair.earlier pair.step (w.own ∙ pair.whole) in
-    subst (λ es. HasNameAfter (naming v es steps) (RunBecame before) x b) (sym t.3)
-    (subst (λ steps. HasNameAfter (naming v (t.0 ++ t.1 ∷ t.2) steps) (RunBecame before) x b) (sym pair.whole)
-    (turned_then v t.0 t.2 t.1 pair.added pair.earlier pair.step pair.as_long pair.paired (subst (Each Refers) t.3 w.refers) before a b x w.legal w.linked at t.4
-    (sym (ap₂ (λ es steps. cap_named v es steps a) t.3 pair.whole) ∙ named)))
+    turned_so v es steps before w (RunBecame before) (λ x y s at says. step_so IsLegal RunBecame leads_on_became became_later told_became before x y s w.legal w.linked at says) a b x h named
 
 -- the names of views that lead to each other are one
 pub all_meet : (v : ℕ) (es : Past) (steps before : List Step) → IsWithin v es steps before → (a b : View) (x : Cap) → Leads es a b → cap_named v es steps a ≡ Some x → HasNameAfter (naming v es steps) (Meets before) x b
@@ -221,14 +234,17 @@ pub names_became : (v : ℕ) (es : Past) (steps before : List Step) → IsWithin
 names_became v es steps before w a b x y became named other =
     (ones_meet v es steps before w a b x y became.2 named other, (turned_became v es steps before w a became.0 x became.1 named).2.1)
 
--- the same of views that may be missing
+-- where views that may be missing are so related, their names are
+abbrev pub NamesFollow : (View → Option Cap) → (Option View → Option View → Type 0) → (Cap → Cap → Type 0) → Type 0
+NamesFollow names S R = (from to : Option View) (x y : Cap) → option_and_then names from ≡ Some x → option_and_then names to ≡ Some y → S from to → R x y
+
 module _ (v : ℕ) (es : Past) (steps before : List Step) (w : IsWithin v es steps before) where
-  pub ones_meet_there : (from to : Option View) (x y : Cap) → option_and_then (cap_named v es steps) from ≡ Some x → option_and_then (cap_named v es steps) to ≡ Some y → AreOneThere es from to → Meets before x y
+  pub ones_meet_there : NamesFollow (cap_named v es steps) (AreOneThere es) (Meets before)
   ones_meet_there None to x y named other one = absurd one
   ones_meet_there (Some a) None x y named other one = absurd one
   ones_meet_there (Some a) (Some b) x y named other one = ones_meet v es steps before w a b x y one named other
 
-  pub became_there : (from to : Option View) (x y : Cap) → option_and_then (cap_named v es steps) from ≡ Some x → option_and_then (cap_named v es steps) to ≡ Some y → BecameThere es from to → RunBecame before x y
+  pub became_there : NamesFollow (cap_named v es steps) (BecameThere es) (RunBecame before)
   became_there None to x y named other became = absurd became
   became_there (Some a) None x y named other became = absurd became
   became_there (Some a) (Some b) x y named other became = names_became v es steps before w a b x y became named other

@@ -6,12 +6,17 @@ use Rattle.link_check.specs.Prefix.{IsPrefix, frames_received, frames_sent}
 use Rattle.merge_order.specs.Fits.{IsRising, IsFitting}
 use Rattle.vat_log.specs.Passages.{sends_frame, receives_frame}
 use Rattle.vat_log.specs.Log.{Log}
-use Rattle.vat_rules.specs.Audit.{Found, IsTrueOf}
+use Rattle.vat_rules.specs.Audit.{Found, IsTrueOf, edition_of}
 use Rattle.vat_rules.specs.declared.outcome.Outcome.TheVariants.{Good}
+use Rattle.vat_rules.specs.Types.{First}
 
 -- the outcome of each finding is what the rules say of its log: who holds a finding knows it
 abbrev pub AreTrue : List Found → Type 0
 AreTrue findings = All (λ finding. IsTrueOf finding.log finding.limits finding.outcome) findings
+
+-- each log is of version 1 or 2: it is judged by the first edition of rpc.capnp
+abbrev pub AreOfFirstEdition : List Found → Type 0
+AreOfFirstEdition findings = All (λ finding. edition_of finding.log ≡ First) findings
 
 -- a finding says that every record is good
 abbrev pub is_good : Outcome → Bool

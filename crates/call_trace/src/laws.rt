@@ -24,6 +24,8 @@ ghost use Rattle.run_model.specs.Has.{Has};
 ghost use Rattle.run_model.specs.Reordered.{HaveSameSteps, KeepsReferences};
 ghost use Rattle.run_model.specs.declared.cap.Cap.TheVariants.{Field as FieldCap};
 ghost use Rattle.run_model.specs.Leads.{Meets};
+ghost use Rattle.run_model.specs.Led.{SendsLedTo};
+ghost use Rattle.run_model.specs.Steps.{EachOf};
 ghost use Rattle.call_trace.specs.Types.{Outcome, Return, ReturnHead, Resolution, Resolve, DecodedRecord, Wire, View, Name, Cap, Step, Target, Call, CallHead, Deliver, Answer, AnswerBy, Fault, RpcMessage, Message};
 ghost use Rattle.call_trace.specs.Naming.{call_named, cap_named, naming, message_at};
 ghost use Rattle.call_trace.specs.Part.{reference_named, ReadsAsSent, Says, PairsOff};
@@ -34,7 +36,7 @@ ghost use Rattle.call_trace.specs.Tells.{TurnsNames};
 ghost use Rattle.call_trace.specs.Within.{IsWithin, HasNameAfter};
 ghost use Rattle.call_trace.specs.Placed.{IsThere};
 ghost use Rattle.call_trace.specs.Carried.{IsCarried, HasOneName};
-ghost use Rattle.call_trace.specs.Findings.{AreEnds, logs_of, AreTrue, MayBeNamed};
+ghost use Rattle.call_trace.specs.Findings.{AreEnds, logs_of, AreOfFirstEdition, AreTrue, MayBeNamed};
 ghost use Rattle.call_trace.specs.Taking.{row_of};
 ghost use Rattle.call_trace.specs.Kinds.{is_own_making};
 ghost use Rattle.call_trace.specs.Named.{taken_before, AtEachPoint, AreBalanced, IsRunOf};
@@ -293,6 +295,16 @@ pub fn findings_have_one_run()
     ensures one { (findings : List Found) (order : List ℕ) → AreTrue findings
         → MayBeNamed findings order → (run other_run : List Step) → IsRunOf findings order run
         → IsRunOf findings order other_run → run ≡ other_run }
+{}
+
+/// A vat whose log is of version 3 may send what is one with a call's goal, a result or a promise. Where all logs are of
+/// versions 1 and 2, each step of their run sends what is led to: a call's goal leads to the target of each Call that is sent,
+/// a result and a promise lead by 1 or more turns to what a Return or Resolve gives, and the call of a Return that takes the
+/// results of another was answered by that one. It isn't so of the vats of such logs in a run of logs of all versions.
+pub fn first_editions_lead()
+    ensures { (findings : List Found) (order : List ℕ) → AreTrue findings
+        → MayBeNamed findings order → AreOfFirstEdition findings → (run : List Step)
+        → IsRunOf findings order run → EachOf SendsLedTo run }
 {}
 
 /// In the runs of the same findings by two orders each vat has the same steps (`steps`). In such a run each reference of a vat

@@ -26,7 +26,7 @@ mod steps;
 pub use first_overtaking::order_fault;
 pub use laws::{
     calls_are_settled_once, calls_are_where_logs_have_them, calls_go_where_they_lead,
-    ends_of_findings_agree, findings_have_one_run, good_findings_have_a_run,
+    ends_of_findings_agree, findings_have_one_run, first_editions_lead, good_findings_have_a_run,
     messages_are_read_as_sent, names_only_grow, no_findings_have_the_empty_run,
     numbers_have_one_name, orders_give_one_fault, orders_give_the_same_steps, orders_take_the_logs,
     own_steps_may_come, questions_have_one_call, receipts_bind_what_is_brought,

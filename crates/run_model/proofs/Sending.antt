@@ -58,23 +58,25 @@ was_sent before v k m bound linked =
     let s = sent_by v k g.1 m g.4 in
     (s.0, reverse g.2, reverse g.0, s.1, back_again before g.0 g.2 g.1 g.3 ∙ ap (λ t. reverse g.2 ++ t ∷ reverse g.0) s.2)
 
--- the step that stands at a point is legal after those before it
-legal_at : (later earlier : PastSteps) (s : Step) → EachStep IsLegal (later ++ s ∷ earlier) → IsLegal earlier s
-legal_at [] earlier s h = h.0
-legal_at (x ∷ later) earlier s h = legal_at later earlier s h.1
+-- the step that stands at a point is so after those before it
+pub step_at : (P : PastSteps → Step → Type 0) (later earlier : PastSteps) (s : Step) → EachStep P (later ++ s ∷ earlier) → P earlier s
+step_at P [] earlier s h = h.0
+step_at P (x ∷ later) earlier s h = step_at P later earlier s h.1
 
-all_grow : (later earlier : PastSteps) (c : Name) (results : List (List ℕ × Cap)) → AllByRecursion (λ r. Became earlier (FieldOf c r.0) r.1) results →
-    AllByRecursion (λ r. Became (later ++ earlier) (FieldOf c r.0) r.1) results
-all_grow later earlier c [] h = h
-all_grow later earlier c (r ∷ rs) h = (became_later later earlier (FieldOf c r.0) r.1 h.0, all_grow later earlier c rs h.1)
+-- fields and what is given at their paths stay so related
+module _ (R : PastSteps → Cap → Cap → Type 0) (lasts : (later earlier : PastSteps) (a b : Cap) → R earlier a b → R (later ++ earlier) a b) where
+  pub all_grow : (later earlier : PastSteps) (c : Name) (results : List (List ℕ × Cap)) → AllByRecursion (λ r. R earlier (FieldOf c r.0) r.1) results →
+      AllByRecursion (λ r. R (later ++ earlier) (FieldOf c r.0) r.1) results
+  all_grow later earlier c [] h = h
+  all_grow later earlier c (r ∷ rs) h = (lasts later earlier (FieldOf c r.0) r.1 h.0, all_grow later earlier c rs h.1)
 
 pub received_leads : (before : PastSteps) → EachStep IsLegal before → (v k : ℕ) (c : Name) (results : List (List ℕ × Cap)) (caps bound : List Cap) →
     IsLinked before (Receive v k (Return c results caps) bound) → AllByRecursion (λ r. Became before (FieldOf c r.0) r.1) results
 received_leads before legal v k c results caps bound linked =
     let s = was_sent before v k (Return c results caps) bound linked in
-    let there = legal_at s.1 s.2 (Send s.0 k (Return c results caps)) (subst (λ l. EachStep IsLegal l) s.4 legal) in
+    let there = step_at IsLegal s.1 s.2 (Send s.0 k (Return c results caps)) (subst (λ l. EachStep IsLegal l) s.4 legal) in
     subst (λ l. AllByRecursion (λ r. Became l (FieldOf c r.0) r.1) results) (sym s.4)
-    (all_grow s.1 (Send s.0 k (Return c results caps) ∷ s.2) c results (all_grow (Send s.0 k (Return c results caps) ∷ []) s.2 c results there.1.1))
+    (all_grow Became became_later s.1 (Send s.0 k (Return c results caps) ∷ s.2) c results (all_grow Became became_later (Send s.0 k (Return c results caps) ∷ []) s.2 c results there.1.1))
 
 -- one of two tests that steps pass stays passed
 pub either_later : (one other : Step → Bool) (later earlier : PastSteps) → (list_any one earlier || list_any other earlier) ≡ true → (list_any one (later ++ earlier) || list_any other (later ++ earlier)) ≡ true
@@ -88,7 +90,7 @@ pub received_answered : (before : PastSteps) → EachStep IsLegal before → (v 
 received_answered before legal v k c results caps bound linked =
     let m : Message = Return c results caps in
     let s = was_sent before v k m bound linked in
-    let there = legal_at s.1 s.2 (Send s.0 k m) (subst (λ l. EachStep IsLegal l) s.4 legal) in
+    let there = step_at IsLegal s.1 s.2 (Send s.0 k m) (subst (λ l. EachStep IsLegal l) s.4 legal) in
     subst (λ l. (list_any (answers_call c) l || is_passed_back c l) ≡ true) (sym s.4)
     (either_later (answers_call c) (passes_back c) s.1 (Send s.0 k m ∷ s.2) (either_later (answers_call c) (passes_back c) (Send s.0 k m ∷ []) s.2 there.1.0))
 
@@ -96,7 +98,7 @@ pub resolved_leads : (before : PastSteps) → EachStep IsLegal before → (v k :
     Became before promise cap
 resolved_leads before legal v k promise cap bound linked =
     let s = was_sent before v k (Resolve promise cap) bound linked in
-    let there = legal_at s.1 s.2 (Send s.0 k (Resolve promise cap)) (subst (λ l. EachStep IsLegal l) s.4 legal) in
+    let there = step_at IsLegal s.1 s.2 (Send s.0 k (Resolve promise cap)) (subst (λ l. EachStep IsLegal l) s.4 legal) in
     subst (λ l. Became l promise cap) (sym s.4)
     (became_later s.1 (Send s.0 k (Resolve promise cap) ∷ s.2) promise cap (became_later (Send s.0 k (Resolve promise cap) ∷ []) s.2 promise cap there.1))
 
@@ -111,7 +113,7 @@ pub received_taken : (before : PastSteps) → EachStep IsLegal before → (v k :
 received_taken before legal v k c by bound linked =
     let m : Message = Taken c by in
     let s = was_sent before v k m bound linked in
-    let there = legal_at s.1 s.2 (Send s.0 k m) (subst (λ l. EachStep IsLegal l) s.4 legal) in
+    let there = step_at IsLegal s.1 s.2 (Send s.0 k m) (subst (λ l. EachStep IsLegal l) s.4 legal) in
     elim (or_either (list_any (hands c by) s.2) (is_same_call c by && list_any (sends_on c s.0) s.2) there.1) [
       | inl handed ↦
           or_left (list_any (hands c by) before) (is_same_call c by && is_passed_back c before)

@@ -4,6 +4,7 @@ pub mod Leads
 pub mod Has
 pub mod Places
 pub mod Legal
+pub mod Led
 pub mod Links
 pub mod UnderWay
 pub mod Right

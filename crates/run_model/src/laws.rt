@@ -6,6 +6,7 @@ ghost use Rattle.std.specs.List.{list_any, AllByRecursion};
 ghost use Rattle.run_model.specs.Types.{Name, Cap, Object, FieldOf, Message, Boot, Call, Return, Taken, Resolve, Step, Send, Receive};
 ghost use Rattle.run_model.specs.Steps.{PastSteps, is_same_call, OneOf, EachStep, last_step_answer, count_steps};
 ghost use Rattle.run_model.specs.Leads.{Turns, Leads, LeadsByTurns, Meets};
+ghost use Rattle.run_model.specs.Led.{SendsLedTo};
 ghost use Rattle.run_model.specs.Has.{Brings, Has};
 ghost use Rattle.run_model.specs.Places.{Asked, at_vat};
 ghost use Rattle.run_model.specs.Legal.{IsLegal, IsLegalRun, begins_call, ends, answers_call, hands, is_passed_back, Became, arrives, answers_or_faults, delivers_call};
@@ -123,6 +124,27 @@ pub fn what_is_received_is_led_to()
     ensures fields { (before : PastSteps) (c by : Name) (path : List ℕ)
         → IsTrue (list_any (hands c by) before)
         → Turns before (FieldOf c path) (FieldOf by path) }
+{}
+
+/// Where each step sends only what is led to, what is received is led to as well: the field of a Return's call leads by 1 or
+/// more turns to what the Return gives at each path, a promise to what its Resolve says, and the call of a Return that takes
+/// a call's results was answered by that one (`taken`). A call that was passed back was answered by itself there
+/// (`passed_back`).
+pub fn what_is_received_was_led_to()
+    ensures results { (before : PastSteps) → EachStep SendsLedTo before
+        → (v connection : ℕ) (c : Name) (results : List (List ℕ × Cap)) (caps bound : List Cap)
+        → IsLinked before (Receive v connection (Return c results caps) bound)
+        → AllByRecursion (λ result. LeadsByTurns before (FieldOf c result.0) result.1) results }
+    ensures resolved { (before : PastSteps) → EachStep SendsLedTo before
+        → (v connection : ℕ) (promise cap : Cap) (bound : List Cap)
+        → IsLinked before (Receive v connection (Resolve promise cap) bound)
+        → LeadsByTurns before promise cap }
+    ensures taken { (before : PastSteps) → EachStep SendsLedTo before
+        → (v connection : ℕ) (c by : Name) (bound : List Cap)
+        → IsLinked before (Receive v connection (Taken c by) bound)
+        → IsTrue (list_any (hands c by) before) }
+    ensures passed_back { (before : PastSteps) → EachStep SendsLedTo before
+        → (c : Name) → IsTrue (is_passed_back c before) → IsTrue (list_any (hands c c) before) }
 {}
 
 /// Where each step is legal and keeps to its link, a call is at one vat at most, and at none while it is under way or comes

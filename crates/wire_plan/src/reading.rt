@@ -2,10 +2,12 @@
 
 use crate::content::digest_of;
 use crate::groups::Groups;
-use crate::message::{Aim, Entry, Kind, Named, Planned, ReturnKind};
+use crate::message::{
+    Aim, Entry, Kind, Named, Planned, PlannedCall, PlannedReturn, ReturnKind,
+};
 use crate::paths::Paths;
 use bytes::Bytes;
-use cap_frame::Frame;
+use cap_frame::{Frame, Path};
 use rpc_view::{
     Descriptor, Edition, Limits, Loopback, Outcome, Payload, Resolution, RpcMessage, Target,
     ViewError, read_message,
@@ -21,14 +23,17 @@ struct Reading<'a> {
 }
 
 impl Reading<'_> {
+    /// A result of a question.
+    fn result(&mut self, question: u32, path: &Path) -> Result<Aim, AllocError> {
+        Ok(Aim::Answer(question, self.paths.number(self.alloc, path)?))
+    }
+
     /// What a message is meant for.
     fn aim(&mut self, target: &Target) -> Result<Aim, AllocError> {
-        Ok(match target {
-            Target::Imported(number) => Aim::Import(*number),
-            Target::Promised(question, path) => {
-                Aim::Answer(*question, self.paths.number(self.alloc, path)?)
-            }
-        })
+        match target {
+            Target::Imported(number) => Ok(Aim::Import(*number)),
+            Target::Promised(question, path) => self.result(*question, path),
+        }
     }
 
     /// An entry of a table.
@@ -39,9 +44,9 @@ impl Reading<'_> {
             Descriptor::SenderPromise(number) => {
                 Entry::Promised(*number, self.groups.introduced(*number)?)
             }
-            Descriptor::ReceiverHosted(number) => Entry::ReceiverHosted(*number),
+            Descriptor::ReceiverHosted(number) => Entry::Receivers(Aim::Import(*number)),
             Descriptor::ReceiverAnswer(question, path) => {
-                Entry::ReceiverAnswer(*question, self.paths.number(self.alloc, path)?)
+                Entry::Receivers(self.result(*question, path)?)
             }
         })
     }
@@ -118,12 +123,12 @@ impl Reading<'_> {
             Outcome::Elsewhere => ReturnKind::Elsewhere,
             Outcome::TakeFrom(question) => ReturnKind::TakenFrom(*question),
         };
-        let kind = Kind::Return {
+        let kind = Kind::Return(PlannedReturn {
             answer,
             release,
             results,
             light,
-        };
+        });
         match outcome {
             Outcome::Results(payload) => self.with_payload(kind, payload),
             _ => Ok(self.bare(kind)),
@@ -148,14 +153,14 @@ impl Reading<'_> {
         else {
             return Ok(self.bare(Kind::Unread));
         };
-        let kind = Kind::Call {
+        let kind = Kind::Call(PlannedCall {
             question: *question,
             aim: self.aim(target)?,
             digest: digest_of(self.alloc, frame, words, *interface, *method)?,
             interface: *interface,
             method: *method,
             yourself: *yourself,
-        };
+        });
         self.with_payload(kind, params)
     }
 

@@ -18,7 +18,7 @@ impl Spot {
     /// Where the far pointer of this word leads.
     fn far(word: u64) -> Spot {
         Spot {
-            segment: (word >> 32) as u32,
+            segment: u32::try_from(word >> 32).unwrap_or(0),
             at: (word >> 3) % (1 << 29),
         }
     }

@@ -70,10 +70,7 @@ impl Leading<'_> {
         };
         let opening = self.own.ties.opening_before(question, lead.place)?;
         let answer = self.peer.messages.get(self.own.ties.pair_of(opening)?)?;
-        match answer.entry_at(path)? {
-            Entry::Hosted(number) | Entry::Promised(number, _) => Some(Aim::Import(number)),
-            Entry::NoCap | Entry::Receivers(_) => None,
-        }
+        Some(Aim::Import(answer.entry_at(path)?.introduced()?))
     }
 
     /// What the own promises become, by their numbers.

@@ -22,6 +22,16 @@ pub enum Entry {
     Receivers(Aim),
 }
 
+impl Entry {
+    /// The number of the sender's exports that it introduces.
+    pub fn introduced(self) -> Option<u32> {
+        match self {
+            Entry::Hosted(number) | Entry::Promised(number, _) => Some(number),
+            Entry::NoCap | Entry::Receivers(_) => None,
+        }
+    }
+}
+
 /// What a Return says of its call.
 #[derive(Clone, Copy, PartialEq, Eq)]
 pub enum ReturnKind {
@@ -35,6 +45,13 @@ pub enum ReturnKind {
     Elsewhere,
     /// They are those of this other question of the Return's sender.
     TakenFrom(u32),
+}
+
+impl ReturnKind {
+    /// Whether there are no results.
+    pub fn are_none(self) -> bool {
+        matches!(self, ReturnKind::Exception | ReturnKind::Canceled)
+    }
 }
 
 /// What a Call says.

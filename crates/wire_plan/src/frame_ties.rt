@@ -1,7 +1,7 @@
 //! Which frames belong together, and which results are named.
 
 use crate::keyed_lists::KeyedLists;
-use crate::message::{Aim, Entry, Kind, Planned, ReturnKind};
+use crate::message::{Aim, Entry, Planned, ReturnKind};
 use std::alloc::{AllocError, Global};
 
 /// The ties of one end's frames.

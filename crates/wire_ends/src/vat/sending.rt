@@ -37,8 +37,8 @@ impl Vat<'_> {
         self.notes.send_bare()?;
         match kind {
             Kind::Finish(question, release) => {
-                let (questions, imports) = (&mut self.numbers.questions, &mut self.numbers.imports);
-                put_finish(questions, imports, self.files.peer(), question, release);
+                let questions = &mut self.numbers.questions;
+                put_finish(questions, &mut self.numbers.imports, self.files.peer(), question, release);
             }
             Kind::Release(number, count) => {
                 give_back(&mut self.numbers.imports, number, u64::from(count));
@@ -140,8 +140,8 @@ impl Vat<'_> {
         if let Some(question) = question {
             self.turns.give_up(question.call, said.results);
         }
-        let (answers, imports) = (&mut self.numbers.answers, &mut self.numbers.imports);
-        put_return(answers, imports, self.files.peer(), place, said);
+        let answers = &mut self.numbers.answers;
+        put_return(answers, &mut self.numbers.imports, self.files.peer(), place, said);
         Ok(())
     }
 

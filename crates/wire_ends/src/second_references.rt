@@ -82,12 +82,20 @@ impl Overtakers {
     /// Puts a step behind the others. A call that overtakes another is made through a new reference, a promise that became the
     /// first one.
     fn put(&self, mut step: EndStep, into: &mut EndSteps) -> Result<(), AllocError> {
-        if let EndStep::Note(Body::Make { call, reference: to, .. }) = &mut step {
+        if let EndStep::Note(
+            Body::Make {
+                call,
+                reference: to,
+                ..
+            },
+        ) = &mut step
+        {
             if self.calls.has(*call) {
                 into.references = into.references.saturating_add(1);
                 let reference = into.references;
                 into.steps.push(EndStep::Note(Body::Vow { reference }))?;
-                into.steps.push(EndStep::Note(Body::Fulfil { reference, to: *to }))?;
+                into.steps
+                    .push(EndStep::Note(Body::Fulfil { reference, to: *to }))?;
                 *to = reference;
             }
         }

@@ -5,7 +5,7 @@ use std::collections::BTreeMap;
 
 /// A list for each key.
 #[derive(Drop)]
-pub(crate) struct KeyedLists<K, T> {
+pub(crate) struct KeyedLists<K: Ord, T> {
     lists: BTreeMap<K, Vec<T>>,
 }
 

@@ -2,9 +2,7 @@
 
 use crate::content::digest_of;
 use crate::groups::Groups;
-use crate::message::{
-    Aim, Entry, Kind, Named, Planned, PlannedCall, PlannedReturn, ReturnKind,
-};
+use crate::message::{Aim, Entry, Kind, Named, Planned, PlannedCall, PlannedReturn, ReturnKind};
 use crate::paths::Paths;
 use bytes::Bytes;
 use cap_frame::{Frame, Path};

@@ -75,6 +75,7 @@ impl Vat<'_> {
             return self.first_alike(call.digest, target);
         }
         let handed = self.handed_on(place)?;
-        self.ahead().may_pass(handed, call.digest, target).then_some(handed)
+        let may_pass = self.ahead().may_pass(handed, call.digest, target);
+        may_pass.then_some(handed)
     }
 }

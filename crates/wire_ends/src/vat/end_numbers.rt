@@ -139,7 +139,8 @@ impl EndNumbers {
 
     /// An own question that isn't finished.
     pub(crate) fn unfinished_question(&self, number: u32) -> Option<Question> {
-        self.question(number).filter(|question| !question.is_finished)
+        let question = self.question(number);
+        question.filter(|question| !question.is_finished)
     }
 
     /// A question of the peer.
@@ -149,7 +150,8 @@ impl EndNumbers {
 
     /// A question of the peer that has no Return.
     pub(crate) fn unanswered(&self, number: u32) -> Option<Question> {
-        self.answer(number).filter(|question| question.answer.is_none())
+        let question = self.answer(number);
+        question.filter(|question| question.answer.is_none())
     }
 
     /// An import, held or not.
@@ -216,7 +218,8 @@ impl EndNumbers {
 
     /// What an entry of an own table stands for where it goes out, if that is there.
     pub(crate) fn view_of_entry(&self, entry: Entry) -> Option<EndView> {
-        if let Some(held) = entry.introduced().and_then(|number| self.held_export(number)) {
+        let number = entry.introduced();
+        if let Some(held) = number.and_then(|number| self.held_export(number)) {
             return Some(held.view);
         }
         match entry {

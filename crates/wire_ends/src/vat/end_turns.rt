@@ -74,12 +74,14 @@ impl EndTurns {
 
     /// Whether a call waits at this end.
     pub(crate) fn is_here(&self, call: usize) -> bool {
-        self.calls.get(call).is_some_and(|state| state.place == CallPlace::Here)
+        let state = self.calls.get(call);
+        state.is_some_and(|state| state.place == CallPlace::Here)
     }
 
     /// What a call that waits at this end is meant for, if that stands for anything.
     pub(crate) fn goal_of_waiting(&self, call: usize) -> Option<EndView> {
-        self.call(call).filter(|state| state.place == CallPlace::Here)?.goal
+        let state = self.call(call);
+        state.filter(|state| state.place == CallPlace::Here)?.goal
     }
 
     /// Whether a call is served here and isn't answered.

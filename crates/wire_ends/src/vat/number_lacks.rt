@@ -9,8 +9,8 @@ use wire_plan::{Aim, Entry, Planned, PlannedCall};
 impl EndNumbers {
     /// Bootstrap, Call: its question is free.
     pub(crate) fn lack_of_opening(&self, number: u32) -> Option<Lack> {
-        let is_open = self.question(number).is_some_and(|question| !question.is_free());
-        is_open.then_some(Lack::QuestionFree(number))
+        let question = self.question(number)?;
+        (!question.is_free()).then_some(Lack::QuestionFree(number))
     }
 
     /// A target: the import is held, or the own question is opened and not finished.

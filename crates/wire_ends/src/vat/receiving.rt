@@ -39,7 +39,8 @@ impl Vat<'_> {
         match kind {
             Kind::Finish(question, release) => {
                 let answers = &mut self.numbers.answers;
-                put_finish(answers, &mut self.numbers.exports, self.files.own(), question, release);
+                let exports = &mut self.numbers.exports;
+                put_finish(answers, exports, self.files.own(), question, release);
             }
             Kind::Release(number, count) => {
                 give_back(&mut self.numbers.exports, number, u64::from(count));
@@ -118,7 +119,8 @@ impl Vat<'_> {
         };
         self.notes.log.receive(NO_CALL, references)?;
         let questions = &mut self.numbers.questions;
-        put_return(questions, &mut self.numbers.exports, self.files.own(), place, said);
+        let exports = &mut self.numbers.exports;
+        put_return(questions, exports, self.files.own(), place, said);
         match question {
             Some(question) if is_late => self.turns.know(question.call, Known::Nothing),
             Some(question) => self

@@ -38,7 +38,8 @@ impl Vat<'_> {
         match kind {
             Kind::Finish(question, release) => {
                 let questions = &mut self.numbers.questions;
-                put_finish(questions, &mut self.numbers.imports, self.files.peer(), question, release);
+                let imports = &mut self.numbers.imports;
+                put_finish(questions, imports, self.files.peer(), question, release);
             }
             Kind::Release(number, count) => {
                 give_back(&mut self.numbers.imports, number, u64::from(count));
@@ -52,7 +53,8 @@ impl Vat<'_> {
 
     /// Bootstrap: the call is bound.
     fn send_bootstrap(&mut self, place: usize, question: u32) -> Result<(), AllocError> {
-        let call = self.turns.new_call(MadeCall::new(None, CallPlace::Gone, None))?;
+        let state = MadeCall::new(None, CallPlace::Gone, None);
+        let call = self.turns.new_call(state)?;
         let references = Vec::new(self.alloc);
         self.notes.log.send(call_number(call), references)?;
         self.numbers
@@ -63,7 +65,8 @@ impl Vat<'_> {
     /// MAKE, through the reference of the target.
     fn make(&mut self, said: PlannedCall) -> Result<usize, AllocError> {
         let (reference, _) = self.aimed(said.aim)?;
-        let call = self.turns.new_call(MadeCall::new(None, CallPlace::Gone, None))?;
+        let state = MadeCall::new(None, CallPlace::Gone, None);
+        let call = self.turns.new_call(state)?;
         self.notes
             .log
             .make(call_number(call), reference, said.interface, said.method)?;
@@ -99,7 +102,10 @@ impl Vat<'_> {
             None => self.make(said)?,
         };
         self.send_table(call_number(call), table)?;
-        self.numbers.questions.put(u64::from(said.question), Question::opened(call, place, said.yourself))
+        let question = Question::opened(call, place, said.yourself);
+        self.numbers
+            .questions
+            .put(u64::from(said.question), question)
     }
 
     /// SEND with the call of this number and the references of a table, which introduces exports.
@@ -141,7 +147,8 @@ impl Vat<'_> {
             self.turns.give_up(question.call, said.results);
         }
         let answers = &mut self.numbers.answers;
-        put_return(answers, &mut self.numbers.imports, self.files.peer(), place, said);
+        let imports = &mut self.numbers.imports;
+        put_return(answers, imports, self.files.peer(), place, said);
         Ok(())
     }
 

@@ -41,9 +41,10 @@ impl LookAhead<'_> {
                 Becomes::Broken | Becomes::Untold => None,
             },
             EndView::Field(call, path) => {
-                let state = self.turns.call(call)?;
-                let other = self.taken_by(call).filter(|_| state.place == CallPlace::Served)?;
-                Some(EndView::Field(other, path))
+                if self.turns.call(call)?.place != CallPlace::Served {
+                    return None;
+                }
+                Some(EndView::Field(self.taken_by(call)?, path))
             }
         }
     }

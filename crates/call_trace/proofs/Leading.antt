@@ -113,25 +113,25 @@ module _ (v : ℕ) (es : Past) (steps before : List Step) (w : IsWithin v es ste
   message_led : (m : RpcMessage) (s : Step) → IsGood es (Wire true k c rs m) → IsGoodBy First es (Wire true k c rs m) → (M : Message) →
       message_of_record (naming v (Wire true k c rs m ∷ es) (s ∷ steps)) es (Wire true k c rs m) ≡ Some M → IsLedTo before v M
   message_led (Bootstrap q) s g first M said = subst (IsLedTo before v) (mapped_is message.Boot (call_named v (Wire true k c rs (Bootstrap q) ∷ es) (s ∷ steps) c) M said).2 tt
-  message_led (Call q target interface method params yourself) s g first M said =
-      let m = call_sent_on v es steps before w good (LeadsTo es) (RunLeads before) (led_there v es steps before w led) k c rs q target interface method params yourself s g (first rule.Goal) M said in
+  message_led (Call head target params) s g first M said =
+      let m = call_sent_on v es steps before w good (LeadsTo es) (RunLeads before) (led_there v es steps before w led) k c rs head target params s g (first rule.Goal) M said in
       subst (IsLedTo before v) m.is
-      (first_of (λ asked. RunLeads before asked.goal m.to) (λ asked. interface ≡ asked.interface) (λ asked. method ≡ asked.method) (at_vat before m.call v) m.goal)
-  message_led (Return q release (Results payload) light) s g first M said =
-      let e : DecodedRecord = Wire true k c rs (Return q release (Results payload) light) in
+      (first_of (λ asked. RunLeads before asked.goal m.to) (λ asked. head.interface ≡ asked.interface) (λ asked. head.method ≡ asked.method) (at_vat before m.call v) m.goal)
+  message_led (Return head (Results payload)) s g first M said =
+      let e : DecodedRecord = Wire true k c rs (Return head (Results payload)) in
       let follow = led_on_there v es steps before w led in
-      each_returned v es steps before w good k c rs q release payload light s (IsLedTo before v) (λ name. tt) (λ late name call cs asked named all.
+      each_returned v es steps before w good k c rs head payload s (IsLedTo before v) (λ name. tt) (λ late name call cs asked named all.
       let known : ReturnsFields First es e payload.fields call = subst (λ o. IsSomeAnd o (ReturnsFields First es e payload.fields)) asked (first rule.Result late).1 in
-      results_so v es steps before w good (LeadsOnTo es) (RunLeadsByTurns before) follow k c rs (Return q release (Results payload) light) s g late call name cs named all (ReturnsField First es e call)
+      results_so v es steps before w good (LeadsOnTo es) (RunLeadsByTurns before) follow k c rs (Return head (Results payload)) s g late call name cs named all (ReturnsField First es e call)
       (λ field went caps. went caps) payload.fields known.1) M said
-  message_led (Return q release Exception light) s g first M said =
-      subst (IsLedTo before v) (mapped_is message.Failed (call_answered (naming v (Wire true k c rs (Return q release Exception light) ∷ es) (s ∷ steps)) es k true q) M said).2 tt
-  message_led (Return q release Canceled light) s g first M said =
-      subst (IsLedTo before v) (mapped_is message.Failed (call_answered (naming v (Wire true k c rs (Return q release Canceled light) ∷ es) (s ∷ steps)) es k true q) M said).2 tt
-  message_led (Return q release Elsewhere light) s g first M said =
-      subst (IsLedTo before v) (mapped_is message.Elsewhere (call_answered (naming v (Wire true k c rs (Return q release Elsewhere light) ∷ es) (s ∷ steps)) es k true q) M said).2 tt
-  message_led (Return q release (TakeFrom n) light) s g first M said =
-      each_taken v es steps before w good k c rs q release n light s (IsLedTo before v) (λ name. tt) (λ late name other call by asked named stands by_named.
+  message_led (Return head Exception) s g first M said =
+      subst (IsLedTo before v) (mapped_is message.Failed (call_answered (naming v (Wire true k c rs (Return head Exception) ∷ es) (s ∷ steps)) es k true head.answer) M said).2 tt
+  message_led (Return head Canceled) s g first M said =
+      subst (IsLedTo before v) (mapped_is message.Failed (call_answered (naming v (Wire true k c rs (Return head Canceled) ∷ es) (s ∷ steps)) es k true head.answer) M said).2 tt
+  message_led (Return head Elsewhere) s g first M said =
+      subst (IsLedTo before v) (mapped_is message.Elsewhere (call_answered (naming v (Wire true k c rs (Return head Elsewhere) ∷ es) (s ∷ steps)) es k true head.answer) M said).2 tt
+  message_led (Return head (TakeFrom n)) s g first M said =
+      each_taken v es steps before w good k c rs head n s (IsLedTo before v) (λ name. tt) (λ late name other call by asked named stands by_named.
       let known : ReturnsTaken First es (call_of (id k true n) es) call = subst (λ o. IsSomeAnd o (ReturnsTaken First es (call_of (id k true n) es))) asked (first rule.Result late) in
       let answered = and_then_there (answered_by call es) (λ d. call_of (id k true n) es ≡ Some d) known in
       let same : answered.0 ≡ by = some_same (sym answered.2 ∙ stands) in

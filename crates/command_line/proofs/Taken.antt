@@ -23,6 +23,7 @@ use Rattle.command_line.proofs.Reading.{shape_by}
 use Rattle.command_line.specs.Parser.{most, path, program, start, workers}
 use Rattle.command_line.specs.Parser.{count as many}
 use Rattle.command_line.specs.Spelled.{IsAuditor, IsReader, is_flag}
+use Rattle.command_line.specs.TakenWords.{IsTaken, HasBadNumber, thing_alone, thing_behind_dashes, check_case, audited_by_workers, graph_dot, order_out, draw_out, draw_part, draw_workers, draw_page, migrate_out, migrate_later, salvage_out, frame_later, records_whole, records_part, wire_pair, wire_out, wire_one_reference, join_out, bad_workers, bad_part}
 
 -- ---- a word that is no flag
 
@@ -100,7 +101,7 @@ graph_dot_words case e =
     rw (is.0, is.1, is.2) (refl {a = []})
 
 -- `graph CASE --dot` has no fault, where CASE is no flag
-pub takes_graph_dot : (first case : Text) → is_flag case ≡ false → fault_of program (first ∷ name_of graphing ∷ case ∷ codes "--dot" ∷ []) ≡ []
+takes_graph_dot : (first case : Text) → is_flag case ≡ false → fault_of program (first ∷ name_of graphing ∷ case ∷ codes "--dot" ∷ []) ≡ []
 unfolding clap_on_literals
 takes_graph_dot first case e = ap (λ (k : Kinds). or_else k []) (graph_dot_words case e)
 
@@ -143,12 +144,12 @@ frame_later_words hex e =
     rw (is.0, is.1, is.2) (refl {a = []})
 
 -- `frame --later HEX` has no fault, where HEX is no flag
-pub takes_frame_later : (first hex : Text) → is_flag hex ≡ false → fault_of program (first ∷ name_of framing ∷ codes "--later" ∷ hex ∷ []) ≡ []
+takes_frame_later : (first hex : Text) → is_flag hex ≡ false → fault_of program (first ∷ name_of framing ∷ codes "--later" ∷ hex ∷ []) ≡ []
 unfolding clap_on_literals
 takes_frame_later first hex e = ap (λ (k : Kinds). or_else k []) (frame_later_words hex e)
 
 -- the name of a command and one word have no fault, where the word is no flag
-pub takes_one : (first name file : Text) → IsReader name → is_flag file ≡ false → fault_of program (first ∷ name ∷ file ∷ []) ≡ []
+takes_one : (first name file : Text) → IsReader name → is_flag file ≡ false → fault_of program (first ∷ name ∷ file ∷ []) ≡ []
 takes_one first name file reads e = elim (reader_of name reads) [
   | inl r ↦ ap (λ (n : Text). fault_of program (first ∷ n ∷ file ∷ [])) r.1 ∙ taken_by r.0 first file e
   | inr (inl is) ↦ ap (λ (n : Text). fault_of program (first ∷ n ∷ file ∷ [])) is ∙ takes_graph first file e
@@ -157,7 +158,7 @@ takes_one first name file reads e = elim (reader_of name reads) [
 ]
 
 -- with `--` between them they have none, whatever the word is
-pub takes_after_dashes : (first name file : Text) → IsReader name → fault_of program (first ∷ name ∷ dashes ∷ file ∷ []) ≡ []
+takes_after_dashes : (first name file : Text) → IsReader name → fault_of program (first ∷ name ∷ dashes ∷ file ∷ []) ≡ []
 takes_after_dashes first name file reads = elim (reader_of name reads) [
   | inl r ↦ ap (λ (n : Text). fault_of program (first ∷ n ∷ dashes ∷ file ∷ [])) r.1 ∙ taken_after_by r.0 first file
   | inr (inl is) ↦ ap (λ (n : Text). fault_of program (first ∷ n ∷ dashes ∷ file ∷ [])) is ∙ takes_graph_after first file
@@ -168,7 +169,7 @@ takes_after_dashes first name file reads = elim (reader_of name reads) [
 -- ---- check
 
 -- `check CASE` has no fault, where CASE is no flag
-pub takes_check : (first case : Text) → is_flag case ≡ false → fault_of program (first ∷ name_of checking ∷ case ∷ []) ≡ []
+takes_check : (first case : Text) → is_flag case ≡ false → fault_of program (first ∷ name_of checking ∷ case ∷ []) ≡ []
 unfolding clap_on_literals
 takes_check first case e =
     let is = plain_word_is case e in
@@ -229,7 +230,7 @@ order_words file out e h =
     rw (is.0, is.1, is.2, are.0, are.1, are.2) (refl {a = []})
 
 -- has no fault, where CASE and FILE are no flags
-pub takes_order : (first file out : Text) → is_flag file ≡ false → is_flag out ≡ false → fault_of program (first ∷ name_of ordering ∷ file ∷ codes "--out" ∷ out ∷ []) ≡ []
+takes_order : (first file out : Text) → is_flag file ≡ false → is_flag out ≡ false → fault_of program (first ∷ name_of ordering ∷ file ∷ codes "--out" ∷ out ∷ []) ≡ []
 unfolding clap_on_literals
 takes_order first file out e h = ap (λ (k : Kinds). or_else k []) (order_words file out e h)
 
@@ -243,7 +244,7 @@ draw_words file out e h =
     rw (is.0, is.1, is.2, are.0, are.1, are.2) (refl {a = []})
 
 -- has no fault, where CASE and FILE are no flags
-pub takes_draw : (first file out : Text) → is_flag file ≡ false → is_flag out ≡ false → fault_of program (first ∷ name_of drawing ∷ file ∷ codes "--out" ∷ out ∷ []) ≡ []
+takes_draw : (first file out : Text) → is_flag file ≡ false → is_flag out ≡ false → fault_of program (first ∷ name_of drawing ∷ file ∷ codes "--out" ∷ out ∷ []) ≡ []
 unfolding clap_on_literals
 takes_draw first file out e h = ap (λ (k : Kinds). or_else k []) (draw_words file out e h)
 
@@ -256,7 +257,7 @@ draw_page_words file out e h =
     rw (is.0, is.1, is.2, are.0, are.1, are.2) (refl {a = []})
 
 -- nor has it with `--html`
-pub takes_draw_page : (first file out : Text) → is_flag file ≡ false → is_flag out ≡ false
+takes_draw_page : (first file out : Text) → is_flag file ≡ false → is_flag out ≡ false
     → fault_of program (first ∷ name_of drawing ∷ file ∷ codes "--html" ∷ codes "--out" ∷ out ∷ []) ≡ []
 unfolding clap_on_literals
 takes_draw_page first file out e h = ap (λ (k : Kinds). or_else k []) (draw_page_words file out e h)
@@ -271,7 +272,7 @@ wire_words one another e h =
     rw (is.0, is.1, is.2, are.0, are.1, are.2) (refl {a = []})
 
 -- `wire A B` has no fault, where neither is a flag
-pub takes_wire : (first one another : Text) → is_flag one ≡ false → is_flag another ≡ false → fault_of program (first ∷ name_of wiring ∷ one ∷ another ∷ []) ≡ []
+takes_wire : (first one another : Text) → is_flag one ≡ false → is_flag another ≡ false → fault_of program (first ∷ name_of wiring ∷ one ∷ another ∷ []) ≡ []
 unfolding clap_on_literals
 takes_wire first one another e h = ap (λ (k : Kinds). or_else k []) (wire_words one another e h)
 
@@ -285,7 +286,7 @@ wire_out_words one another out e h f =
     rw (is.0, is.1, is.2, are.0, are.1, are.2, too.0, too.1, too.2) (refl {a = []})
 
 -- nor has it with `--out FOLDER`
-pub takes_wire_out : (first one another out : Text) → is_flag one ≡ false → is_flag another ≡ false → is_flag out ≡ false
+takes_wire_out : (first one another out : Text) → is_flag one ≡ false → is_flag another ≡ false → is_flag out ≡ false
     → fault_of program (first ∷ name_of wiring ∷ one ∷ another ∷ codes "--out" ∷ out ∷ []) ≡ []
 unfolding clap_on_literals
 takes_wire_out first one another out e h f = ap (λ (k : Kinds). or_else k []) (wire_out_words one another out e h f)
@@ -299,7 +300,7 @@ wire_one_reference_words one another e h =
     rw (is.0, is.1, is.2, are.0, are.1, are.2) (refl {a = []})
 
 -- nor has it with `--one-reference`
-pub takes_wire_one_reference : (first one another : Text) → is_flag one ≡ false → is_flag another ≡ false
+takes_wire_one_reference : (first one another : Text) → is_flag one ≡ false → is_flag another ≡ false
     → fault_of program (first ∷ name_of wiring ∷ codes "--one-reference" ∷ one ∷ another ∷ []) ≡ []
 unfolding clap_on_literals
 takes_wire_one_reference first one another e h = ap (λ (k : Kinds). or_else k []) (wire_one_reference_words one another e h)
@@ -316,7 +317,7 @@ join_words one another out e h f =
     rw (is.0, is.1, is.2, are.0, are.1, are.2, too.0, too.1, too.2) (refl {a = []})
 
 -- `join LOG LOG --out FOLDER` has no fault, where none is a flag
-pub takes_join : (first one another out : Text) → is_flag one ≡ false → is_flag another ≡ false → is_flag out ≡ false
+takes_join : (first one another out : Text) → is_flag one ≡ false → is_flag another ≡ false → is_flag out ≡ false
     → fault_of program (first ∷ name_of joining ∷ one ∷ another ∷ codes "--out" ∷ out ∷ []) ≡ []
 unfolding clap_on_literals
 takes_join first one another out e h f = ap (λ (k : Kinds). or_else k []) (join_words one another out e h f)
@@ -331,7 +332,7 @@ migrate_words file out e h =
     rw (is.0, is.1, is.2, are.0, are.1, are.2) (refl {a = []})
 
 -- has no fault, where neither FILE is a flag
-pub takes_migrate : (first file out : Text) → is_flag file ≡ false → is_flag out ≡ false → fault_of program (first ∷ name_of migrating ∷ file ∷ codes "--out" ∷ out ∷ []) ≡ []
+takes_migrate : (first file out : Text) → is_flag file ≡ false → is_flag out ≡ false → fault_of program (first ∷ name_of migrating ∷ file ∷ codes "--out" ∷ out ∷ []) ≡ []
 unfolding clap_on_literals
 takes_migrate first file out e h = ap (λ (k : Kinds). or_else k []) (migrate_words file out e h)
 
@@ -344,7 +345,7 @@ migrate_later_words file out e h =
     rw (is.0, is.1, is.2, are.0, are.1, are.2) (refl {a = []})
 
 -- nor has it with `--later`
-pub takes_migrate_later : (first file out : Text) → is_flag file ≡ false → is_flag out ≡ false
+takes_migrate_later : (first file out : Text) → is_flag file ≡ false → is_flag out ≡ false
     → fault_of program (first ∷ name_of migrating ∷ file ∷ codes "--later" ∷ codes "--out" ∷ out ∷ []) ≡ []
 unfolding clap_on_literals
 takes_migrate_later first file out e h = ap (λ (k : Kinds). or_else k []) (migrate_later_words file out e h)
@@ -359,14 +360,14 @@ salvage_words file out e h =
     rw (is.0, is.1, is.2, are.0, are.1, are.2) (refl {a = []})
 
 -- has no fault, where neither FILE is a flag
-pub takes_salvage : (first file out : Text) → is_flag file ≡ false → is_flag out ≡ false → fault_of program (first ∷ name_of salvaging ∷ file ∷ codes "--out" ∷ out ∷ []) ≡ []
+takes_salvage : (first file out : Text) → is_flag file ≡ false → is_flag out ≡ false → fault_of program (first ∷ name_of salvaging ∷ file ∷ codes "--out" ∷ out ∷ []) ≡ []
 unfolding clap_on_literals
 takes_salvage first file out e h = ap (λ (k : Kinds). or_else k []) (salvage_words file out e h)
 
 -- ---- records
 
 -- `records FILE` has no fault, where FILE is no flag
-pub takes_records : (first file : Text) → is_flag file ≡ false → fault_of program (first ∷ name_of listing ∷ file ∷ []) ≡ []
+takes_records : (first file : Text) → is_flag file ≡ false → fault_of program (first ∷ name_of listing ∷ file ∷ []) ≡ []
 unfolding clap_on_literals
 takes_records first file e =
     let is = plain_word_is file e in
@@ -483,14 +484,14 @@ part_by first file from count true false e f g one two = ap (λ (k : Kinds). or_
 part_by first file from count false b e f g one two = ap (λ (k : Kinds). or_else k []) (part_level file from count false b e f g one two)
 
 -- `records FILE --from I --count N` has none, where I and N are numbers of 64 bits
-pub takes_part : (first file from count : Text) → is_flag file ≡ false → IsUnsignedIn 0 most from → IsUnsignedIn 0 most count
+takes_part : (first file from count : Text) → is_flag file ≡ false → IsUnsignedIn 0 most from → IsUnsignedIn 0 most count
     → fault_of program (first ∷ name_of listing ∷ file ∷ codes "--from" ∷ from ∷ codes "--count" ∷ count ∷ []) ≡ []
 takes_part first file from count e f g =
     part_by first file from count true true e (number_is_plain 0 most from f) (number_is_plain 0 most count g)
     (Accepts-accepts false value_parser from f) (Accepts-accepts false value_parser count g)
 
 -- and where one of them isn't, that is a fault
-pub refuses_part : (first file from count : Text) → is_flag file ≡ false → is_flag from ≡ false → is_flag count ≡ false → (IsUnsignedIn 0 most from × IsUnsignedIn 0 most count → ⊥)
+refuses_part : (first file from count : Text) → is_flag file ≡ false → is_flag from ≡ false → is_flag count ≡ false → (IsUnsignedIn 0 most from × IsUnsignedIn 0 most count → ⊥)
     → fault_of program (first ∷ name_of listing ∷ file ∷ codes "--from" ∷ from ∷ codes "--count" ∷ count ∷ []) ≡ ValueValidation ∷ []
 refuses_part first file from count e f g never =
     go (accepts false value_parser from) (accepts false value_parser count) refl refl
@@ -571,7 +572,7 @@ module _ (case out from count : Text) where
       ∙ many_end two
 
 -- `draw CASE --out FILE --from I --count N` has no fault, where CASE and FILE are no flags, and I and N are numbers of 64 bits
-pub takes_draw_part : (first case out from count : Text) → is_flag case ≡ false → is_flag out ≡ false → IsUnsignedIn 0 most from → IsUnsignedIn 0 most count
+takes_draw_part : (first case out from count : Text) → is_flag case ≡ false → is_flag out ≡ false → IsUnsignedIn 0 most from → IsUnsignedIn 0 most count
     → fault_of program (first ∷ name_of drawing ∷ case ∷ codes "--out" ∷ out ∷ codes "--from" ∷ from ∷ codes "--count" ∷ count ∷ []) ≡ []
 unfolding clap_on_literals
 takes_draw_part first case out from count e h f g =
@@ -628,13 +629,13 @@ workers_by first name case number b (inr (inr is)) e h accepted =
     ap (λ (n : Text). fault_of program (first ∷ n ∷ case ∷ codes "--workers" ∷ number ∷ [])) is ∙ graph_by first case number b e h accepted
 
 -- `check CASE --workers N`, or `run` or `graph` so, has none, where N is a number from 1 to 64
-pub takes_workers : (first name case number : Text) → IsAuditor name → is_flag case ≡ false → IsUnsignedIn 1 64 number
+takes_workers : (first name case number : Text) → IsAuditor name → is_flag case ≡ false → IsUnsignedIn 1 64 number
     → fault_of program (first ∷ name ∷ case ∷ codes "--workers" ∷ number ∷ []) ≡ []
 takes_workers first name case number audits e h =
     workers_by first name case number true audits e (number_is_plain 1 64 number h) (Accepts-accepts false (parser.Unsigned 1 64) number h)
 
 -- and another N is a fault
-pub refuses_workers : (first name case number : Text) → IsAuditor name → is_flag case ≡ false → is_flag number ≡ false → (IsUnsignedIn 1 64 number → ⊥)
+refuses_workers : (first name case number : Text) → IsAuditor name → is_flag case ≡ false → is_flag number ≡ false → (IsUnsignedIn 1 64 number → ⊥)
     → fault_of program (first ∷ name ∷ case ∷ codes "--workers" ∷ number ∷ []) ≡ ValueValidation ∷ []
 refuses_workers first name case number audits e h never = workers_by first name case number false audits e h (fails 1 64 number never)
 
@@ -676,10 +677,38 @@ module _ (case number out : Text) where
       ∙ passed s at_file (state after_file idle 2) out [] (plain_turn s at_file.held (option path) 2 out has) (plain_walk s at_file.held (option path) 2 out has)
 
 -- `draw CASE --workers N --out FILE` has no fault, where CASE and FILE are no flags, and N is a number from 1 to 64
-pub takes_draw_workers : (first case number out : Text) → is_flag case ≡ false → is_flag out ≡ false → IsUnsignedIn 1 64 number
+takes_draw_workers : (first case number out : Text) → is_flag case ≡ false → is_flag out ≡ false → IsUnsignedIn 1 64 number
     → fault_of program (first ∷ name_of drawing ∷ case ∷ codes "--workers" ∷ number ∷ codes "--out" ∷ out ∷ []) ≡ []
 unfolding clap_on_literals
 takes_draw_workers first case number out e h good =
     ap (λ (k : Kinds). or_else k [])
     (worked_draw case number out (plain_word_is case e) (plain_word_is number (number_is_plain 1 64 number good)) (plain_word_is out h)
     (Accepts-accepts false (parser.Unsigned 1 64) number good))
+
+-- ---- all of these together
+
+pub takes : (words : List Text) → IsTaken words → fault_of program words ≡ []
+takes words (thing_alone first name thing reads plain) = takes_one first name thing reads plain
+takes words (thing_behind_dashes first name thing reads) = takes_after_dashes first name thing reads
+takes words (check_case first case plain) = takes_check first case plain
+takes words (audited_by_workers first name case number audits plain good) = takes_workers first name case number audits plain good
+takes words (graph_dot first case plain) = takes_graph_dot first case plain
+takes words (order_out first case out plain unflagged) = takes_order first case out plain unflagged
+takes words (draw_out first case out plain unflagged) = takes_draw first case out plain unflagged
+takes words (draw_part first case out from count plain unflagged good well) = takes_draw_part first case out from count plain unflagged good well
+takes words (draw_workers first case number out plain unflagged good) = takes_draw_workers first case number out plain unflagged good
+takes words (draw_page first case out plain unflagged) = takes_draw_page first case out plain unflagged
+takes words (migrate_out first file out plain unflagged) = takes_migrate first file out plain unflagged
+takes words (migrate_later first file out plain unflagged) = takes_migrate_later first file out plain unflagged
+takes words (salvage_out first file out plain unflagged) = takes_salvage first file out plain unflagged
+takes words (frame_later first hex plain) = takes_frame_later first hex plain
+takes words (records_whole first file plain) = takes_records first file plain
+takes words (records_part first file from count plain good well) = takes_part first file from count plain good well
+takes words (wire_pair first a b plain unflagged) = takes_wire first a b plain unflagged
+takes words (wire_out first a b out plain unflagged neither) = takes_wire_out first a b out plain unflagged neither
+takes words (wire_one_reference first a b plain unflagged) = takes_wire_one_reference first a b plain unflagged
+takes words (join_out first a b out plain unflagged neither) = takes_join first a b out plain unflagged neither
+
+pub refuses : (words : List Text) → HasBadNumber words → fault_of program words ≡ ValueValidation ∷ []
+refuses words (bad_workers first name case number audits plain unflagged bad) = refuses_workers first name case number audits plain unflagged bad
+refuses words (bad_part first file from count plain unflagged neither bad) = refuses_part first file from count plain unflagged neither bad

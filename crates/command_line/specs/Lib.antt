@@ -1,2 +1,3 @@
 pub mod Parser
 pub mod Spelled
+pub mod TakenWords

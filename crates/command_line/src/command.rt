@@ -1,11 +1,11 @@
 //! Commands, and the words that spell them.
 
-ghost use Rattle.std.specs.Prelude.{◌≡◌, ◌⊎◌, ◌≤◌, ℕ, List, [], ◌∷◌, codes, IfOk, IfErr, IsErrAnd, IsSome, Some, map, option_map, false};
+ghost use Rattle.std.specs.Prelude.{◌≡◌, ◌⊎◌, ◌≤◌, ℕ, List, IfOk, IfErr, IsErrAnd, IsSome, Some, map, option_map};
 ghost use Rattle.clap.specs.Kinds.{FailsBy};
-ghost use Rattle.clap.specs.Values.{IsUnsignedIn};
 ghost use Rattle.clap.specs.Words.{fault_of, first_value, found_of, kind_of, matched_of, raw_values};
 ghost use Rattle.command_line.specs.Parser.{most, program, workers};
-ghost use Rattle.command_line.specs.Spelled.{AreMatchesOf, HasWorkers, IsAuditor, IsChecked, IsNumber, IsReader, Spells, is_flag, is_set, out_of};
+ghost use Rattle.command_line.specs.Spelled.{AreMatchesOf, HasWorkers, IsChecked, IsNumber, Spells, is_set, out_of};
+ghost use Rattle.command_line.specs.TakenWords.{HasBadNumber, IsTaken};
 
 use crate::parser::{
     self, COUNT, DOT, FROM, HTML, INPUT, LATER, ONE_REFERENCE, OTHER, OUT, WORKERS,
@@ -264,11 +264,7 @@ fn command_in<'a>(alloc: Global, matches: &ArgMatches<'a>) -> Result<Command<'a>
     }
 }
 
-/// What `clap` makes of the words.
-///
-/// # Errors
-///
-/// `clap`'s: the fault of the words, or out of memory.
+/// What `clap` makes of the words. An error is `clap`'s.
 fn matches_of<'a, S: AsStr>(alloc: Global, words: &'a [S]) -> Result<ArgMatches<'a>, Error>
     ensures kinds { FailsBy (fault_of program (map S.text words.entry.now)) result }
     ensures matches { IfOk result (AreMatchesOf (map S.text words.entry.now)) }
@@ -276,11 +272,7 @@ fn matches_of<'a, S: AsStr>(alloc: Global, words: &'a [S]) -> Result<ArgMatches<
     parser::command_line(alloc)?.try_get_matches_from(words)
 }
 
-/// The command of the words.
-///
-/// # Errors
-///
-/// `clap`'s: the fault of the words, or out of memory.
+/// The command of the words. An error is `clap`'s.
 fn read_command<'a, S: AsStr>(alloc: Global, words: &'a [S]) -> Result<Command<'a>, Error>
     ensures kinds { FailsBy (fault_of program (map S.text words.entry.now)) result }
     ensures spelled { IfOk result (λ command. Spells (map S.text words.entry.now) command) }
@@ -303,101 +295,9 @@ fn read_command<'a, S: AsStr>(alloc: Global, words: &'a [S]) -> Result<Command<'
 pub fn command_of<'a, S: AsStr>(alloc: Global, words: &'a [S]) -> Result<Command<'a>, Error>
     ensures ok { IfOk result (λ command. Spells (map S.text words.entry.now) command) }
     ensures workers { IfOk result HasWorkers }
-    ensures taken { (first name thing : List ℕ) → IsReader name
-        → map S.text words.entry.now ≡ first ∷ name ∷ thing ∷ [] → is_flag thing ≡ false
+    ensures taken { IsTaken (map S.text words.entry.now)
         → IfErr result (λ e. kind_of e ≡ ErrorKind.OutOfMemory) }
-    ensures taken_after { (first name thing : List ℕ) → IsReader name
-        → map S.text words.entry.now ≡ first ∷ name ∷ codes "--" ∷ thing ∷ []
-        → IfErr result (λ e. kind_of e ≡ ErrorKind.OutOfMemory) }
-    ensures taken_check { (first case : List ℕ)
-        → map S.text words.entry.now ≡ first ∷ codes "check" ∷ case ∷ [] → is_flag case ≡ false
-        → IfErr result (λ e. kind_of e ≡ ErrorKind.OutOfMemory) }
-    ensures taken_workers { (first name case number : List ℕ) → IsAuditor name
-        → map S.text words.entry.now
-        ≡ first ∷ name ∷ case ∷ codes "--workers" ∷ number ∷ [] → is_flag case ≡ false
-        → IsUnsignedIn 1 64 number → IfErr result (λ e. kind_of e ≡ ErrorKind.OutOfMemory) }
-    ensures refused_workers { (first name case number : List ℕ) → IsAuditor name
-        → map S.text words.entry.now
-        ≡ first ∷ name ∷ case ∷ codes "--workers" ∷ number ∷ [] → is_flag case ≡ false
-        → is_flag number ≡ false → (IsUnsignedIn 1 64 number → ⊥)
-        → IsErrAnd result
-        (λ e. (kind_of e ≡ ErrorKind.OutOfMemory) ⊎ (kind_of e ≡ ErrorKind.ValueValidation)) }
-    ensures taken_order { (first case out : List ℕ)
-        → map S.text words.entry.now ≡ first ∷ codes "order" ∷ case ∷ codes "--out" ∷ out ∷ []
-        → is_flag case ≡ false → is_flag out ≡ false
-        → IfErr result (λ e. kind_of e ≡ ErrorKind.OutOfMemory) }
-    ensures taken_draw { (first case out : List ℕ)
-        → map S.text words.entry.now ≡ first ∷ codes "draw" ∷ case ∷ codes "--out" ∷ out ∷ []
-        → is_flag case ≡ false → is_flag out ≡ false
-        → IfErr result (λ e. kind_of e ≡ ErrorKind.OutOfMemory) }
-    ensures taken_draw_part { (first case out from count : List ℕ)
-        → map S.text words.entry.now
-        ≡ first ∷ codes "draw" ∷ case ∷ codes "--out" ∷ out ∷ codes "--from" ∷ from ∷ codes "--count" ∷ count ∷ []
-        → is_flag case ≡ false → is_flag out ≡ false
-        → IsUnsignedIn 0 most from → IsUnsignedIn 0 most count
-        → IfErr result (λ e. kind_of e ≡ ErrorKind.OutOfMemory) }
-    ensures taken_draw_workers { (first case out number : List ℕ)
-        → map S.text words.entry.now
-        ≡ first ∷ codes "draw" ∷ case ∷ codes "--workers" ∷ number ∷ codes "--out" ∷ out ∷ []
-        → is_flag case ≡ false → is_flag out ≡ false → IsUnsignedIn 1 64 number
-        → IfErr result (λ e. kind_of e ≡ ErrorKind.OutOfMemory) }
-    ensures taken_draw_page { (first case out : List ℕ)
-        → map S.text words.entry.now
-        ≡ first ∷ codes "draw" ∷ case ∷ codes "--html" ∷ codes "--out" ∷ out ∷ []
-        → is_flag case ≡ false → is_flag out ≡ false
-        → IfErr result (λ e. kind_of e ≡ ErrorKind.OutOfMemory) }
-    ensures taken_migrate { (first file out : List ℕ)
-        → map S.text words.entry.now ≡ first ∷ codes "migrate" ∷ file ∷ codes "--out" ∷ out ∷ []
-        → is_flag file ≡ false → is_flag out ≡ false
-        → IfErr result (λ e. kind_of e ≡ ErrorKind.OutOfMemory) }
-    ensures taken_frame_later { (first hex : List ℕ)
-        → map S.text words.entry.now ≡ first ∷ codes "frame" ∷ codes "--later" ∷ hex ∷ []
-        → is_flag hex ≡ false → IfErr result (λ e. kind_of e ≡ ErrorKind.OutOfMemory) }
-    ensures taken_graph_dot { (first case : List ℕ)
-        → map S.text words.entry.now ≡ first ∷ codes "graph" ∷ case ∷ codes "--dot" ∷ []
-        → is_flag case ≡ false → IfErr result (λ e. kind_of e ≡ ErrorKind.OutOfMemory) }
-    ensures taken_migrate_later { (first file out : List ℕ)
-        → map S.text words.entry.now
-        ≡ first ∷ codes "migrate" ∷ file ∷ codes "--later" ∷ codes "--out" ∷ out ∷ []
-        → is_flag file ≡ false → is_flag out ≡ false
-        → IfErr result (λ e. kind_of e ≡ ErrorKind.OutOfMemory) }
-    ensures taken_salvage { (first file out : List ℕ)
-        → map S.text words.entry.now ≡ first ∷ codes "salvage" ∷ file ∷ codes "--out" ∷ out ∷ []
-        → is_flag file ≡ false → is_flag out ≡ false
-        → IfErr result (λ e. kind_of e ≡ ErrorKind.OutOfMemory) }
-    ensures taken_wire { (first one another : List ℕ)
-        → map S.text words.entry.now ≡ first ∷ codes "wire" ∷ one ∷ another ∷ []
-        → is_flag one ≡ false → is_flag another ≡ false
-        → IfErr result (λ e. kind_of e ≡ ErrorKind.OutOfMemory) }
-    ensures taken_wire_out { (first one another out : List ℕ)
-        → map S.text words.entry.now
-        ≡ first ∷ codes "wire" ∷ one ∷ another ∷ codes "--out" ∷ out ∷ []
-        → is_flag one ≡ false → is_flag another ≡ false → is_flag out ≡ false
-        → IfErr result (λ e. kind_of e ≡ ErrorKind.OutOfMemory) }
-    ensures taken_wire_one_reference { (first one another : List ℕ)
-        → map S.text words.entry.now
-        ≡ first ∷ codes "wire" ∷ codes "--one-reference" ∷ one ∷ another ∷ []
-        → is_flag one ≡ false → is_flag another ≡ false
-        → IfErr result (λ e. kind_of e ≡ ErrorKind.OutOfMemory) }
-    ensures taken_join { (first one another out : List ℕ)
-        → map S.text words.entry.now
-        ≡ first ∷ codes "join" ∷ one ∷ another ∷ codes "--out" ∷ out ∷ []
-        → is_flag one ≡ false → is_flag another ≡ false → is_flag out ≡ false
-        → IfErr result (λ e. kind_of e ≡ ErrorKind.OutOfMemory) }
-    ensures taken_records { (first file : List ℕ)
-        → map S.text words.entry.now ≡ first ∷ codes "records" ∷ file ∷ [] → is_flag file ≡ false
-        → IfErr result (λ e. kind_of e ≡ ErrorKind.OutOfMemory) }
-    ensures taken_part { (first file from count : List ℕ)
-        → map S.text words.entry.now
-        ≡ first ∷ codes "records" ∷ file ∷ codes "--from" ∷ from ∷ codes "--count" ∷ count ∷ []
-        → is_flag file ≡ false → IsUnsignedIn 0 most from → IsUnsignedIn 0 most count
-        → IfErr result (λ e. kind_of e ≡ ErrorKind.OutOfMemory) }
-    ensures refused_part { (first file from count : List ℕ)
-        → map S.text words.entry.now
-        ≡ first ∷ codes "records" ∷ file ∷ codes "--from" ∷ from ∷ codes "--count" ∷ count ∷ []
-        → is_flag file ≡ false → is_flag from ≡ false → is_flag count ≡ false
-        → (IsUnsignedIn 0 most from × IsUnsignedIn 0 most count → ⊥)
-        → IsErrAnd result
+    ensures refused { HasBadNumber (map S.text words.entry.now) → IsErrAnd result
         (λ e. (kind_of e ≡ ErrorKind.OutOfMemory) ⊎ (kind_of e ≡ ErrorKind.ValueValidation)) }
 {
     let command = read_command(alloc, words)?;

@@ -317,11 +317,8 @@ Exit status:
      be written, or the command line is wrong
   3  memory ran out",
     thing: "HEX",
-    help: HEX,
+    help: "The frame, two digits a byte in either case, without blanks",
 };
-
-/// HEX of `frame`.
-pub const HEX: &str = "The frame, two digits a byte in either case, without blanks";
 
 /// `--later` of `frame`.
 pub const LATER_FRAME: &str = "Reads the frame by the later edition of rpc.capnp";
@@ -360,11 +357,8 @@ Exit status:
      be written, or the command line is wrong
   3  memory ran out",
     thing: "FILE",
-    help: FRAMES_FILE,
+    help: "The frames, a path from the working directory; - is standard input",
 };
-
-/// FILE of `frames`.
-pub const FRAMES_FILE: &str = "The frames, a path from the working directory; - is standard input";
 
 /// The command `order`.
 pub const ORDER: Reader<'static> = Reader {
@@ -587,12 +581,8 @@ Exit status:
      failed, or the command line is wrong
   3  memory ran out",
     thing: "A",
-    help: WIRE_A,
+    help: "What one end sent, a path from the working directory; - is standard input",
 };
-
-/// A of `wire`.
-pub const WIRE_A: &str =
-    "What one end sent, a path from the working directory; - is standard input";
 
 /// B of `wire`.
 pub const WIRE_B: &str = "What the other end sent, a path too; - is standard input";
@@ -603,10 +593,11 @@ pub const ONE_REFERENCE: &str = "Takes all calls to a capability to be made thro
 /// FOLDER of `wire`.
 pub const FOLDER: &str = "The folder that is made, for the two logs and their case";
 
-/// `join`, in the list of commands.
-pub const JOIN: &str = "Finds the other end of each connection of logs, and makes their case";
-
-pub const JOIN_LONG: &str = "\
+/// The command `join`.
+pub const JOIN: Reader<'static> = Reader {
+    name: "join",
+    about: "Finds the other end of each connection of logs, and makes their case",
+    long_about: "\
 Finds which connection of which log is the other end of which, where each vat gave
 its connections numbers of its own, as a server that listens does. Two ends are
 those of one connection where each received the first frames that the other sent,
@@ -625,9 +616,8 @@ Where all are joined, FOLDER is made, with the logs and case.json, for check, ru
 graph and draw. In the new logs each connection has one number at both ends, the
 vats are 1, 2, .. where two had the same, and all else is as it was. The logs keep
 their files' names, or are 1.log, 2.log, .. where two have the same. Connections at
-which the same passed are paired in the order of the logs, with a note.";
-
-pub const JOIN_END: &str = "\
+which the same passed are paired in the order of the logs, with a note.",
+    after_help: "\
 Example:
   $ vataudit join server.log clients/*.log --out joined
   joined vats 101 links 100
@@ -637,11 +627,10 @@ Exit status:
   0  joined
   1  an end without another, or with several
   2  a log is bad or can't be read, a write failed, or the command line is wrong
-  3  memory ran out";
-
-/// LOG of `join`.
-pub const LOGS: &str =
-    "The logs of the vats, paths from the working directory; - is standard input";
+  3  memory ran out",
+    thing: "LOG",
+    help: "The logs of the vats, paths from the working directory; - is standard input",
+};
 
 /// FOLDER of `join`.
 pub const JOIN_FOLDER: &str = "The folder that is made, for the logs and their case";

@@ -1,4 +1,4 @@
-//! What `clap` is told of the command line.
+//! What `clap` is told of the command line. The only error is that memory ran out.
 
 ghost use Rattle.std.specs.Prelude.{◌≡◌, IfOk, Some, codes, false, true};
 ghost use Rattle.clap.specs.Words.{App, new_app, new_rule, rule_of, with_rule, with_subcommand};
@@ -111,16 +111,12 @@ fn out<'a>(alloc: Global, thing: &'a str, help: &'a str) -> Arg<'a>
         .help(help)
 }
 
-/// The logs that `join` reads, of which one at least has to be given.
-fn logs<'a>(alloc: Global) -> Arg<'a>
+/// The things that a command reads, of which one at least has to be given.
+fn inputs<'a>(alloc: Global, said: Reader<'a>) -> Arg<'a>
     ensures rule { rule_of result ≡ logs_rule }
     ensures local { result.global ≡ false }
 {
-    Arg::new(alloc, INPUT)
-        .value_name("LOG")
-        .required(true)
-        .action(ArgAction::Append)
-        .help(help::LOGS)
+    input(alloc, INPUT, said.thing, said.help).action(ArgAction::Append)
 }
 
 /// The option `--out FOLDER`, which may be left out.
@@ -135,26 +131,16 @@ fn folder<'a>(alloc: Global) -> Arg<'a>
 }
 
 /// A command without arguments.
-fn described<'a>(
-    alloc: Global,
-    name: &'a str,
-    about: &'a str,
-    long_about: &'a str,
-    after_help: &'a str,
-) -> Command<'a>
-    ensures { IsTold (new_app name.entry.now) result }
+fn described<'a>(alloc: Global, said: Reader<'a>) -> Command<'a>
+    ensures { IsTold (new_app said.entry.name.now) result }
 {
-    Command::new(alloc, name)
-        .about(about)
-        .long_about(long_about)
-        .after_help(after_help)
+    Command::new(alloc, said.name)
+        .about(said.about)
+        .long_about(said.long_about)
+        .after_help(said.after_help)
 }
 
 /// A command with one more argument, where there was memory for it so far.
-///
-/// # Errors
-///
-/// Out of memory.
 fn with_argument<'a>(
     command: Result<Command<'a>, AllocError>,
     argument: Arg<'a>,
@@ -167,10 +153,6 @@ fn with_argument<'a>(
 }
 
 /// A command with one more subcommand, where there was memory for both so far.
-///
-/// # Errors
-///
-/// Out of memory.
 fn with_command<'a>(
     program: Result<Command<'a>, AllocError>,
     command: Result<Command<'a>, AllocError>,
@@ -183,29 +165,15 @@ fn with_command<'a>(
 }
 
 /// A command that reads one thing.
-///
-/// # Errors
-///
-/// Out of memory.
 fn reader_command<'a>(alloc: Global, said: Reader<'a>) -> Result<Command<'a>, AllocError>
     ensures { IfOk result (IsTold (reader said.entry.name.now)) }
 {
     let thing = input(alloc, INPUT, said.thing, said.help);
-    let command = described(
-        alloc,
-        said.name,
-        said.about,
-        said.long_about,
-        said.after_help,
-    );
+    let command = described(alloc, said);
     command.arg(thing)
 }
 
 /// A command that reads one thing and writes a file, which is given as `--out FILE`.
-///
-/// # Errors
-///
-/// Out of memory.
 fn writer_command<'a>(alloc: Global, said: Reader<'a>) -> Result<Command<'a>, AllocError>
     ensures { IfOk result (IsTold (writer said.entry.name.now)) }
 {
@@ -213,10 +181,6 @@ fn writer_command<'a>(alloc: Global, said: Reader<'a>) -> Result<Command<'a>, Al
 }
 
 /// A command that reads one thing and has this option without a value.
-///
-/// # Errors
-///
-/// Out of memory.
 fn flagged_command<'a>(
     alloc: Global,
     said: Reader<'a>,
@@ -229,10 +193,6 @@ fn flagged_command<'a>(
 }
 
 /// A command that has a case audited, and the option `--workers N`.
-///
-/// # Errors
-///
-/// Out of memory.
 fn auditor_command<'a>(alloc: Global, said: Reader<'a>) -> Result<Command<'a>, AllocError>
     ensures { IfOk result (IsTold (auditor said.entry.name.now)) }
 {
@@ -240,10 +200,6 @@ fn auditor_command<'a>(alloc: Global, said: Reader<'a>) -> Result<Command<'a>, A
 }
 
 /// The command `graph CASE`, which has the options `--dot` and `--workers N`.
-///
-/// # Errors
-///
-/// Out of memory.
 fn graph_command<'a>(alloc: Global) -> Result<Command<'a>, AllocError>
     ensures { IfOk result (IsTold graph) }
 {
@@ -252,10 +208,6 @@ fn graph_command<'a>(alloc: Global) -> Result<Command<'a>, AllocError>
 }
 
 /// The command `draw CASE --out FILE`, which has the options `--from STEP`, `--count N`, `--html` and `--workers N`.
-///
-/// # Errors
-///
-/// Out of memory.
 fn draw_command<'a>(alloc: Global) -> Result<Command<'a>, AllocError>
     ensures { IfOk result (IsTold draw) }
 {
@@ -268,10 +220,6 @@ fn draw_command<'a>(alloc: Global) -> Result<Command<'a>, AllocError>
 }
 
 /// The command `records FILE`, which has the options `--from I` and `--count N`.
-///
-/// # Errors
-///
-/// Out of memory.
 fn records_command<'a>(alloc: Global) -> Result<Command<'a>, AllocError>
     ensures { IfOk result (IsTold records) }
 {
@@ -282,10 +230,6 @@ fn records_command<'a>(alloc: Global) -> Result<Command<'a>, AllocError>
 }
 
 /// The command `frame HEX`, which has the option `--later`.
-///
-/// # Errors
-///
-/// Out of memory.
 fn frame_command<'a>(alloc: Global) -> Result<Command<'a>, AllocError>
     ensures { IfOk result (IsTold frame) }
 {
@@ -293,10 +237,6 @@ fn frame_command<'a>(alloc: Global) -> Result<Command<'a>, AllocError>
 }
 
 /// The command `migrate FILE --out FILE`, which has the option `--later`.
-///
-/// # Errors
-///
-/// Out of memory.
 fn migrate_command<'a>(alloc: Global) -> Result<Command<'a>, AllocError>
     ensures { IfOk result (IsTold migrate) }
 {
@@ -305,10 +245,6 @@ fn migrate_command<'a>(alloc: Global) -> Result<Command<'a>, AllocError>
 }
 
 /// The command `wire A B`, which has the options `--one-reference` and `--out FOLDER`.
-///
-/// # Errors
-///
-/// Out of memory.
 fn wire_command<'a>(alloc: Global) -> Result<Command<'a>, AllocError>
     ensures { IfOk result (IsTold wire) }
 {
@@ -321,15 +257,11 @@ fn wire_command<'a>(alloc: Global) -> Result<Command<'a>, AllocError>
 }
 
 /// The command `join LOG .. --out FOLDER`.
-///
-/// # Errors
-///
-/// Out of memory.
 fn join_command<'a>(alloc: Global) -> Result<Command<'a>, AllocError>
     ensures { IfOk result (IsTold join) }
 {
-    let join = described(alloc, "join", help::JOIN, help::JOIN_LONG, help::JOIN_END);
-    let listed = with_argument(Ok(join), logs(alloc));
+    let join = described(alloc, help::JOIN);
+    let listed = with_argument(Ok(join), inputs(alloc, help::JOIN));
     with_argument(listed, out(alloc, "FOLDER", help::JOIN_FOLDER))
 }
 
@@ -345,10 +277,6 @@ fn bare<'a>(alloc: Global) -> Command<'a>
 }
 
 /// The program with its commands that read a case: `check`, `order`, `graph`, `run` and `draw`.
-///
-/// # Errors
-///
-/// Out of memory.
 fn with_cases<'a>(alloc: Global) -> Result<Command<'a>, AllocError>
     ensures { IfOk result (IsTold judging) }
 {
@@ -363,10 +291,6 @@ fn with_cases<'a>(alloc: Global) -> Result<Command<'a>, AllocError>
 }
 
 /// The program with those, and with its commands that read a log or frames: `vat`, `records`, `frame` and `frames`.
-///
-/// # Errors
-///
-/// Out of memory.
 fn with_files<'a>(alloc: Global) -> Result<Command<'a>, AllocError>
     ensures { IfOk result (IsTold reading) }
 {

@@ -1,15 +1,5 @@
-//! Audits what the vats of Cap'n Proto RPC recorded. Of the logs of a conversation, which a case file names, `vataudit check
-//! CASE` prints one line, `vataudit graph CASE` which vat came to have what of another's, `vataudit run CASE` the steps of
-//! their run, and `vataudit order CASE --out FILE` makes an order of their records. `vataudit vat FILE` prints one line for the
-//! log of one vat, `vataudit records FILE` a line for each record of a log, `vataudit frame HEX` the message of a frame, and
-//! `vataudit frames FILE` that of each frame of a file; `vataudit migrate FILE --out FILE` writes a log in another version;
-//! `vataudit salvage FILE --out NEW` writes the whole records of one that is cut;
-//! `vataudit wire A B` prints one line for a connection, by the bytes that its ends sent; `vataudit join LOG .. --out FOLDER` finds
-//! the other end of each connection of logs, and makes their case.
-//! Beside the lines it notes on standard error what leads people to the cause of a no, of a record that isn't judged, of an
-//! input that is bad or can't be read and of a write that fails; `--quiet` before the command, or as the last word, leaves
-//! notes out. With `--json` in these places each line is a JSON object, and the last one has the notes. `vataudit --version` prints the version,
-//! and the kit by which the program was proved, if packaging/proved built it.
+//! Audits what the vats of Cap'n Proto RPC recorded: the program. `--help` says what each command prints, and docs/FORMATS.md what
+//! is noted beside it on standard error.
 //!
 //! It stands on `command_line`, which reads the words, on `command_run`, which runs the command that they spell
 //! and says in its specs/Runs.antt what a run prints, and on `told_runs`, which runs it with notes, with names or with JSON. The files that are read, and those that are

@@ -73,10 +73,6 @@ fn takes_last(manner: &mut Manner, words: &mut Vec<String>) -> Result<bool, Allo
 }
 
 /// Takes away the words that ask for a manner, where they stand before the command or are the last words.
-///
-/// # Errors
-///
-/// Out of memory.
 pub fn take_manner(alloc: Global, words: &mut Vec<String>) -> Result<Manner, AllocError> {
     let mut manner = Manner {
         is_quiet: false,

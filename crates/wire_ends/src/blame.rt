@@ -14,8 +14,11 @@ pub enum Blame {
     Circle,
 }
 
-/// What an end's next message lacks when all that is left of the peer's file has been received.
-fn lack_in_the_end(vat: &mut Vat<'_>) -> Result<Option<Lack>, AllocError> {
+/// What an end's next message, which lacks something now, lacks when all that is left of the peer's file has been received.
+fn lack_in_the_end(vat: &mut Vat<'_>, now: Option<Lack>) -> Result<Option<Lack>, AllocError> {
+    if now.is_none() {
+        return Ok(None);
+    }
     vat.notes.log.mute();
     let all = vat.files.peer().messages.len();
     vat.receive_rest(all)?;
@@ -30,27 +33,17 @@ pub(crate) fn find_blame(
     b: &mut Vat<'_>,
     stuck: Stuck,
 ) -> Result<Blame, AllocError> {
-    let later_of_a = match stuck.of_a {
-        Some(_) => lack_in_the_end(a)?,
-        None => None,
-    };
-    let later_of_b = match stuck.of_b {
-        Some(_) => lack_in_the_end(b)?,
-        None => None,
-    };
-    if later_of_a.is_some() && later_of_a == stuck.of_a {
-        return Ok(Blame::One(End::A));
-    }
-    if later_of_b.is_some() && later_of_b == stuck.of_b {
-        return Ok(Blame::One(End::B));
-    }
-    if later_of_a.is_some() {
-        return Ok(Blame::One(End::A));
-    }
-    if later_of_b.is_some() {
-        return Ok(Blame::One(End::B));
-    }
-    Ok(Blame::Circle)
+    let later = (
+        lack_in_the_end(a, stuck.of_a)?,
+        lack_in_the_end(b, stuck.of_b)?,
+    );
+    Ok(match later {
+        (Some(lack), _) if stuck.of_a == Some(lack) => Blame::One(End::A),
+        (_, Some(lack)) if stuck.of_b == Some(lack) => Blame::One(End::B),
+        (Some(_), _) => Blame::One(End::A),
+        (None, Some(_)) => Blame::One(End::B),
+        (None, None) => Blame::Circle,
+    })
 }
 
 /// Sends and receives what is left of both files at one end, also what the peer hasn't sent.

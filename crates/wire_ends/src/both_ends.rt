@@ -45,24 +45,20 @@ impl Vat<'_> {
 
     /// Lets the next message go out, if it is held back.
     fn lets_go(&mut self, pause: Pause) -> bool {
-        match pause {
-            Pause::HeldBack => {
-                self.let_go = Some(self.sent);
-                true
-            }
-            Pause::Done | Pause::Lacks(_) => false,
+        let is_held = matches!(pause, Pause::HeldBack);
+        if is_held {
+            self.let_go = Some(self.sent);
         }
+        is_held
     }
 
     /// Lets the next message go out without the call that it hands on, if it waits for that alone.
     fn hurries(&mut self, pause: Pause) -> bool {
-        match pause {
-            Pause::Lacks(Lack::HandedOnCall(_)) => {
-                self.hurried = Some(self.sent);
-                true
-            }
-            _ => false,
+        let waits = matches!(pause, Pause::Lacks(Lack::HandedOnCall(_)));
+        if waits {
+            self.hurried = Some(self.sent);
         }
+        waits
     }
 }
 

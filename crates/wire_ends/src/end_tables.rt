@@ -42,32 +42,22 @@ impl Question {
         }
     }
 
-    /// The question with its Return, the frame of this place.
-    pub(crate) fn returned(self, place: usize, is_light: bool) -> Question {
-        Question {
-            answer: Some(place),
-            is_late: self.is_released,
-            is_light,
-            ..self
-        }
+    /// It has its Return, the frame of this place.
+    pub(crate) fn put_return(&mut self, place: usize, is_light: bool) {
+        self.answer = Some(place);
+        self.is_late = self.is_released;
+        self.is_light = is_light;
+    }
+
+    /// It has its Finish.
+    pub(crate) fn put_finish(&mut self, release: bool) {
+        self.is_finished = true;
+        self.is_released = release;
     }
 
     /// The frame of the Return whose capabilities its Finish gives back.
-    pub(crate) fn given_back(self, release: bool) -> Option<usize> {
-        if release && !self.is_late {
-            self.answer
-        } else {
-            None
-        }
-    }
-
-    /// The question with its Finish.
-    pub(crate) fn finished(self, release: bool) -> Question {
-        Question {
-            is_finished: true,
-            is_released: release,
-            ..self
-        }
+    pub(crate) fn given_back(&self, release: bool) -> Option<usize> {
+        self.answer.filter(|_| release && !self.is_late)
     }
 
     /// Whether its number may be opened again.
@@ -159,6 +149,19 @@ pub(crate) struct MadeCall {
     pub opening: Option<usize>,
     /// What is known of its results.
     pub known: Known,
+}
+
+impl MadeCall {
+    /// A call of which nothing is known: one that the peer's frame at a place brings, or one that this end asks for.
+    pub(crate) fn new(goal: Option<EndView>, place: CallPlace, opening: Option<usize>) -> MadeCall {
+        MadeCall {
+            goal,
+            place,
+            is_asked: opening.is_none(),
+            opening,
+            known: Known::NotYet,
+        }
+    }
 }
 
 /// A senderLoopback that came in and waits for its echo.

@@ -5,7 +5,7 @@ ghost use Rattle.wire_ends.specs.Made.{HasMade};
 
 use crate::blame::{Blame, borrow_all, find_blame};
 use crate::both_ends::{Stuck, run_both};
-use crate::second_references::{EndSteps, Parted, part_references};
+use crate::second_references::{EndSteps, part_references};
 use crate::vat::Vat;
 use bytes::Bytes;
 use std::alloc::{AllocError, Global};
@@ -69,19 +69,14 @@ fn waiting(vat: &Vat<'_>, lack: Option<Lack>) -> Option<Waiting> {
     })
 }
 
-/// How far both ends came.
-#[derive(Clone, Copy)]
-struct Standstill {
-    blame: Option<Blame>,
-    waiting: [Option<Waiting>; 2],
-}
-
 /// What is made up of both ends.
 #[derive(Drop)]
 struct MadeUp {
     of_a: EndSteps,
     of_b: EndSteps,
-    stop: Standstill,
+    blame: Option<Blame>,
+    waiting: [Option<Waiting>; 2],
+    overtaking: [Option<Overtaking>; 2],
 }
 
 /// Which message is to blame, where nothing moves. None where all is sent, or a file has a message that isn't read and all
@@ -106,13 +101,9 @@ fn run(a: &mut Vat<'_>, b: &mut Vat<'_>) -> Result<Stuck, AllocError> {
     Ok(stuck)
 }
 
-/// Lets both ends run up to where nothing moves. Then what is blamed is sent, or, where nothing is yet, it is found out what is
-/// to blame; after that the ends are of no use.
-fn run_on(
-    a: &mut Vat<'_>,
-    b: &mut Vat<'_>,
-    blamed: Option<Blame>,
-) -> Result<Standstill, AllocError> {
+/// What both ends, at their beginning, make up up to where nothing moves. Then what is blamed is sent, or, where nothing is yet,
+/// it is found out what is to blame. They are lent, so that they are dropped in one place, whatever fails.
+fn made_up(a: &mut Vat<'_>, b: &mut Vat<'_>, blamed: Option<Blame>) -> Result<MadeUp, AllocError> {
     let stuck = run(a, b)?;
     let waiting = [waiting(a, stuck.of_a), waiting(b, stuck.of_b)];
     let blame = match blamed {
@@ -122,16 +113,12 @@ fn run_on(
         }
         None => blame_of(a, b, stuck)?,
     };
-    Ok(Standstill { blame, waiting })
-}
-
-/// What both ends, at their beginning, make up. They are lent, so that they are dropped in one place, whatever fails.
-fn made_up(a: &mut Vat<'_>, b: &mut Vat<'_>, blamed: Option<Blame>) -> Result<MadeUp, AllocError> {
-    let stop = run_on(a, b, blamed)?;
     Ok(MadeUp {
         of_a: a.notes.take_steps(),
         of_b: b.notes.take_steps(),
-        stop,
+        blame,
+        waiting,
+        overtaking: [None, None],
     })
 }
 
@@ -147,24 +134,21 @@ fn make_up(
     made_up(&mut a, &mut b, blamed)
 }
 
-/// Makes up both ends where this message is to blame as long as neither is patient.
-fn make_up_again(alloc: Global, plan: &WirePlan, blamed: Blame) -> Result<MadeUp, AllocError> {
-    let made = make_up(alloc, plan, true, None)?;
-    if made.stop.blame.is_none() {
+/// Makes up both ends by a plan. Where a message is to blame, both are patient; and where one is then, too, neither is, and the
+/// first one is to blame.
+fn make_up_all(alloc: Global, plan: &WirePlan) -> Result<MadeUp, AllocError> {
+    let made = make_up(alloc, plan, false, None)?;
+    let blamed = made.blame;
+    if blamed.is_none() {
         return Ok(made);
     }
     mem::drop(made);
-    make_up(alloc, plan, false, Some(blamed))
-}
-
-/// Makes up both ends by a plan; and again where a message is to blame.
-fn make_up_all(alloc: Global, plan: &WirePlan) -> Result<MadeUp, AllocError> {
-    let made = make_up(alloc, plan, false, None)?;
-    let Some(blamed) = made.stop.blame else {
-        return Ok(made);
-    };
-    mem::drop(made);
-    make_up_again(alloc, plan, blamed)
+    let patient = make_up(alloc, plan, true, None)?;
+    if patient.blame.is_none() {
+        return Ok(patient);
+    }
+    mem::drop(patient);
+    make_up(alloc, plan, false, blamed)
 }
 
 /// Makes up both ends around the frames of both files. With one reference all calls to a target are made through it, also those
@@ -174,15 +158,13 @@ fn make_up_frames(
     a: &[Bytes],
     b: &[Bytes],
     one_reference: bool,
-) -> Result<(Parted, Standstill), AllocError> {
+) -> Result<MadeUp, AllocError> {
     let plan = plan_wire(alloc, a, b)?;
-    let MadeUp { of_a, of_b, stop } = make_up_all(alloc, &plan)?;
-    let parted = if one_reference {
-        Parted::not_at_all(of_a, of_b)
-    } else {
-        part_references(alloc, of_a, of_b)?
-    };
-    Ok((parted, stop))
+    let mut made = make_up_all(alloc, &plan)?;
+    if !one_reference {
+        made.overtaking = part_references(alloc, &mut made.of_a, &mut made.of_b)?;
+    }
+    Ok(made)
 }
 
 /// The message at which an end's log would be too long.
@@ -211,12 +193,19 @@ pub fn make_logs(
 ) -> Result<Making, AllocError>
     ensures { IfOk result (HasMade a.now b.now) }
 {
-    let (parted, stop) = make_up_frames(alloc, a, b, one_reference)?;
-    let Parted {
-        steps_of_a,
-        steps_of_b,
+    let MadeUp {
+        of_a: EndSteps {
+            steps: steps_of_a,
+            references: _,
+        },
+        of_b: EndSteps {
+            steps: steps_of_b,
+            references: _,
+        },
+        blame,
+        waiting,
         overtaking,
-    } = parted;
+    } = make_up_frames(alloc, a, b, one_reference)?;
     let of_a = match log_of(alloc, VAT_OF_A, steps_of_a, a, b) {
         Ok(log) => log,
         Err(fault) => return no_log(End::A, fault),
@@ -229,8 +218,8 @@ pub fn make_logs(
         log_of_a: of_a.log,
         log_of_b: of_b.log,
         is_whole: of_a.is_whole && of_b.is_whole,
-        blame: stop.blame,
-        waiting: stop.waiting,
+        blame,
+        waiting,
         overtaking,
     }))
 }

@@ -1,6 +1,6 @@
 //! Calls that wait, in the order in which they came.
 
-use crate::end_tables::{CallPlace, MadeCall};
+use crate::vat::end_turns::EndTurns;
 use std::alloc::{AllocError, Global};
 use std::collections::{VecDeque, vec_deque};
 
@@ -8,14 +8,6 @@ use std::collections::{VecDeque, vec_deque};
 #[derive(Drop)]
 pub(crate) struct Queue {
     calls: VecDeque<usize>,
-}
-
-/// Whether a call waits.
-fn is_here(calls: &[MadeCall], call: usize) -> bool {
-    match calls.get(call) {
-        Some(state) => state.place == CallPlace::Here,
-        None => false,
-    }
 }
 
 impl Queue {
@@ -27,17 +19,17 @@ impl Queue {
     }
 
     /// A call waits behind the others. Those before it that have gone are left out.
-    pub(crate) fn wait(&mut self, calls: &[MadeCall], call: usize) -> Result<(), AllocError> {
-        self.leave(calls);
+    pub(crate) fn wait(&mut self, turns: &EndTurns, call: usize) -> Result<(), AllocError> {
+        self.leave(turns);
         self.calls.push_back(call)?;
         Ok(())
     }
 
     /// Leaves out the first ones that have gone.
-    pub(crate) fn leave(&mut self, calls: &[MadeCall]) {
+    pub(crate) fn leave(&mut self, turns: &EndTurns) {
         for _ in 0..self.calls.len() {
             match self.calls.front() {
-                Some(call) if !is_here(calls, *call) => {}
+                Some(call) if !turns.is_here(*call) => {}
                 _ => break,
             }
             let _ = self.calls.pop_front();

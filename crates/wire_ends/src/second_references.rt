@@ -7,6 +7,7 @@
 use crate::made_calls::{CallMade, calls_made};
 use rising_table::RisingTable;
 use std::alloc::{AllocError, Global};
+use std::mem;
 use vat_log::Body;
 use wire_cut::{End, Overtaking};
 use wire_steps::EndStep;
@@ -44,18 +45,18 @@ impl Overtakers {
     /// A call overtakes another.
     fn add(&mut self, overtaken: CallMade, call: CallMade) -> Result<(), AllocError> {
         self.calls.put(call.number, true)?;
-        self.found = match self.found {
-            Some(first) => Some(Overtaking {
+        self.found = Some(match self.found {
+            Some(first) => Overtaking {
                 others: first.others.saturating_add(1),
                 ..first
-            }),
-            None => Some(Overtaking {
+            },
+            None => Overtaking {
                 end: self.end,
                 earlier: overtaken.message as u64,
                 later: call.message as u64,
                 others: 0,
-            }),
-        };
+            },
+        });
         Ok(())
     }
 
@@ -78,115 +79,64 @@ impl Overtakers {
         Ok(())
     }
 
-    /// What the end does where a call overtakes another: its MAKE through a new reference.
-    fn remade(&self, step: &EndStep, references: u64) -> Option<[EndStep; 3]> {
-        let EndStep::Note(
-            Body::Make {
-                call,
-                reference,
-                interface,
-                method,
-            },
-        ) = step
-        else {
-            return None;
-        };
-        if !self.calls.has(*call) {
-            return None;
-        }
-        let second = references.saturating_add(1);
-        Some([
-            EndStep::Note(Body::Vow { reference: second }),
-            EndStep::Note(Body::Fulfil {
-                reference: second,
-                to: *reference,
-            }),
-            EndStep::Note(Body::Make {
-                call: *call,
-                reference: second,
-                interface: *interface,
-                method: *method,
-            }),
-        ])
-    }
-
     /// Puts a step behind the others. A call that overtakes another is made through a new reference, a promise that became the
     /// first one.
-    fn put(&self, step: EndStep, into: &mut EndSteps) -> Result<(), AllocError> {
-        let Some([vow, fulfil, make]) = self.remade(&step, into.references) else {
-            into.steps.push(step)?;
-            return Ok(());
-        };
-        into.references = into.references.saturating_add(1);
-        into.steps.push(vow)?;
-        into.steps.push(fulfil)?;
-        into.steps.push(make)?;
+    fn put(&self, mut step: EndStep, into: &mut EndSteps) -> Result<(), AllocError> {
+        if let EndStep::Note(
+            Body::Make {
+                call,
+                reference: to,
+                ..
+            },
+        ) = &mut step
+        {
+            if self.calls.has(*call) {
+                into.references = into.references.saturating_add(1);
+                let reference = into.references;
+                into.steps.push(EndStep::Note(Body::Vow { reference }))?;
+                into.steps
+                    .push(EndStep::Note(Body::Fulfil { reference, to: *to }))?;
+                *to = reference;
+            }
+        }
+        into.steps.push(step)?;
         Ok(())
     }
 
-    /// The steps of the end where each call that overtakes another is made through a reference of its own.
-    fn parted(&self, alloc: Global, of_end: EndSteps) -> Result<Vec<EndStep>, AllocError> {
-        let EndSteps { steps, references } = of_end;
-        if self.found.is_none() {
-            return Ok(steps);
+    /// Has each call that overtakes another made through a reference of its own.
+    fn part(&self, alloc: Global, of_end: &mut EndSteps) -> Result<(), AllocError> {
+        let room = Vec::with_capacity(alloc, of_end.steps.len())?;
+        for step in mem::replace(&mut of_end.steps, room) {
+            self.put(step, of_end)?;
         }
-        let mut into = EndSteps {
-            steps: Vec::with_capacity(alloc, steps.len())?,
-            references,
-        };
-        for step in steps {
-            self.put(step, &mut into)?;
-        }
-        let EndSteps {
-            steps,
-            references: _,
-        } = into;
-        Ok(steps)
+        Ok(())
     }
 }
 
-/// The steps of both ends, and which calls overtake others.
-#[derive(Drop)]
-pub(crate) struct Parted {
-    pub steps_of_a: Vec<EndStep>,
-    pub steps_of_b: Vec<EndStep>,
-    /// Of each end the first call that overtakes another.
-    pub overtaking: [Option<Overtaking>; 2],
-}
-
-impl Parted {
-    /// The steps as they are.
-    pub(crate) fn not_at_all(a: EndSteps, b: EndSteps) -> Parted {
-        let EndSteps {
-            steps: steps_of_a,
-            references: _,
-        } = a;
-        let EndSteps {
-            steps: steps_of_b,
-            references: _,
-        } = b;
-        Parted {
-            steps_of_a,
-            steps_of_b,
-            overtaking: [None, None],
-        }
+/// Has each of an end's calls that overtakes another made through a reference of its own, and finds the first ones that do.
+fn part_end(
+    alloc: Global,
+    end: End,
+    calls: &[CallMade],
+    of_end: &mut EndSteps,
+) -> Result<Option<Overtaking>, AllocError> {
+    let mut overtakers = Overtakers::new(alloc, end);
+    overtakers.look_at_all(calls)?;
+    if overtakers.found.is_some() {
+        overtakers.part(alloc, of_end)?;
     }
+    Ok(overtakers.found)
 }
 
-/// Has each call that overtakes another made through a reference of its own.
+/// Has each call that overtakes another made through a reference of its own, and finds the first ones of each end that do.
 pub(crate) fn part_references(
     alloc: Global,
-    a: EndSteps,
-    b: EndSteps,
-) -> Result<Parted, AllocError> {
+    a: &mut EndSteps,
+    b: &mut EndSteps,
+) -> Result<[Option<Overtaking>; 2], AllocError> {
     let calls = calls_made(alloc, &a.steps, &b.steps)?;
-    let mut of_a = Overtakers::new(alloc, End::A);
-    of_a.look_at_all(&calls)?;
-    let mut of_b = Overtakers::new(alloc, End::B);
-    of_b.look_at_all(&calls)?;
-    Ok(Parted {
-        steps_of_a: of_a.parted(alloc, a)?,
-        steps_of_b: of_b.parted(alloc, b)?,
-        overtaking: [of_a.found, of_b.found],
-    })
+    Ok([
+        part_end(alloc, End::A, &calls, a)?,
+        part_end(alloc, End::B, &calls, b)?,
+    ])
 }

@@ -47,9 +47,4 @@ impl Groups {
     pub fn resolve(&self, group: usize) -> Option<usize> {
         self.resolves.get(group).copied().unwrap_or(None)
     }
-
-    /// How many groups there are.
-    pub fn len(&self) -> usize {
-        self.resolves.len()
-    }
 }

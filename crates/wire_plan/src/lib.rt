@@ -10,19 +10,15 @@
 mod content;
 mod frame_ties;
 mod groups;
+mod keyed_lists;
 mod led_back;
 mod message;
-mod named_paths;
 mod paths;
 mod plan;
-mod promise_ends;
-mod question_ties;
 mod reading;
 
-pub use frame_ties::{FrameTie, Ties};
+pub use frame_ties::Ties;
 pub use groups::Groups;
-pub use message::{Aim, Entry, Kind, Named, Planned, ReturnKind};
-pub use named_paths::NamedPaths;
+pub use message::{Aim, Entry, Kind, Named, Planned, PlannedCall, PlannedReturn, ReturnKind};
 pub use paths::Paths;
 pub use plan::{FilePlan, WirePlan, plan_wire};
-pub use promise_ends::Leading;

@@ -18,10 +18,18 @@ pub enum Entry {
     Hosted(u32),
     /// A number of the sender's exports, a promise, and the group of introductions to which this one belongs.
     Promised(u32, usize),
-    /// A number of the receiver's exports.
-    ReceiverHosted(u32),
-    /// A result of a question that the sender opened, at a path.
-    ReceiverAnswer(u32, u32),
+    /// What is the receiver's: receiverHosted, or receiverAnswer.
+    Receivers(Aim),
+}
+
+impl Entry {
+    /// The number of the sender's exports that it introduces.
+    pub fn introduced(self) -> Option<u32> {
+        match self {
+            Entry::Hosted(number) | Entry::Promised(number, _) => Some(number),
+            Entry::NoCap | Entry::Receivers(_) => None,
+        }
+    }
 }
 
 /// What a Return says of its call.
@@ -39,37 +47,52 @@ pub enum ReturnKind {
     TakenFrom(u32),
 }
 
+impl ReturnKind {
+    /// Whether there are no results.
+    pub fn are_none(self) -> bool {
+        matches!(self, ReturnKind::Exception | ReturnKind::Canceled)
+    }
+}
+
+/// What a Call says.
+#[derive(Clone, Copy, PartialEq, Eq)]
+pub struct PlannedCall {
+    /// Its question.
+    pub question: u32,
+    /// What it is meant for.
+    pub aim: Aim,
+    /// A digest of its interface, its method and its content.
+    pub digest: u64,
+    /// The interface.
+    pub interface: u64,
+    /// The method.
+    pub method: u16,
+    /// Whether its results stay with the answerer.
+    pub yourself: bool,
+}
+
+/// What a Return says.
+#[derive(Clone, Copy, PartialEq, Eq)]
+pub struct PlannedReturn {
+    /// The question that is answered.
+    pub answer: u32,
+    /// Whether the capabilities of the call's parameters are given back.
+    pub release: bool,
+    /// What it says of the results.
+    pub results: ReturnKind,
+    /// Whether no Finish is needed.
+    pub light: bool,
+}
+
 /// What a frame says, without its capability table and the places of capabilities in the content.
 #[derive(Clone, Copy, PartialEq, Eq)]
 pub enum Kind {
     /// Bootstrap, with its question.
     Bootstrap(u32),
     /// Call.
-    Call {
-        /// Its question.
-        question: u32,
-        /// What it is meant for.
-        aim: Aim,
-        /// A digest of its interface, its method and its content.
-        digest: u64,
-        /// The interface.
-        interface: u64,
-        /// The method.
-        method: u16,
-        /// Whether its results stay with the answerer.
-        yourself: bool,
-    },
+    Call(PlannedCall),
     /// Return.
-    Return {
-        /// The question that is answered.
-        answer: u32,
-        /// Whether the capabilities of the call's parameters are given back.
-        release: bool,
-        /// What it says of the results.
-        results: ReturnKind,
-        /// Whether no Finish is needed.
-        light: bool,
-    },
+    Return(PlannedReturn),
     /// Finish, with its question, and whether the capabilities of the results are given back.
     Finish(u32, bool),
     /// Resolve, with the promise and its group, if a group of it is without a Resolve. Its table has the capability, if
@@ -122,7 +145,8 @@ impl Planned {
     /// The question that the message opens.
     pub fn opens(&self) -> Option<u32> {
         match self.kind {
-            Kind::Bootstrap(question) | Kind::Call { question, .. } => Some(question),
+            Kind::Bootstrap(question) => Some(question),
+            Kind::Call(call) => Some(call.question),
             _ => None,
         }
     }
@@ -130,7 +154,16 @@ impl Planned {
     /// What the message is meant for.
     pub fn aim(&self) -> Option<Aim> {
         match self.kind {
-            Kind::Call { aim, .. } | Kind::Loopback(_, aim) | Kind::Echo(_, aim) => Some(aim),
+            Kind::Call(call) => Some(call.aim),
+            Kind::Loopback(_, aim) | Kind::Echo(_, aim) => Some(aim),
+            _ => None,
+        }
+    }
+
+    /// What the message says of results, if it is a Return.
+    pub fn results(&self) -> Option<ReturnKind> {
+        match self.kind {
+            Kind::Return(said) => Some(said.results),
             _ => None,
         }
     }

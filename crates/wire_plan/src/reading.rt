@@ -2,10 +2,10 @@
 
 use crate::content::digest_of;
 use crate::groups::Groups;
-use crate::message::{Aim, Entry, Kind, Named, Planned, ReturnKind};
+use crate::message::{Aim, Entry, Kind, Named, Planned, PlannedCall, PlannedReturn, ReturnKind};
 use crate::paths::Paths;
 use bytes::Bytes;
-use cap_frame::Frame;
+use cap_frame::{Frame, Path};
 use rpc_view::{
     Descriptor, Edition, Limits, Loopback, Outcome, Payload, Resolution, ReturnHead, RpcMessage,
     Target, ViewError, read_message,
@@ -21,14 +21,17 @@ struct Reading<'a> {
 }
 
 impl Reading<'_> {
+    /// A result of a question.
+    fn result(&mut self, question: u32, path: &Path) -> Result<Aim, AllocError> {
+        Ok(Aim::Answer(question, self.paths.number(self.alloc, path)?))
+    }
+
     /// What a message is meant for.
     fn aim(&mut self, target: &Target) -> Result<Aim, AllocError> {
-        Ok(match target {
-            Target::Imported(number) => Aim::Import(*number),
-            Target::Promised(question, path) => {
-                Aim::Answer(*question, self.paths.number(self.alloc, path)?)
-            }
-        })
+        match target {
+            Target::Imported(number) => Ok(Aim::Import(*number)),
+            Target::Promised(question, path) => self.result(*question, path),
+        }
     }
 
     /// An entry of a table.
@@ -39,9 +42,9 @@ impl Reading<'_> {
             Descriptor::SenderPromise(number) => {
                 Entry::Promised(*number, self.groups.introduced(*number)?)
             }
-            Descriptor::ReceiverHosted(number) => Entry::ReceiverHosted(*number),
+            Descriptor::ReceiverHosted(number) => Entry::Receivers(Aim::Import(*number)),
             Descriptor::ReceiverAnswer(question, path) => {
-                Entry::ReceiverAnswer(*question, self.paths.number(self.alloc, path)?)
+                Entry::Receivers(self.result(*question, path)?)
             }
         })
     }
@@ -112,12 +115,12 @@ impl Reading<'_> {
             Outcome::Elsewhere => ReturnKind::Elsewhere,
             Outcome::TakeFrom(question) => ReturnKind::TakenFrom(*question),
         };
-        let kind = Kind::Return {
+        let kind = Kind::Return(PlannedReturn {
             answer: head.answer,
             release: head.release_param_caps,
             results,
             light: head.light,
-        };
+        });
         match outcome {
             Outcome::Results(payload) => self.with_payload(kind, payload),
             _ => Ok(self.bare(kind)),
@@ -139,14 +142,14 @@ impl Reading<'_> {
         else {
             return Ok(self.bare(Kind::Unread));
         };
-        let kind = Kind::Call {
+        let kind = Kind::Call(PlannedCall {
             question: head.question,
             aim: self.aim(target)?,
             digest: digest_of(self.alloc, frame, words, head.interface, head.method)?,
             interface: head.interface,
             method: head.method,
             yourself: head.yourself,
-        };
+        });
         self.with_payload(kind, params)
     }
 

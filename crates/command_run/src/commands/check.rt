@@ -40,10 +40,6 @@ fn case_line<R: Threads + Sync, G: Watch, S: Source, H: Hears>(
 }
 
 /// Audits the case that a source has under a name, by so many workers, and says the report.
-///
-/// # Errors
-///
-/// That of a write; nothing is written after it.
 pub fn say_report<R: Threads + Sync, G: Watch, S: Source, O: Output, H: Hears>(
     host: &Host<'_, R, G>,
     name: &str,

@@ -120,10 +120,6 @@ fn hear_limit<H: Hears>(asked: Asked, heard: &mut H) {
 
 /// Audits the case that a source has under a name, draws it, and writes the picture or page to `file`; then says the report.
 /// Or it says the case's first fault, and writes nothing to `file`.
-///
-/// # Errors
-///
-/// That of a write; nothing is written after it.
 pub fn say_drawn<
     R: Threads + Wait + Sync,
     G: Watch + Sync,

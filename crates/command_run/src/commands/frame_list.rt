@@ -56,10 +56,6 @@ fn say_bytes<O: Output, H: Hears>(
 
 /// Says the answer to each frame of the file that a source has under a name. The exit status is 0 where each is a
 /// message, else 2, and 3 where memory ran out, which is said in a last line.
-///
-/// # Errors
-///
-/// That of a write; nothing is written after it.
 pub fn say_frames<S: Source, O: Output, H: Hears>(
     alloc: Global,
     name: &str,

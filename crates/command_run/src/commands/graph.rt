@@ -92,10 +92,6 @@ fn say_edges<O: Output, H: Hears>(
 
 /// Audits the case that a source has under a name, by so many workers, and says which vat came to have which capability of another, where the
 /// report is yes, a line each, or in the DOT language where that is asked for; else it says the report.
-///
-/// # Errors
-///
-/// That of a write; nothing is written after it.
 pub fn say_graph<R: Threads + Wait + Sync, G: Watch + Sync, S: Source, O: Output, H: Hears>(
     host: &Host<'_, R, G>,
     name: &str,

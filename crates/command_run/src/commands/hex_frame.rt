@@ -62,10 +62,6 @@ fn edition_asked(later: bool) -> Edition
 }
 
 /// Says the message of a frame in hexadecimal, read by the later edition where that is asked for, and else by the first.
-///
-/// # Errors
-///
-/// That of a write; nothing is written after it.
 pub fn say_frame<O: Output, H: Hears>(
     alloc: Global,
     hex: &str,

@@ -259,10 +259,6 @@ fn save_folder<F: Output>(folder: &Option<JoinedFolder>, file: &mut F) -> Result
 
 /// Finds which connection of which log is the other end of which, in the logs that a source has under these names; writes them
 /// with other numbers, and their case, to `file`, where each connection has both its ends, and then says what was found.
-///
-/// # Errors
-///
-/// That of a write; nothing is written after it.
 pub fn say_join<S: Source, O: Output, F: Output, H: Hears>(
     alloc: Global,
     folder: &str,

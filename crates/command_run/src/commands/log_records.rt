@@ -79,10 +79,6 @@ fn put_numbered<O: Output>(shown: NumberedRecord<'_>, out: &mut O) -> Result<(),
 
 /// Lists the records that are asked for of a log of which only the header was read, their frames read by the log's edition: to
 /// its end, or why not. Each is written as soon as it is read, and none is kept; those that aren't asked for are read, too.
-///
-/// # Errors
-///
-/// That of a write; nothing is written after it.
 fn list_stream<P: Pieces, O: Output>(
     alloc: Global,
     stream: &mut LogStream<P>,
@@ -158,10 +154,6 @@ fn say_end<O: Output, H: Hears>(
 /// in front of it; where no log begins so, that is said alone. The log is read to its end or its fault also where fewer records
 /// are asked for: the exit status is 0 where it is whole, whatever its frames are. Where memory runs out that is said in a last
 /// line.
-///
-/// # Errors
-///
-/// That of a write; nothing is written after it.
 pub fn say_records<S: Source, O: Output, H: Hears>(
     alloc: Global,
     name: &str,

@@ -43,10 +43,6 @@ fn salvage_answer<S: Source>(alloc: Global, source: &mut S, name: &str) -> FileA
 
 /// Writes the log of the longest run of whole records with which the log begins that a source has under a name to `file`, and
 /// then says how many records and bytes it has; or says the fault by which no log begins.
-///
-/// # Errors
-///
-/// That of a write; nothing is written after it.
 pub fn say_salvaged<S: Source, O: Output, F: Output, H: Hears>(
     alloc: Global,
     name: &str,

@@ -51,10 +51,6 @@ fn order_answer<S: Source>(alloc: Global, source: &mut S, name: &str) -> FileAns
 
 /// Makes the order of the case that a source has under a name: writes it to `file`, and then says how many steps it
 /// has; or says that no order exists, or the case's first fault.
-///
-/// # Errors
-///
-/// That of a write; nothing is written after it.
 pub fn say_order<S: Source, O: Output, F: Output, H: Hears>(
     alloc: Global,
     name: &str,

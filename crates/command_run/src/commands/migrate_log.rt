@@ -66,10 +66,6 @@ fn migration_answer<S: Source>(alloc: Global, source: &mut S, name: &str, later:
 /// Makes another log of the one that a source has under a name, with the same vat and records: in version 3 where the later
 /// edition is asked for, or else in version 2 where the log is of version 1, and as it is where it isn't. Writes it to
 /// `file`, and then says how many records it has; or says the log's first fault.
-///
-/// # Errors
-///
-/// That of a write; nothing is written after it.
 pub fn say_migrated<S: Source, O: Output, F: Output, H: Hears>(
     alloc: Global,
     name: &str,

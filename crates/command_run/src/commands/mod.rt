@@ -1,5 +1,6 @@
 //! The commands, one a file, with what they ask of their source and what they say. `graph`, `run` and `draw` have the report of
-//! a case in common (judged_case.rt), of which `check` has the line alone.
+//! a case in common (judged_case.rt), of which `check` has the line alone. An error of what says an answer is that of a write,
+//! behind which nothing is written.
 
 pub(crate) mod check;
 pub(crate) mod draw_case;

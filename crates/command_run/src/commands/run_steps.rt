@@ -61,10 +61,6 @@ fn say_steps<O: Output, H: Hears>(
 
 /// Audits the case that a source has under a name, by so many workers, and says the steps of its run, where the report is yes, a line each;
 /// else it says the report.
-///
-/// # Errors
-///
-/// That of a write; nothing is written after it.
 pub fn say_run<R: Threads + Wait + Sync, G: Watch + Sync, S: Source, O: Output, H: Hears>(
     host: &Host<'_, R, G>,
     name: &str,

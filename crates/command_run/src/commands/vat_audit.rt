@@ -54,10 +54,6 @@ fn finding<S: Source>(alloc: Global, source: &mut S, name: &str) -> Result<SlimF
 }
 
 /// Audits the log that a source has under a name, and says what was found.
-///
-/// # Errors
-///
-/// That of a write; nothing is written after it.
 pub fn say_vat<S: Source, O: Output, H: Hears>(
     alloc: Global,
     name: &str,

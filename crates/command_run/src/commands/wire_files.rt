@@ -187,10 +187,6 @@ fn save_folder<F: Output>(folder: &Option<WireFolder>, file: &mut F) -> Result<(
 
 /// Judges a connection by what its ends sent, which the source has under two names; writes its logs and their case to `file`,
 /// where a folder is asked for, and then says what was found.
-///
-/// # Errors
-///
-/// That of a write; nothing is written after it.
 pub fn say_wire<
     R: Threads + Wait + Sync,
     G: Watch + Sync,

@@ -5,7 +5,7 @@ use crate::vat::Vat;
 use crate::vat::views::{EndView, NextView};
 use std::alloc::AllocError;
 use wire_cut::Lack;
-use wire_plan::{Aim, Entry, Kind, Planned, ReturnKind};
+use wire_plan::{Aim, Entry, Kind, Planned, PlannedCall, PlannedReturn, ReturnKind};
 
 impl Vat<'_> {
     /// What the next message of the own file lacks, if anything.
@@ -18,7 +18,7 @@ impl Vat<'_> {
             return Ok(Some(Lack::NotAborted));
         }
         match message.kind {
-            Kind::Return { .. } => self.lack_of_return(message),
+            Kind::Return(said) => self.lack_of_return(said, message),
             Kind::Resolve(number, group) => self.lack_of_resolve(number, group, message),
             Kind::Echo(number, aim) => self.lack_of_echo(number, aim),
             _ => Ok(self.lack_of_other(place, message)),
@@ -29,11 +29,9 @@ impl Vat<'_> {
     fn lack_of_other(&mut self, place: usize, message: &Planned) -> Option<Lack> {
         match message.kind {
             Kind::Bootstrap(question) => self.numbers.lack_of_opening(question),
-            Kind::Call { question, aim, .. } => {
-                match self.numbers.lack_of_call(question, aim, &message.table) {
-                    None => self.lack_of_handing(place),
-                    Some(lack) => Some(lack),
-                }
+            Kind::Call(call) => {
+                let lack = self.numbers.lack_of_call(call, &message.table);
+                lack.or_else(|| self.lack_of_handing(place, call))
             }
             Kind::Finish(question, release) => {
                 self.numbers.lack_of_finish(self.files, question, release)
@@ -42,32 +40,30 @@ impl Vat<'_> {
                 self.numbers.lack_of_release(number, u64::from(count))
             }
             Kind::Loopback(number, aim) => self.lack_of_loopback(number, aim),
-            Kind::Return { .. } | Kind::Resolve(_, _) | Kind::Echo(_, _) => None,
-            Kind::Abort | Kind::Unread => None,
+            _ => None,
         }
     }
 
     /// The peer's Call that an own one hands on or passes on, as its file says.
-    fn call_to_hand(&self, place: usize) -> Option<usize> {
-        if self.files.own().ties.take_of(place).is_some() {
+    fn call_to_hand(&self, place: usize, call: PlannedCall) -> Option<usize> {
+        let own = self.files.own();
+        if own.ties.take_of(place).is_some() {
             return self.files.handed_on(place);
         }
-        if self.passed_on(place).is_some() {
+        if self.passed_on(place, call).is_some() {
             return None;
         }
-        self.files.call_to_pass(place, self.received)
+        own.call_to_pass(call.digest, call.aim, self.received)
     }
 
     /// A Call that hands on or passes on, softly: the call that it hands on was received.
-    fn lack_of_handing(&self, place: usize) -> Option<Lack> {
+    fn lack_of_handing(&self, place: usize, call: PlannedCall) -> Option<Lack> {
         if self.hurried == Some(place) {
             return None;
         }
-        let opening = self.call_to_hand(place)?;
-        if opening < self.received {
-            return None;
-        }
-        Some(Lack::HandedOnCall(self.files.question_at(opening)?))
+        let opening = self.call_to_hand(place, call)?;
+        let question = self.files.peer_message(opening)?.opens()?;
+        (opening >= self.received).then_some(Lack::HandedOnCall(question))
     }
 
     /// A senderLoopback: the number is free, and the target leads to what isn't over this connection.
@@ -76,12 +72,6 @@ impl Vat<'_> {
             return Some(Lack::LoopbackFree(number));
         }
         self.ahead().lack_of_loop(number, aim)
-    }
-
-    /// Whether a call for the same target is here that will have results.
-    fn is_held_up(&self, calls: &[usize]) -> bool {
-        let ahead = self.ahead();
-        calls.iter().any(|call| ahead.has_results(*call))
     }
 
     /// An echo: the number is pending, its target led there, and no call for the same target is here that will have results.
@@ -101,33 +91,28 @@ impl Vat<'_> {
             return Ok(Some(Lack::LoopbackLeads(number)));
         }
         let held_up = self.held_up(&embargo)?;
-        if self.is_held_up(&held_up) {
-            return Ok(Some(Lack::CallsGone(number)));
-        }
-        Ok(None)
+        let ahead = self.ahead();
+        let is_held_up = held_up.iter().any(|call| ahead.has_results(*call));
+        Ok(is_held_up.then_some(Lack::CallsGone(number)))
     }
 
     /// Return.
-    fn lack_of_return(&mut self, message: &Planned) -> Result<Option<Lack>, AllocError> {
-        let Kind::Return {
-            answer: number,
-            release,
-            results,
-            ..
-        } = message.kind
-        else {
-            return Ok(None);
-        };
+    fn lack_of_return(
+        &mut self,
+        said: PlannedReturn,
+        message: &Planned,
+    ) -> Result<Option<Lack>, AllocError> {
+        let number = said.answer;
         let Some(question) = self.numbers.unanswered(number) else {
             return Ok(Some(Lack::QuestionReceived(number)));
         };
         let lack = self
             .numbers
-            .lack_of_answer(self.files, question, release, &message.table);
+            .lack_of_answer(self.files, question, said.release, &message.table);
         if lack.is_some() {
             return Ok(lack);
         }
-        match results {
+        match said.results {
             ReturnKind::There if !question.is_released => {
                 self.lack_of_results(number, question, message)
             }
@@ -161,14 +146,11 @@ impl Vat<'_> {
             Known::Listed | Known::By(_) => {}
         }
         for field in &message.fields {
-            let Some(entry) = message.entry(field.index) else {
-                continue;
-            };
-            if entry == Entry::NoCap {
-                continue;
-            }
-            if !self.agrees(question.call, field.path, entry)? {
-                return Ok(Some(Lack::ResultsAgree(number)));
+            let view = EndView::Field(question.call, field.path);
+            match message.entry(field.index) {
+                None | Some(Entry::NoCap) => {}
+                Some(entry) if self.turned_to(view, entry)? => {}
+                Some(_) => return Ok(Some(Lack::ResultsAgree(number))),
             }
         }
         self.settle_woken()?;
@@ -207,10 +189,10 @@ impl Vat<'_> {
         }
     }
 
-    /// Whether what was told of a call's results leads to what an entry stands for, which is then told.
-    fn agrees(&mut self, call: usize, path: u32, entry: Entry) -> Result<bool, AllocError> {
-        match self.turns.turn_of(EndView::Field(call, path)) {
-            NextView::To(view) => self.stands_for(view, entry),
+    /// Whether a view turned, and leads to what an entry stands for, which is then told.
+    fn turned_to(&mut self, view: EndView, entry: Entry) -> Result<bool, AllocError> {
+        match self.turns.turn_of(view) {
+            NextView::To(next) => self.stands_for(next, entry),
             NextView::Stays | NextView::Stops => Ok(false),
         }
     }
@@ -220,10 +202,7 @@ impl Vat<'_> {
         if self.turns.turn_of(passed) == NextView::Stays && !self.tell(passed, true)? {
             return Ok(false);
         }
-        match self.turns.turn_of(passed) {
-            NextView::To(view) => self.stands_for(view, entry),
-            NextView::Stays | NextView::Stops => Ok(false),
-        }
+        self.turned_to(passed, entry)
     }
 
     /// Resolve: its number is a promise without one; and what that passed on became what it names.

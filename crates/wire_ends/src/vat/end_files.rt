@@ -2,7 +2,7 @@
 
 use crate::end_tables::Becomes;
 use wire_cut::End;
-use wire_plan::{Entry, FilePlan, Kind, Planned, ReturnKind, WirePlan};
+use wire_plan::{Entry, FilePlan, Kind, Planned, WirePlan};
 
 /// The plans of both files, as one end looks at them.
 #[derive(Clone, Copy)]
@@ -41,21 +41,14 @@ impl<'a> EndFiles<'a> {
 
     /// Whether the last of so many messages isn't read.
     pub(crate) fn is_cut(&self, sent: usize) -> bool {
-        let Some(last) = sent.checked_sub(1) else {
-            return false;
-        };
-        match self.message(last) {
-            Some(message) => message.kind == Kind::Unread,
-            None => false,
-        }
+        let last = sent.checked_sub(1).and_then(|last| self.message(last));
+        last.is_some_and(|last| last.kind == Kind::Unread)
     }
 
     /// Whether there is a message of the peer's at a place behind which others may come.
     pub(crate) fn is_receivable(&self, place: usize) -> bool {
-        match self.peer_message(place) {
-            Some(message) => message.kind != Kind::Abort && message.kind != Kind::Unread,
-            None => false,
-        }
+        let message = self.peer_message(place);
+        message.is_some_and(|message| !matches!(message.kind, Kind::Abort | Kind::Unread))
     }
 
     /// The own Return that answers the question which the peer's frame at this place opens.
@@ -63,18 +56,10 @@ impl<'a> EndFiles<'a> {
         self.message(self.peer().ties.pair_of(opening)?)
     }
 
-    /// What the own Return says that answers the question which the peer's frame at this place opens.
-    pub(crate) fn results_to(&self, opening: usize) -> Option<ReturnKind> {
-        match self.return_to(opening)?.kind {
-            Kind::Return { results, .. } => Some(results),
-            _ => None,
-        }
-    }
-
     /// The digest of the peer's Call at a place.
     pub(crate) fn digest_of(&self, opening: usize) -> Option<u64> {
         match self.peer_message(opening)?.kind {
-            Kind::Call { digest, .. } => Some(digest),
+            Kind::Call(call) => Some(call.digest),
             _ => None,
         }
     }
@@ -92,30 +77,14 @@ impl<'a> EndFiles<'a> {
         peer.ties.pair_of(peer.ties.take_of(opening)?)
     }
 
-    /// The peer's Call from this place on that the own Call at another place passes on, as it seems.
-    pub(crate) fn call_to_pass(&self, place: usize, from: usize) -> Option<usize> {
-        let Kind::Call { aim, digest, .. } = self.message(place)?.kind else {
-            return None;
-        };
-        self.plan.call_to_pass(self.end, digest, aim, from)
-    }
-
-    /// The question that the peer's frame at this place opens.
-    pub(crate) fn question_at(&self, opening: usize) -> Option<u32> {
-        self.peer_message(opening)?.opens()
-    }
-
     /// What the promise of a group becomes by its Resolve.
     pub(crate) fn group_becomes(&self, group: usize) -> Becomes {
         let Some(resolve) = self.own().groups.resolve(group) else {
             return Becomes::Untold;
         };
-        match self.message(resolve) {
-            Some(message) => match message.entry(0) {
-                Some(Entry::NoCap) | None => Becomes::Broken,
-                Some(entry) => Becomes::Entry(entry),
-            },
-            None => Becomes::Broken,
+        match self.message(resolve).and_then(|message| message.entry(0)) {
+            Some(Entry::NoCap) | None => Becomes::Broken,
+            Some(entry) => Becomes::Entry(entry),
         }
     }
 }

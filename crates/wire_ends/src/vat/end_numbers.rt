@@ -1,13 +1,105 @@
 //! What an end's questions, exports, imports and promises are by their numbers.
 
 use crate::end_tables::{Held, Life, Question};
-use crate::vat::counting::{begin, give_back, give_back_all, hold, take_again};
-use crate::vat::end_files::EndFiles;
 use crate::vat::end_notes::next_reference;
 use crate::vat::views::{EndView, NextView};
 use rising_table::RisingTable;
 use std::alloc::{AllocError, Global};
-use wire_plan::{Aim, Entry, Kind};
+use wire_cut::Lack;
+use wire_plan::{Aim, Entry, FilePlan, PlannedReturn};
+
+/// Gives back a number so often.
+pub(crate) fn give_back(table: &mut RisingTable<Held>, number: u32, count: u64) {
+    if let Some(held) = table.get_mut(u64::from(number)) {
+        held.count = held.count.saturating_sub(count);
+    }
+}
+
+/// Gives back what a table introduced.
+fn give_back_all(table: &mut RisingTable<Held>, entries: &[Entry]) {
+    for entry in entries {
+        if let Some(number) = entry.introduced() {
+            give_back(table, number, 1);
+        }
+    }
+}
+
+/// Undoes [`give_back_all`], where each of these was held.
+fn take_again(table: &mut RisingTable<Held>, entries: &[Entry]) {
+    for entry in entries {
+        if let Some(number) = entry.introduced() {
+            if let Some(held) = table.get_mut(u64::from(number)) {
+                held.count = held.count.saturating_add(1);
+            }
+        }
+    }
+}
+
+/// A number is introduced once more in its life. Whether it is in one.
+pub(crate) fn hold(table: &mut RisingTable<Held>, number: u32) -> bool {
+    match table.get_mut(u64::from(number)) {
+        Some(held) if held.count > 0 => {
+            held.count = held.count.saturating_add(1);
+            true
+        }
+        _ => false,
+    }
+}
+
+/// A number's life begins.
+pub(crate) fn begin(
+    table: &mut RisingTable<Held>,
+    number: u32,
+    is_promise: bool,
+    view: EndView,
+) -> Result<(), AllocError> {
+    let held = Held {
+        count: 1,
+        is_promise,
+        is_resolved: false,
+        view,
+    };
+    table.put(u64::from(number), held)
+}
+
+/// A question has its Return, the message at this place. Where that says so, what the question's opening introduced, a message
+/// of this file, is given back.
+pub(crate) fn put_return(
+    questions: &mut RisingTable<Question>,
+    held: &mut RisingTable<Held>,
+    asker: &FilePlan,
+    place: usize,
+    said: PlannedReturn,
+) {
+    let Some(question) = questions.get_mut(u64::from(said.answer)) else {
+        return;
+    };
+    question.put_return(place, said.light);
+    if said.release {
+        if let Some(opening) = asker.messages.get(question.opening) {
+            give_back_all(held, &opening.table);
+        }
+    }
+}
+
+/// A question has its Finish. Where that says so, what the question's Return introduced, a message of this file, is given back.
+pub(crate) fn put_finish(
+    questions: &mut RisingTable<Question>,
+    held: &mut RisingTable<Held>,
+    answerer: &FilePlan,
+    number: u32,
+    release: bool,
+) {
+    let Some(question) = questions.get_mut(u64::from(number)) else {
+        return;
+    };
+    if let Some(place) = question.given_back(release) {
+        if let Some(answer) = answerer.messages.get(place) {
+            give_back_all(held, &answer.table);
+        }
+    }
+    question.put_finish(release);
+}
 
 /// Questions, exports, imports and groups of promises by their numbers.
 #[derive(Drop)]
@@ -20,10 +112,9 @@ pub(crate) struct EndNumbers {
     pub imports: RisingTable<Held>,
     /// The objects that are hosted under the numbers of others: of each number the last.
     objects: RisingTable<u64>,
-    /// The promises of the file's groups.
-    pub group_promises: RisingTable<usize>,
-    /// What groups stand for that aren't promises of this end, but what it passes on while it is open: a reference and what
-    /// that stands for.
+    /// The promises of the file's groups: a reference and what that stands for.
+    pub group_promises: RisingTable<(u64, EndView)>,
+    /// What groups stand for that aren't promises of this end, but what it passes on while it is open.
     pub passed_groups: RisingTable<(u64, EndView)>,
 }
 
@@ -48,12 +139,8 @@ impl EndNumbers {
 
     /// An own question that isn't finished.
     pub(crate) fn unfinished_question(&self, number: u32) -> Option<Question> {
-        let question = self.question(number)?;
-        if question.is_finished {
-            None
-        } else {
-            Some(question)
-        }
+        let question = self.question(number);
+        question.filter(|question| !question.is_finished)
     }
 
     /// A question of the peer.
@@ -63,12 +150,8 @@ impl EndNumbers {
 
     /// A question of the peer that has no Return.
     pub(crate) fn unanswered(&self, number: u32) -> Option<Question> {
-        let question = self.answer(number)?;
-        if question.answer.is_some() {
-            None
-        } else {
-            Some(question)
-        }
+        let question = self.answer(number);
+        question.filter(|question| question.answer.is_none())
     }
 
     /// An import, held or not.
@@ -78,16 +161,13 @@ impl EndNumbers {
 
     /// How often an import is held.
     pub(crate) fn import_count(&self, number: u32) -> u64 {
-        match self.import(number) {
-            Some(held) => held.count,
-            None => 0,
-        }
+        self.import(number).map_or(0, |held| held.count)
     }
 
     /// An export that is held.
     pub(crate) fn held_export(&self, number: u32) -> Option<Held> {
-        let held = self.exports.get(u64::from(number)).copied()?;
-        if held.count == 0 { None } else { Some(held) }
+        let held = self.exports.get(u64::from(number)).copied();
+        held.filter(|held| held.count > 0)
     }
 
     /// The object that is hosted under a number: that of this number, or another one that got it.
@@ -124,12 +204,10 @@ impl EndNumbers {
         }
     }
 
-    /// What a group stands for, if it was introduced or told before.
-    fn view_of_group(&self, group: usize) -> Option<EndView> {
-        match self.passed_groups.get(group as u64) {
-            Some((_, view)) => Some(*view),
-            None => Some(EndView::Vow(*self.group_promises.get(group as u64)?)),
-        }
+    /// The promise of a group, if it was made, or what it passes on: its reference and what that stands for.
+    pub(crate) fn made_promise(&self, group: usize) -> Option<(u64, EndView)> {
+        let passed = self.passed_groups.get(group as u64);
+        passed.or(self.group_promises.get(group as u64)).copied()
     }
 
     /// What a number stands for that is no promise of this end, but what it passes on while it is open.
@@ -140,27 +218,16 @@ impl EndNumbers {
 
     /// What an entry of an own table stands for where it goes out, if that is there.
     pub(crate) fn view_of_entry(&self, entry: Entry) -> Option<EndView> {
+        let number = entry.introduced();
+        if let Some(held) = number.and_then(|number| self.held_export(number)) {
+            return Some(held.view);
+        }
         match entry {
             Entry::NoCap => None,
-            Entry::Hosted(number) => match self.held_export(number) {
-                Some(held) => Some(held.view),
-                None => Some(EndView::Object(self.object_of(number))),
-            },
-            Entry::Promised(number, group) => match self.held_export(number) {
-                Some(held) => Some(held.view),
-                None => self.view_of_group(group),
-            },
-            Entry::ReceiverHosted(number) => {
-                let held = self.import(number)?;
-                if held.count == 0 {
-                    None
-                } else {
-                    Some(held.view)
-                }
-            }
-            Entry::ReceiverAnswer(question, path) => {
-                Some(EndView::Field(self.unfinished_question(question)?.call, path))
-            }
+            Entry::Hosted(number) => Some(EndView::Object(self.object_of(number))),
+            Entry::Promised(_, group) => Some(self.made_promise(group)?.1),
+            Entry::Receivers(aim) if self.lack_of_aim(aim).is_some() => None,
+            Entry::Receivers(aim) => self.view_of_own(aim),
         }
     }
 
@@ -169,21 +236,13 @@ impl EndNumbers {
         match entry {
             Entry::NoCap => None,
             Entry::Hosted(number) | Entry::Promised(number, _) => Some(self.import(number)?.view),
-            Entry::ReceiverHosted(number) => Some(self.held_export(number)?.view),
-            Entry::ReceiverAnswer(question, path) => {
-                Some(EndView::Field(self.answer(question)?.call, path))
-            }
+            Entry::Receivers(aim) => self.view_of_peers(aim),
         }
     }
 
     /// Whether an entry can't be told yet: it goes out as something of the peer's, and either not now or as nothing.
     pub(crate) fn is_too_early(&self, entry: Entry, is_now: bool) -> bool {
-        match entry {
-            Entry::ReceiverHosted(_) | Entry::ReceiverAnswer(_, _) => {
-                !is_now || self.view_of_entry(entry).is_none()
-            }
-            Entry::NoCap | Entry::Hosted(_) | Entry::Promised(_, _) => false,
-        }
+        matches!(entry, Entry::Receivers(_)) && (!is_now || self.view_of_entry(entry).is_none())
     }
 
     /// An import comes in under this reference: a promise, where it belongs to a group of the peer's.
@@ -233,16 +292,16 @@ impl EndNumbers {
     }
 
     /// The first import that these entries introduced more often than it is held.
-    pub(crate) fn not_held(&mut self, entries: &[Entry]) -> Option<u32> {
+    pub(crate) fn not_held(&mut self, entries: &[Entry]) -> Option<Lack> {
         let mut lacking = None;
         let mut given = 0usize;
         for entry in entries {
-            if let Entry::Hosted(number) | Entry::Promised(number, _) = entry {
-                if self.import_count(*number) == 0 {
-                    lacking = Some(*number);
+            if let Some(number) = entry.introduced() {
+                if self.import_count(number) == 0 {
+                    lacking = Some(Lack::ImportHeld(number));
                     break;
                 }
-                give_back(&mut self.imports, *number, 1);
+                give_back(&mut self.imports, number, 1);
             }
             given = given.saturating_add(1);
         }
@@ -253,106 +312,16 @@ impl EndNumbers {
 
     /// The results of an own question are taken.
     pub(crate) fn take_results(&mut self, number: u32) {
-        if let Some(question) = self.question(number) {
-            let taken = Question {
-                is_taken: true,
-                ..question
-            };
-            let _ = self.questions.replace(u64::from(number), taken);
+        if let Some(question) = self.questions.get_mut(u64::from(number)) {
+            question.is_taken = true;
         }
     }
 
     /// An export has its Resolve.
     pub(crate) fn resolve_export(&mut self, number: u32) {
-        if let Some(held) = self.held_export(number) {
-            let resolved = Held {
-                is_resolved: true,
-                ..held
-            };
-            let _ = self.exports.replace(u64::from(number), resolved);
+        if let Some(held) = self.exports.get_mut(u64::from(number)) {
+            held.is_resolved = true;
         }
-    }
-
-    /// A question of the peer has its Return, the own message of this kind and place.
-    pub(crate) fn returned(
-        &mut self,
-        files: EndFiles<'_>,
-        place: usize,
-        kind: Kind,
-        question: Question,
-    ) {
-        let Kind::Return {
-            answer: number,
-            release,
-            light,
-            ..
-        } = kind
-        else {
-            return;
-        };
-        if release {
-            if let Some(opening) = files.peer_message(question.opening) {
-                give_back_all(&mut self.imports, &opening.table);
-            }
-        }
-        let returned = question.returned(place, light);
-        let _ = self.answers.replace(u64::from(number), returned);
-    }
-
-    /// An own question has its Return, the peer's message of this kind and place.
-    pub(crate) fn answered(
-        &mut self,
-        files: EndFiles<'_>,
-        place: usize,
-        kind: Kind,
-        question: Question,
-    ) {
-        let Kind::Return {
-            answer: number,
-            release,
-            light,
-            ..
-        } = kind
-        else {
-            return;
-        };
-        if release {
-            if let Some(opening) = files.message(question.opening) {
-                give_back_all(&mut self.exports, &opening.table);
-            }
-        }
-        let returned = question.returned(place, light);
-        let _ = self.questions.replace(u64::from(number), returned);
-    }
-
-    /// A Finish goes out for an own question.
-    pub(crate) fn finish(&mut self, files: EndFiles<'_>, number: u32, release: bool) {
-        let Some(question) = self.question(number) else {
-            return;
-        };
-        if let Some(answer) = question.given_back(release) {
-            if let Some(answer) = files.peer_message(answer) {
-                give_back_all(&mut self.imports, &answer.table);
-            }
-        }
-        let _ = self
-            .questions
-            .replace(u64::from(number), question.finished(release));
-    }
-
-    /// A Finish comes in for a question of the peer.
-    pub(crate) fn finished(&mut self, files: EndFiles<'_>, number: u32, release: bool) {
-        let Some(question) = self.answer(number) else {
-            return;
-        };
-        if let Some(answer) = question.given_back(release) {
-            if let Some(answer) = files.message(answer) {
-                give_back_all(&mut self.exports, &answer.table);
-            }
-        }
-        let _ = self
-            .answers
-            .replace(u64::from(number), question.finished(release));
     }
 
     /// An import that waits for a Resolve has it. Whether it did, and what it stands for.

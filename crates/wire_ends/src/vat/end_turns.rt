@@ -2,12 +2,10 @@
 
 use crate::end_tables::{CallPlace, Known, Life, MadeCall, Promise};
 use crate::vat::end_numbers::EndNumbers;
-use crate::vat::views::{EndView, NextView, ViewKey};
-use crate::vat::walking::{MAX_TURNS, ViewWalk};
+use crate::vat::views::{EndView, MAX_TURNS, NextView, ViewKey, ViewWalk};
 use cap_frame::Path;
 use std::alloc::{AllocError, Global};
-use std::collections::BTreeMap;
-use std::mem;
+use std::collections::{BTreeMap, VecDeque};
 use wire_plan::{Planned, ReturnKind};
 use wire_steps::Steps;
 
@@ -23,7 +21,7 @@ pub(crate) struct EndTurns {
     /// Calls that wait, by what stops them.
     hanging: BTreeMap<ViewKey, Vec<usize>>,
     /// Calls to be looked at again.
-    woken: Vec<usize>,
+    pub woken: VecDeque<usize>,
 }
 
 impl EndTurns {
@@ -36,7 +34,7 @@ impl EndTurns {
             calls: Vec::new(alloc),
             results: BTreeMap::new(alloc),
             hanging: BTreeMap::new(alloc),
-            woken: Vec::new(alloc),
+            woken: VecDeque::new(alloc),
         }
     }
 
@@ -69,37 +67,27 @@ impl EndTurns {
 
     /// A call whose Return has no results goes, if it waits at this end.
     pub(crate) fn give_up(&mut self, call: usize, results: ReturnKind) {
-        if let ReturnKind::Exception | ReturnKind::Canceled = results {
-            if self.is_here(call) {
-                self.move_call(call, CallPlace::Gone);
-            }
+        if results.are_none() && self.is_here(call) {
+            self.move_call(call, CallPlace::Gone);
         }
     }
 
     /// Whether a call waits at this end.
     pub(crate) fn is_here(&self, call: usize) -> bool {
-        match self.calls.get(call) {
-            Some(state) => state.place == CallPlace::Here,
-            None => false,
-        }
+        let state = self.calls.get(call);
+        state.is_some_and(|state| state.place == CallPlace::Here)
     }
 
     /// What a call that waits at this end is meant for, if that stands for anything.
     pub(crate) fn goal_of_waiting(&self, call: usize) -> Option<EndView> {
-        let state = self.call(call)?;
-        if state.place == CallPlace::Here {
-            state.goal
-        } else {
-            None
-        }
+        let state = self.call(call);
+        state.filter(|state| state.place == CallPlace::Here)?.goal
     }
 
     /// Whether a call is served here and isn't answered.
     pub(crate) fn is_to_be_told(&self, call: usize) -> bool {
-        match self.calls.get(call) {
-            Some(state) => state.place == CallPlace::Served && state.known == Known::NotYet,
-            None => false,
-        }
+        let state = self.calls.get(call);
+        state.is_some_and(|state| state.place == CallPlace::Served && state.known == Known::NotYet)
     }
 
     /// A new promise.
@@ -109,49 +97,33 @@ impl EndTurns {
         Ok((promise.reference, EndView::Vow(place)))
     }
 
-    /// The promise at a place: its reference and what that stands for.
-    pub(crate) fn vow_at(&self, place: usize) -> Option<(u64, EndView)> {
-        Some((self.promises.get(place)?.reference, EndView::Vow(place)))
-    }
-
-    /// An import's reference: the one with which its life began.
-    pub(crate) fn life_at(&self, view: EndView) -> Option<(u64, EndView)> {
+    /// The reference of an own promise, or with which the life of an import began.
+    pub(crate) fn reference_of(&self, view: EndView) -> Option<u64> {
         match view {
-            EndView::Import(life) => Some((self.lives.get(life)?.reference, view)),
-            EndView::Object(_) | EndView::Vow(_) | EndView::Field(_, _) => None,
+            EndView::Vow(place) => Some(self.promises.get(place)?.reference),
+            EndView::Import(life) => Some(self.lives.get(life)?.reference),
+            EndView::Object(_) | EndView::Field(_, _) => None,
         }
     }
 
-    /// Where a field of a call's results turned.
-    fn field_turn(&self, call: usize, path: u32) -> NextView {
-        let Some(state) = self.call(call) else {
-            return NextView::Stops;
-        };
-        match state.known {
-            Known::NotYet => NextView::Stays,
-            Known::Nothing => NextView::Stops,
-            Known::By(other) => NextView::To(EndView::Field(other, path)),
-            Known::Listed => match self.results.get(&(call as u64, path)) {
-                Some(view) => NextView::To(*view),
-                None => NextView::Stops,
+    /// Where a view turned, if it is one that this end has.
+    fn turn_if_there(&self, view: EndView) -> Option<NextView> {
+        Some(match view {
+            EndView::Object(_) => NextView::Stays,
+            EndView::Vow(place) => self.promises.get(place)?.turn,
+            EndView::Import(life) => self.lives.get(life)?.turn,
+            EndView::Field(call, path) => match self.calls.get(call)?.known {
+                Known::NotYet => NextView::Stays,
+                Known::Nothing => NextView::Stops,
+                Known::By(other) => NextView::To(EndView::Field(other, path)),
+                Known::Listed => NextView::To(*self.results.get(&(call as u64, path))?),
             },
-        }
+        })
     }
 
     /// Where a view turned.
     pub(crate) fn turn_of(&self, view: EndView) -> NextView {
-        match view {
-            EndView::Object(_) => NextView::Stays,
-            EndView::Vow(place) => match self.promises.get(place) {
-                Some(promise) => promise.turn,
-                None => NextView::Stops,
-            },
-            EndView::Field(call, path) => self.field_turn(call, path),
-            EndView::Import(life) => match self.lives.get(life) {
-                Some(life) => life.turn,
-                None => NextView::Stops,
-            },
-        }
+        self.turn_if_there(view).unwrap_or(NextView::Stops)
     }
 
     /// Whether a view is reached over the connection.
@@ -159,28 +131,20 @@ impl EndTurns {
         match view {
             EndView::Object(_) | EndView::Vow(_) => false,
             EndView::Import(_) => true,
-            EndView::Field(call, _) => match self.call(call) {
-                Some(state) => state.is_asked,
-                None => false,
-            },
+            EndView::Field(call, _) => self.calls.get(call).is_some_and(|state| state.is_asked),
         }
     }
 
     /// Whether a view leads to something that isn't reached over the connection.
     pub(crate) fn leads_elsewhere(&self, from: EndView) -> bool {
-        let mut view = from;
-        let mut circle = ViewWalk::new(from);
+        let mut walk = ViewWalk::new(from);
         for _ in 0..MAX_TURNS {
-            if !self.is_over(view) {
+            if !self.is_over(walk.view) {
                 return true;
             }
-            let NextView::To(next) = self.turn_of(view) else {
-                return false;
-            };
-            if circle.closes(next) {
-                return false;
+            if !walk.goes_on(self.turn_of(walk.view)) {
+                break;
             }
-            view = next;
         }
         false
     }
@@ -198,19 +162,10 @@ impl EndTurns {
     pub(crate) fn wake(&mut self, view: EndView) -> Result<(), AllocError> {
         if let Some(calls) = self.hanging.remove(&view.turning_key()) {
             for call in &calls {
-                self.woken.push(*call)?;
+                self.woken.push_back(*call)?;
             }
         }
         Ok(())
-    }
-
-    /// Takes the calls out that are to be looked at again, if there are any.
-    pub(crate) fn take_woken(&mut self) -> Option<Vec<usize>> {
-        if self.woken.is_empty() {
-            None
-        } else {
-            Some(mem::replace(&mut self.woken, Vec::new(self.alloc)))
-        }
     }
 
     /// FULFIL: a promise turns to a view, which has this reference.
@@ -248,13 +203,9 @@ impl EndTurns {
         resolved: EndView,
         view: Option<EndView>,
     ) -> Result<(), AllocError> {
-        let turn = match view {
-            Some(view) => NextView::To(view),
-            None => NextView::Stops,
-        };
         if let EndView::Import(life) = resolved {
             if let Some(life) = self.lives.get_mut(life) {
-                life.turn = turn;
+                life.turn = view.map_or(NextView::Stops, |view| NextView::To(view));
             }
         }
         self.wake(resolved)

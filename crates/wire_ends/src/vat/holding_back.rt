@@ -19,15 +19,14 @@ impl Vat<'_> {
         };
         match message.kind {
             Kind::Release(number, count) => self.ends_early(number, u64::from(count)),
-            Kind::Finish(number, true) => match self.numbers.unfinished_question(number) {
-                Some(question) => self.finishes_early(question),
-                None => false,
-            },
-            Kind::Return {
-                answer,
-                release: true,
-                ..
-            } => self.returns_early(answer),
+            Kind::Finish(number, true) => {
+                let question = self.numbers.unfinished_question(number);
+                question.is_some_and(|question| self.finishes_early(question))
+            }
+            Kind::Return(said) if said.release => {
+                let question = self.numbers.unanswered(said.answer);
+                question.is_some_and(|question| self.gives_back_early(question.opening))
+            }
             _ => false,
         }
     }
@@ -48,19 +47,17 @@ impl Vat<'_> {
         let EndView::Import(life) = view else {
             return false;
         };
-        match self.turns.lives.get(life) {
-            Some(life) => match life.group {
-                Some(group) => self.files.peer().groups.resolve(group).is_some(),
-                None => false,
-            },
-            None => false,
-        }
+        let group = self.turns.lives.get(life).and_then(|life| life.group);
+        group.is_some_and(|group| self.files.peer().groups.resolve(group).is_some())
     }
 
-    /// Whether giving back what a table introduced may end an import too early.
-    fn gives_back_early(&self, entries: &[Entry]) -> bool {
-        let at_most = entries.len() as u64;
-        entries.iter().any(|entry| match entry {
+    /// Whether giving back what the peer's message at this place introduced may end an import too early.
+    fn gives_back_early(&self, place: usize) -> bool {
+        let Some(message) = self.files.peer_message(place) else {
+            return false;
+        };
+        let at_most = message.table.len() as u64;
+        message.table.iter().any(|entry| match entry {
             Entry::Promised(number, _) => self.ends_early(*number, at_most),
             _ => false,
         })
@@ -69,40 +66,11 @@ impl Vat<'_> {
     /// Whether a Finish that gives results back goes out too early: its Return has them and is still to come, or one of them
     /// is a promise whose Resolve is.
     fn finishes_early(&self, question: Question) -> bool {
-        match question.answer {
-            Some(place) => match self.files.peer_message(place) {
-                Some(answer) => self.gives_back_early(&answer.table),
-                None => false,
-            },
-            None => self.has_results_to_come(question),
+        if let Some(place) = question.answer {
+            return self.gives_back_early(place);
         }
-    }
-
-    /// Whether the peer's file has a Return with results to an own question.
-    fn has_results_to_come(&self, question: Question) -> bool {
-        let Some(place) = self.files.own().ties.pair_of(question.opening) else {
-            return false;
-        };
-        match self.files.peer_message(place) {
-            Some(message) => matches!(
-                message.kind,
-                Kind::Return {
-                    results: ReturnKind::There,
-                    ..
-                }
-            ),
-            None => false,
-        }
-    }
-
-    /// Whether a Return that gives the parameters back goes out too early.
-    fn returns_early(&self, number: u32) -> bool {
-        let Some(question) = self.numbers.unanswered(number) else {
-            return false;
-        };
-        match self.files.peer_message(question.opening) {
-            Some(opening) => self.gives_back_early(&opening.table),
-            None => false,
-        }
+        let place = self.files.own().ties.pair_of(question.opening);
+        let answer = place.and_then(|place| self.files.peer_message(place));
+        answer.is_some_and(|answer| answer.results() == Some(ReturnKind::There))
     }
 }

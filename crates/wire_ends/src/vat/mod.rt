@@ -1,15 +1,13 @@
 //! One end, as it was made up so far, and what it does: a file for each thing.
 
 mod blocked;
-mod counting;
 mod deliveries;
 mod end_files;
 mod end_notes;
 mod end_numbers;
-mod end_turns;
+pub(crate) mod end_turns;
 mod holding_back;
 mod number_lacks;
-mod passed_on;
 mod receiving;
 mod reference_names;
 mod sending;

@@ -3,22 +3,11 @@
 use crate::end_tables::{AwaitedEcho, CallPlace, Known, MadeCall, Question, call_number};
 use crate::queue::Queue;
 use crate::vat::Vat;
-use crate::vat::counting::give_back;
 use crate::vat::end_notes::NO_CALL;
+use crate::vat::end_numbers::{give_back, put_finish, put_return};
 use crate::vat::views::EndView;
 use std::alloc::AllocError;
-use wire_plan::{Aim, Kind, Planned};
-
-/// A call that the peer's frame at this place brings.
-fn received_call(goal: Option<EndView>, place: CallPlace, opening: usize) -> MadeCall {
-    MadeCall {
-        goal,
-        place,
-        is_asked: false,
-        opening: Some(opening),
-        known: Known::NotYet,
-    }
-}
+use wire_plan::{Aim, Entry, Kind, Planned, PlannedCall, PlannedReturn};
 
 impl Vat<'_> {
     /// Receives the next message of the peer's file.
@@ -36,8 +25,8 @@ impl Vat<'_> {
     fn receive_message(&mut self, place: usize, message: &Planned) -> Result<(), AllocError> {
         match message.kind {
             Kind::Bootstrap(question) => self.receive_bootstrap(place, question),
-            Kind::Call { .. } => self.receive_call(place, message),
-            Kind::Return { .. } => self.receive_return(place, message),
+            Kind::Call(call) => self.receive_call(place, call, &message.table),
+            Kind::Return(said) => self.receive_return(place, said, message),
             Kind::Resolve(number, _) => self.receive_resolve(number, message),
             Kind::Loopback(number, aim) => self.receive_loopback(number, aim),
             _ => self.receive_plain(message.kind),
@@ -49,7 +38,9 @@ impl Vat<'_> {
         self.notes.receive_bare()?;
         match kind {
             Kind::Finish(question, release) => {
-                self.numbers.finished(self.files, question, release);
+                let answers = &mut self.numbers.answers;
+                let exports = &mut self.numbers.exports;
+                put_finish(answers, exports, self.files.own(), question, release);
             }
             Kind::Release(number, count) => {
                 give_back(&mut self.numbers.exports, number, u64::from(count));
@@ -71,9 +62,8 @@ impl Vat<'_> {
 
     /// Bootstrap: the call is bound, and is served here.
     fn receive_bootstrap(&mut self, place: usize, question: u32) -> Result<(), AllocError> {
-        let call = self
-            .turns
-            .new_call(received_call(None, CallPlace::Served, place))?;
+        let state = MadeCall::new(None, CallPlace::Served, Some(place));
+        let call = self.turns.new_call(state)?;
         let references = Vec::new(self.alloc);
         self.notes.log.receive(call_number(call), references)?;
         self.open_answer(question, Question::opened(call, place, false))
@@ -88,48 +78,39 @@ impl Vat<'_> {
             self.waiting
                 .entry(goal.key())?
                 .or_insert(Queue::new(self.alloc))
-                .wait(&self.turns.calls, call)?;
+                .wait(&self.turns, call)?;
         }
         self.digests
             .entry(digest)?
             .or_insert(Queue::new(self.alloc))
-            .wait(&self.turns.calls, call)
+            .wait(&self.turns, call)
     }
 
     /// Call: DELIVER at once if it leads to an object, else it waits.
-    fn receive_call(&mut self, place: usize, message: &Planned) -> Result<(), AllocError> {
-        let Kind::Call {
-            question,
-            aim,
-            digest,
-            yourself,
-            ..
-        } = message.kind
-        else {
-            return Ok(());
-        };
-        let goal = self.numbers.view_of_peers(aim);
-        let call = self
-            .turns
-            .new_call(received_call(goal, CallPlace::Here, place))?;
-        let references = self.take_in_all(&message.table)?;
+    fn receive_call(
+        &mut self,
+        place: usize,
+        said: PlannedCall,
+        table: &[Entry],
+    ) -> Result<(), AllocError> {
+        let goal = self.numbers.view_of_peers(said.aim);
+        let state = MadeCall::new(goal, CallPlace::Here, Some(place));
+        let call = self.turns.new_call(state)?;
+        let references = self.take_in_all(table)?;
         self.notes.log.receive(call_number(call), references)?;
-        self.open_answer(question, Question::opened(call, place, yourself))?;
+        self.open_answer(said.question, Question::opened(call, place, said.yourself))?;
         self.settle(call)?;
-        self.wait(call, goal, digest)
+        self.wait(call, goal, said.digest)
     }
 
     /// Return.
-    fn receive_return(&mut self, place: usize, message: &Planned) -> Result<(), AllocError> {
-        let Kind::Return {
-            answer: number,
-            results,
-            ..
-        } = message.kind
-        else {
-            return Ok(());
-        };
-        let question = self.numbers.question(number);
+    fn receive_return(
+        &mut self,
+        place: usize,
+        said: PlannedReturn,
+        message: &Planned,
+    ) -> Result<(), AllocError> {
+        let question = self.numbers.question(said.answer);
         let is_late = question.is_some_and(|question| question.is_released);
         let references = if is_late {
             Vec::new(self.alloc)
@@ -137,16 +118,16 @@ impl Vat<'_> {
             self.take_in_all(&message.table)?
         };
         self.notes.log.receive(NO_CALL, references)?;
-        let Some(question) = question else {
-            return Ok(());
-        };
-        self.numbers
-            .answered(self.files, place, message.kind, question);
-        if is_late {
-            return self.turns.know(question.call, Known::Nothing);
+        let questions = &mut self.numbers.questions;
+        let exports = &mut self.numbers.exports;
+        put_return(questions, exports, self.files.own(), place, said);
+        match question {
+            Some(question) if is_late => self.turns.know(question.call, Known::Nothing),
+            Some(question) => self
+                .turns
+                .learn(&self.numbers, question.call, said.results, message),
+            None => Ok(()),
         }
-        self.turns
-            .learn(&self.numbers, question.call, results, message)
     }
 
     /// Resolve: the import turns, if it is held and waits for one.
@@ -154,16 +135,12 @@ impl Vat<'_> {
         let held = self.numbers.import(number);
         let references = self.take_in_all(&message.table)?;
         self.notes.log.receive(NO_CALL, references)?;
-        let Some(held) = held else {
+        let resolved = held.and_then(|held| self.numbers.resolve_import(number, held));
+        let Some(promise) = resolved else {
             return Ok(());
         };
-        let Some(promise) = self.numbers.resolve_import(number, held) else {
-            return Ok(());
-        };
-        let view = match message.entry(0) {
-            Some(entry) => self.numbers.view_of_received(entry),
-            None => None,
-        };
+        let entry = message.entry(0);
+        let view = entry.and_then(|entry| self.numbers.view_of_received(entry));
         self.turns.resolve(promise, view)
     }
 

@@ -17,25 +17,14 @@ impl Vat<'_> {
         })
     }
 
-    /// The promise of a group, if it was made, or what it passes on.
-    fn made_promise(&self, group: usize) -> Option<(u64, EndView)> {
-        if let Some(passed) = self.numbers.passed_groups.get(group as u64) {
-            return Some(*passed);
-        }
-        let place = self.numbers.group_promises.get(group as u64)?;
-        self.turns.vow_at(*place)
-    }
-
     /// The promise of a group.
     pub(crate) fn promised(&mut self, group: usize) -> Result<(u64, EndView), AllocError> {
-        if let Some(made) = self.made_promise(group) {
+        if let Some(made) = self.numbers.made_promise(group) {
             return Ok(made);
         }
         let becomes = self.files.group_becomes(group);
         let made = self.new_promise(becomes)?;
-        if let EndView::Vow(place) = made.1 {
-            self.numbers.group_promises.put(group as u64, place)?;
-        }
+        self.numbers.group_promises.put(group as u64, made)?;
         Ok(made)
     }
 
@@ -48,40 +37,30 @@ impl Vat<'_> {
         self.notes.new_field(call, path, fields)
     }
 
-    /// A reference of what may still be open: a promise, a result or an import.
-    fn reference_to(&mut self, view: EndView) -> Result<Option<u64>, AllocError> {
-        match view {
-            EndView::Object(_) => Ok(None),
-            EndView::Vow(place) => Ok(self.turns.vow_at(place).map(|named| named.0)),
-            EndView::Import(_) => Ok(self.turns.life_at(view).map(|named| named.0)),
-            EndView::Field(call, path) => Ok(Some(self.field(call, path)?)),
-        }
-    }
-
     /// What may still be open goes out as the promise of a group, if that stands for nothing yet. Whether it does then.
     pub(crate) fn pass_group(&mut self, view: EndView, group: usize) -> Result<bool, AllocError> {
-        if self.made_promise(group).is_some() {
+        if self.numbers.made_promise(group).is_some() {
             return Ok(false);
         }
-        let Some(reference) = self.reference_to(view)? else {
-            return Ok(false);
+        let reference = match view {
+            EndView::Field(call, path) => Some(self.field(call, path)?),
+            _ => self.turns.reference_of(view),
         };
-        self.numbers
-            .passed_groups
-            .put(group as u64, (reference, view))?;
-        Ok(true)
+        if let Some(reference) = reference {
+            let named = (reference, view);
+            self.numbers.passed_groups.put(group as u64, named)?;
+        }
+        Ok(reference.is_some())
     }
 
     /// The import of a number, in its last life: the reference with which that began. An object where there was none.
     fn imported(&mut self, number: u32) -> Result<(u64, EndView), AllocError> {
-        let began = match self.numbers.import(number) {
-            Some(held) => self.turns.life_at(held.view),
-            None => None,
-        };
-        match began {
-            Some(named) => Ok(named),
-            None => self.notes.new_object(),
+        if let Some(held) = self.numbers.import(number) {
+            if let Some(reference) = self.turns.reference_of(held.view) {
+                return Ok((reference, held.view));
+            }
         }
+        self.notes.new_object()
     }
 
     /// What stands at a path of an own question's results. An object where there was no such question.
@@ -104,18 +83,16 @@ impl Vat<'_> {
                 Ok((self.notes.hosted(object)?, EndView::Object(object)))
             }
             Entry::Promised(_, group) => self.promised(group),
-            Entry::ReceiverHosted(number) => self.imported(number),
-            Entry::ReceiverAnswer(question, path) => self.asked(question, path),
+            Entry::Receivers(aim) => self.aimed(aim),
         }
     }
 
-    /// The reference through which an own Call with this target goes.
-    pub(crate) fn aimed(&mut self, aim: Aim) -> Result<u64, AllocError> {
-        let named = match aim {
-            Aim::Import(number) => self.imported(number)?,
-            Aim::Answer(question, path) => self.asked(question, path)?,
-        };
-        Ok(named.0)
+    /// What the target of an own message stands for, and its reference.
+    pub(crate) fn aimed(&mut self, aim: Aim) -> Result<(u64, EndView), AllocError> {
+        match aim {
+            Aim::Import(number) => self.imported(number),
+            Aim::Answer(question, path) => self.asked(question, path),
+        }
     }
 
     /// The references of an own table, without those of entries that are none.

@@ -2,22 +2,11 @@
 
 use crate::end_tables::{AwaitedEcho, CallPlace, Known, MadeCall, Question, call_number};
 use crate::vat::Vat;
-use crate::vat::counting::{begin, give_back, hold};
 use crate::vat::end_notes::NO_CALL;
+use crate::vat::end_numbers::{begin, give_back, hold, put_finish, put_return};
 use crate::vat::views::EndView;
 use std::alloc::AllocError;
-use wire_plan::{Aim, Entry, Kind, Planned, ReturnKind};
-
-/// A call that this end asks for, and that is nowhere here.
-fn asked_call() -> MadeCall {
-    MadeCall {
-        goal: None,
-        place: CallPlace::Gone,
-        is_asked: true,
-        opening: None,
-        known: Known::NotYet,
-    }
-}
+use wire_plan::{Entry, Kind, Planned, PlannedCall, PlannedReturn, ReturnKind};
 
 impl Vat<'_> {
     /// Sends the next message of the own file.
@@ -35,8 +24,8 @@ impl Vat<'_> {
     fn send_message(&mut self, place: usize, message: &Planned) -> Result<(), AllocError> {
         match message.kind {
             Kind::Bootstrap(question) => self.send_bootstrap(place, question),
-            Kind::Call { .. } => self.send_call(place, message),
-            Kind::Return { .. } => self.send_return(place, message),
+            Kind::Call(call) => self.send_call(place, call, &message.table),
+            Kind::Return(said) => self.send_return(place, said, &message.table),
             Kind::Resolve(promise, group) => self.send_resolve(promise, group, message),
             Kind::Echo(number, _) => self.send_echo(number),
             _ => self.send_plain(message.kind),
@@ -47,7 +36,11 @@ impl Vat<'_> {
     fn send_plain(&mut self, kind: Kind) -> Result<(), AllocError> {
         self.notes.send_bare()?;
         match kind {
-            Kind::Finish(question, release) => self.numbers.finish(self.files, question, release),
+            Kind::Finish(question, release) => {
+                let questions = &mut self.numbers.questions;
+                let imports = &mut self.numbers.imports;
+                put_finish(questions, imports, self.files.peer(), question, release);
+            }
             Kind::Release(number, count) => {
                 give_back(&mut self.numbers.imports, number, u64::from(count));
             }
@@ -60,7 +53,8 @@ impl Vat<'_> {
 
     /// Bootstrap: the call is bound.
     fn send_bootstrap(&mut self, place: usize, question: u32) -> Result<(), AllocError> {
-        let call = self.turns.new_call(asked_call())?;
+        let state = MadeCall::new(None, CallPlace::Gone, None);
+        let call = self.turns.new_call(state)?;
         let references = Vec::new(self.alloc);
         self.notes.log.send(call_number(call), references)?;
         self.numbers
@@ -69,51 +63,49 @@ impl Vat<'_> {
     }
 
     /// MAKE, through the reference of the target.
-    fn make(&mut self, aim: Aim, interface: u64, method: u16) -> Result<usize, AllocError> {
-        let reference = self.aimed(aim)?;
-        let call = self.turns.new_call(asked_call())?;
+    fn make(&mut self, said: PlannedCall) -> Result<usize, AllocError> {
+        let (reference, _) = self.aimed(said.aim)?;
+        let state = MadeCall::new(None, CallPlace::Gone, None);
+        let call = self.turns.new_call(state)?;
         self.notes
             .log
-            .make(call_number(call), reference, interface, method)?;
+            .make(call_number(call), reference, said.interface, said.method)?;
         Ok(call)
     }
 
     /// A received call goes out again: what leads it to the target is told now.
-    fn pass_on(&mut self, call: usize, aim: Aim, digest: u64) -> Result<(), AllocError> {
-        let target = self.numbers.view_of_own(aim);
+    fn pass_on(&mut self, call: usize, said: PlannedCall) -> Result<(), AllocError> {
+        let target = self.numbers.view_of_own(said.aim);
         let goal = self.turns.call(call).and_then(|state| state.goal);
         if let (Some(goal), Some(target)) = (goal, target) {
             self.tell_along(goal, target)?;
         }
         self.turns.pass_call_on(call);
-        if let Some(queue) = self.digests.get_mut(&digest) {
-            queue.leave(&self.turns.calls);
+        if let Some(queue) = self.digests.get_mut(&said.digest) {
+            queue.leave(&self.turns);
         }
         Ok(())
     }
 
     /// Call: it passes on a received one, or is made.
-    fn send_call(&mut self, place: usize, message: &Planned) -> Result<(), AllocError> {
-        let Kind::Call {
-            question,
-            aim,
-            digest,
-            interface,
-            method,
-            yourself,
-        } = message.kind
-        else {
-            return Ok(());
-        };
-        let call = match self.passed_on(place) {
+    fn send_call(
+        &mut self,
+        place: usize,
+        said: PlannedCall,
+        table: &[Entry],
+    ) -> Result<(), AllocError> {
+        let call = match self.passed_on(place, said) {
             Some(call) => {
-                self.pass_on(call, aim, digest)?;
+                self.pass_on(call, said)?;
                 call
             }
-            None => self.make(aim, interface, method)?,
+            None => self.make(said)?,
         };
-        self.send_table(call_number(call), &message.table)?;
-        self.numbers.questions.put(u64::from(question), Question::opened(call, place, yourself))
+        self.send_table(call_number(call), table)?;
+        let question = Question::opened(call, place, said.yourself);
+        self.numbers
+            .questions
+            .put(u64::from(said.question), question)
     }
 
     /// SEND with the call of this number and the references of a table, which introduces exports.
@@ -125,42 +117,38 @@ impl Vat<'_> {
 
     /// What has to be told before a Return that isn't late.
     fn tell_return(&mut self, call: usize, results: ReturnKind) -> Result<(), AllocError> {
-        match results {
-            ReturnKind::There | ReturnKind::TakenFrom(_) => {
-                let _ = self.tell_results(call, true)?;
-                self.settle_woken()
-            }
-            ReturnKind::Exception | ReturnKind::Canceled | ReturnKind::Elsewhere => Ok(()),
+        if let ReturnKind::There | ReturnKind::TakenFrom(_) = results {
+            let _ = self.tell_results(call, true)?;
+            self.settle_woken()?;
         }
+        Ok(())
     }
 
     /// Return.
-    fn send_return(&mut self, place: usize, message: &Planned) -> Result<(), AllocError> {
-        let Kind::Return {
-            answer: number,
-            results,
-            ..
-        } = message.kind
-        else {
-            return Ok(());
-        };
-        let question = self.numbers.answer(number);
+    fn send_return(
+        &mut self,
+        place: usize,
+        said: PlannedReturn,
+        table: &[Entry],
+    ) -> Result<(), AllocError> {
+        let question = self.numbers.answer(said.answer);
         match question {
             Some(question) if question.is_released => self.notes.send_bare()?,
             Some(question) => {
-                self.tell_return(question.call, results)?;
-                self.send_table(NO_CALL, &message.table)?;
+                self.tell_return(question.call, said.results)?;
+                self.send_table(NO_CALL, table)?;
             }
-            None => self.send_table(NO_CALL, &message.table)?,
+            None => self.send_table(NO_CALL, table)?,
         }
-        if let ReturnKind::TakenFrom(taken) = results {
+        if let ReturnKind::TakenFrom(taken) = said.results {
             self.numbers.take_results(taken);
         }
         if let Some(question) = question {
-            self.turns.give_up(question.call, results);
-            self.numbers
-                .returned(self.files, place, message.kind, question);
+            self.turns.give_up(question.call, said.results);
         }
+        let answers = &mut self.numbers.answers;
+        let imports = &mut self.numbers.imports;
+        put_return(answers, imports, self.files.peer(), place, said);
         Ok(())
     }
 
@@ -187,10 +175,7 @@ impl Vat<'_> {
         message: &Planned,
     ) -> Result<(), AllocError> {
         if let Some(group) = group {
-            let is_broken = match message.entry(0) {
-                None | Some(Entry::NoCap) => true,
-                Some(_) => false,
-            };
+            let is_broken = matches!(message.entry(0), None | Some(Entry::NoCap));
             self.tell_group(group, is_broken)?;
         }
         let references = self.references_of(&message.table)?;
@@ -202,18 +187,13 @@ impl Vat<'_> {
     /// An own table goes out: it introduces exports.
     fn introduce(&mut self, entries: &[Entry]) -> Result<(), AllocError> {
         for entry in entries {
-            match entry {
-                Entry::Hosted(number) | Entry::Promised(number, _)
-                    if hold(&mut self.numbers.exports, *number) => {}
-                Entry::Hosted(number) => {
-                    let view = EndView::Object(self.numbers.object_of(*number));
-                    begin(&mut self.numbers.exports, *number, false, view)?;
-                }
-                Entry::Promised(number, group) => {
-                    let (_, view) = self.promised(*group)?;
-                    begin(&mut self.numbers.exports, *number, true, view)?;
-                }
-                _ => {}
+            let Some(number) = entry.introduced() else {
+                continue;
+            };
+            if !hold(&mut self.numbers.exports, number) {
+                let (_, view) = self.named(*entry)?;
+                let is_promise = matches!(entry, Entry::Promised(_, _));
+                begin(&mut self.numbers.exports, number, is_promise, view)?;
             }
         }
         Ok(())

@@ -2,13 +2,17 @@
 
 use crate::end_tables::{Becomes, Known, call_number};
 use crate::vat::Vat;
-use crate::vat::views::{EndView, NextView};
-use crate::vat::walking::{MAX_TURNS, ViewWalk};
+use crate::vat::views::{EndView, MAX_TURNS, NextView, ViewWalk};
 use cap_frame::Path;
 use std::alloc::AllocError;
 use wire_plan::{Entry, Planned, ReturnKind};
 
-impl Vat<'_> {
+impl<'a> Vat<'a> {
+    /// The own Return that answers a received call.
+    fn return_to(&self, call: usize) -> Option<&'a Planned> {
+        self.files.return_to(self.turns.call(call)?.opening?)
+    }
+
     /// Tells what a promise becomes; what is the peer's is told only now that it goes out. Whether it was told.
     pub(crate) fn tell_promise(&mut self, place: usize, is_now: bool) -> Result<bool, AllocError> {
         let Some(promise) = self.turns.promises.get(place).copied() else {
@@ -105,9 +109,9 @@ impl Vat<'_> {
     ) -> Result<(), AllocError> {
         let own = self.files.own();
         let peer = self.files.peer();
-        self.list_objects(call, peer.named.of(opening), listed)?;
+        self.list_objects(call, peer.ties.named(opening), listed)?;
         match self.files.taking(opening) {
-            Some(question) => self.list_objects(call, own.named.of(question), listed),
+            Some(question) => self.list_objects(call, own.ties.named(question), listed),
             None => Ok(()),
         }
     }
@@ -115,7 +119,8 @@ impl Vat<'_> {
     /// ANSWER with a new object at each path that is named.
     fn tell_objects(&mut self, call: usize) -> Result<(), AllocError> {
         let mut listed = Vec::new(self.alloc);
-        if let Some(Some(opening)) = self.turns.call(call).map(|state| state.opening) {
+        let state = self.turns.call(call);
+        if let Some(opening) = state.and_then(|state| state.opening) {
             self.list_named(call, opening, &mut listed)?;
         }
         self.answer_with(call, listed)
@@ -146,18 +151,14 @@ impl Vat<'_> {
         if !self.turns.is_to_be_told(call) {
             return Ok(false);
         }
-        match self.ahead().results_of(call) {
-            Some(ReturnKind::There) => {
-                if let Some(Some(opening)) = self.turns.call(call).map(|state| state.opening) {
-                    if let Some(answer) = self.files.return_to(opening) {
-                        self.tell_listed(call, answer, is_now)?;
-                    }
-                }
+        match self.return_to(call) {
+            Some(answer) if answer.results() == Some(ReturnKind::There) => {
+                self.tell_listed(call, answer, is_now)?;
             }
-            Some(ReturnKind::TakenFrom(_)) => return self.tell_taken(call, is_now),
-            Some(ReturnKind::Exception | ReturnKind::Canceled | ReturnKind::Elsewhere) | None => {
-                self.tell_objects(call)?;
+            Some(answer) if matches!(answer.results(), Some(ReturnKind::TakenFrom(_))) => {
+                return self.tell_taken(call, is_now);
             }
+            _ => self.tell_objects(call)?,
         }
         Ok(true)
     }
@@ -173,22 +174,17 @@ impl Vat<'_> {
 
     /// Tells all turns of a view up to another one, or as far as they are told.
     pub(crate) fn tell_along(&mut self, from: EndView, to: EndView) -> Result<(), AllocError> {
-        let mut view = from;
-        let mut circle = ViewWalk::new(from);
+        let mut walk = ViewWalk::new(from);
         for _ in 0..MAX_TURNS {
-            if view == to {
+            if walk.view == to {
                 break;
             }
-            if self.turns.turn_of(view) == NextView::Stays && !self.tell(view, true)? {
+            if self.turns.turn_of(walk.view) == NextView::Stays && !self.tell(walk.view, true)? {
                 break;
             }
-            let NextView::To(next) = self.turns.turn_of(view) else {
-                break;
-            };
-            if circle.closes(next) {
+            if !walk.goes_on(self.turns.turn_of(walk.view)) {
                 break;
             }
-            view = next;
         }
         Ok(())
     }

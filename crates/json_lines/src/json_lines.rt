@@ -9,8 +9,7 @@ use report_lines::{DotEdge, ShownEdge, ShownLine};
 use schema_names::SchemaNames;
 use std::alloc::{AllocError, Global};
 use std::fmt::Display;
-use std::io;
-use std::io::Write;
+use std::io::{self, Write};
 
 /// Why a line isn't written.
 #[derive(Drop)]

@@ -30,9 +30,7 @@ pub struct Lives {
 
 /// The number that one of a record's descriptors uses or introduces, where it is an export or an import.
 pub(crate) fn number_described(event: &DecodedRecord, descriptor: &Descriptor) -> Option<TableKey> {
-    event
-        .number_introduced(descriptor)
-        .or(event.number_described(descriptor))
+    event.number_introduced(descriptor).or(event.number_described(descriptor))
 }
 
 /// The number that a record names beside its capability table.
@@ -61,9 +59,8 @@ impl NumberLife {
 impl Lives {
     /// No number.
     pub(crate) fn none(alloc: Global) -> Lives {
-        Lives {
-            items: Vec::new(alloc),
-        }
+        let items = Vec::new(alloc);
+        Lives { items }
     }
 
     /// Watches this number too, unless there are too many.
@@ -82,10 +79,8 @@ impl Lives {
 
     /// Watches the numbers of a record's descriptors too.
     pub(crate) fn add_described(&mut self, event: &DecodedRecord) -> Result<(), AllocError> {
-        for descriptor in event.descriptors() {
-            if let Some(key) = number_described(event, descriptor) {
-                self.add(key)?;
-            }
+        for key in event.descriptors().iter().filter_map(|one| number_described(event, one)) {
+            self.add(key)?;
         }
         Ok(())
     }
@@ -103,17 +98,13 @@ impl Lives {
     /// Sees what the record of this number, which was applied last, did to each.
     fn see(&mut self, state: &VatState, at: usize) {
         for life in &mut self.items {
-            let TableKey {
-                connection,
-                ours,
-                number,
-            } = life.key;
-            let number = if ours {
-                Number::Export(number)
+            let key = life.key;
+            let number = if key.ours {
+                Number::Export(key.number)
             } else {
-                Number::Import(number)
+                Number::Import(key.number)
             };
-            life.see(state.held(connection, number), at);
+            life.see(state.held(key.connection, number), at);
         }
     }
 

@@ -14,8 +14,7 @@ use case_report::Report;
 use report_lines::{Shown, ShownReport};
 use rpc_view::RpcMessage;
 use std::alloc::{AllocError, Global};
-use std::fmt;
-use std::fmt::{Display, Formatter};
+use std::fmt::{self, Display, Formatter};
 use vat_log::Body;
 
 /// What the table has of a record whose frame has this message.
@@ -217,10 +216,6 @@ impl Display for Page<'_> {
 }
 
 /// The text of a picture: an SVG alone, or a page with it and a table of its records, which needs nothing else.
-///
-/// # Errors
-///
-/// Out of memory.
 pub fn text_of(alloc: Global, picture: &Picture<'_>, page: bool) -> Result<String, AllocError>
     ensures { IfOk result (λ text. string_bytes text ≡ drawn_text page picture.now) }
 {

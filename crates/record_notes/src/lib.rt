@@ -19,7 +19,7 @@ mod record_note;
 mod rules;
 
 pub use at_end::{events_of, open_in};
-pub use kept_logs::{Logs, vat_of};
+pub use kept_logs::{Logs, log_of, vat_of};
 pub use open::good_notes::put_good;
 pub use open::object::open_object;
 pub use open::open_case::OpenCase;

@@ -12,8 +12,7 @@ use crate::wire_text::{put_wire, wire_status};
 use case_report::{Report, WireLine};
 use merge_order::Order;
 use rpc_view::RpcMessage;
-use std::fmt;
-use std::fmt::{Display, Formatter};
+use std::fmt::{self, Display, Formatter};
 use vat_log::{Salvaged, SpelledLog};
 use vat_rules::SlimFinding;
 

@@ -7,8 +7,7 @@ ghost use Rattle.report_lines.specs.DotText.{bound_text, dot_edge_text, node_tex
 use crate::shown::Shown;
 use authority::Edge;
 use run_model::Cap;
-use std::fmt;
-use std::fmt::{Display, Formatter};
+use std::fmt::{self, Display, Formatter};
 
 /// A line that bounds a graph in the DOT language, to be shown without the line's end.
 #[derive(Clone, Copy)]

@@ -7,8 +7,7 @@ ghost use Rattle.report_lines.specs.EdgeText.{cap_text, edge_text, name_text};
 use crate::shown::Shown;
 use authority::Edge;
 use run_model::{Cap, Name};
-use std::fmt;
-use std::fmt::{Display, Formatter};
+use std::fmt::{self, Display, Formatter};
 
 impl Display for Shown<Name> {
     ghost output = { λ call. Some (name_text call.0) };

@@ -8,8 +8,7 @@ ghost use Rattle.report_lines.specs.MessageText.{path_text, target_text, descrip
 use crate::shown::Shown;
 use cap_frame::Path;
 use rpc_view::{Descriptor, Loopback, Outcome, Payload, Resolution, RpcMessage, Target};
-use std::fmt;
-use std::fmt::{Display, Formatter};
+use std::fmt::{self, Display, Formatter};
 
 /// Numbers with a comma between each two.
 impl Display for Shown<&[u16]> {

@@ -10,8 +10,7 @@ use crate::answer::Answer;
 use crate::message_text::Interface;
 use crate::shown::Shown;
 use cap_frame::Path;
-use std::fmt;
-use std::fmt::{Display, Formatter};
+use std::fmt::{self, Display, Formatter};
 use vat_log::{Body, References};
 
 /// References with a comma between each two.

@@ -6,8 +6,7 @@ ghost use Rattle.report_lines.specs.Lines.{breach_code, no_order_text, report_st
 
 use crate::finding_text::{code_of, put_broken, put_outside};
 use case_report::{Breach, Report};
-use std::fmt;
-use std::fmt::{Display, Formatter};
+use std::fmt::{self, Display, Formatter};
 
 /// The code of what a record breaks.
 pub fn breach_code(breach: Breach) -> &'static str

@@ -6,8 +6,7 @@ ghost use Rattle.report_lines.specs.StepText.{call_of_step, call_of_message, cal
 
 use crate::shown::Shown;
 use run_model::{Message, Name, Plain, Step, vat_of};
-use std::fmt;
-use std::fmt::{Display, Formatter};
+use std::fmt::{self, Display, Formatter};
 
 /// The word for a message that says nothing of calls and capabilities.
 fn plain_word(plain: Plain) -> &'static str

@@ -14,8 +14,7 @@ use command_run::{FAILED, Failed, Host, Unwatched, answer_command, answer_heard}
 use json_lines::JsonFault;
 use report_lines::Fault;
 use std::alloc::{AllocError, Global};
-use std::io;
-use std::io::Write;
+use std::io::{self, Write};
 use std::sync::Wait;
 use std::thread::Threads;
 

@@ -8,8 +8,7 @@ use cause_notes::{SearchingSource, write_note};
 use command_line::Command;
 use command_run::{FAILED, Failed, Host, Watch, answer_heard};
 use std::alloc::{AllocError, Global};
-use std::io;
-use std::io::Write;
+use std::io::{self, Write};
 use std::sync::Wait;
 use std::thread::Threads;
 

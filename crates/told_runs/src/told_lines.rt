@@ -17,8 +17,7 @@ use named_text::NamedText;
 use report_lines::{Fault, ShownLine};
 use schema_names::SchemaNames;
 use std::alloc::{AllocError, Global};
-use std::io;
-use std::io::Write;
+use std::io::{self, Write};
 use std::sync::Wait;
 use std::thread::Threads;
 

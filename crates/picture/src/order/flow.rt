@@ -129,10 +129,6 @@ fn followed(seats: Vec<Seat>, turn: VatTurn) -> Result<Vec<Seat>, AllocError>
 
 /// The vats whose records come, turn by turn: whoever receives a frame goes on first, then whoever has one under way to it.
 /// So each frame is received as soon as may be.
-///
-/// # Errors
-///
-/// Out of memory.
 pub fn flow_of(alloc: Global, case: &Case) -> Result<Vec<u32>, AllocError>
     ensures { IfOk result (λ order. order.items ≡ flow_of case.now) }
 {

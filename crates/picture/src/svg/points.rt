@@ -4,8 +4,7 @@ ghost use Rattle.std.specs.Prelude.{◌≡◌, ◌≤◌, Some};
 ghost use Rattle.picture.specs.Picture.{point_at, point_text, reach_point, x_of, y_of};
 
 use crate::arrow::Reach;
-use std::fmt;
-use std::fmt::{Display, Formatter};
+use std::fmt::{self, Display, Formatter};
 
 /// A point of a picture.
 #[derive(Clone, Copy)]

@@ -13,8 +13,7 @@ use crate::record_place::Place;
 use crate::row::{Row, Tone, label_of};
 use crate::svg::points::{Point, point_at, reach_point, x_of, y_of};
 use rpc_view::RpcMessage;
-use std::fmt;
-use std::fmt::{Display, Formatter};
+use std::fmt::{self, Display, Formatter};
 use vat_log::Body;
 
 impl Display for Column {

@@ -23,16 +23,10 @@ fn put_question(
 ) {
     let word = if question.ours { "sent" } else { "received" };
     let vat = u64::from(told.vat());
-    text.tell_of(
-        "note: call # of vat # has no Return: it was @",
-        &word,
-        &[call, vat],
-    );
-    text.tell_of(
-        " by record # as question @",
-        &NumberText(question),
-        &[at as u64],
-    );
+    let sentence = "note: call # of vat # has no Return: it was @";
+    text.tell_of(sentence, &word, &[call, vat]);
+    let sentence = " by record # as question @";
+    text.tell_of(sentence, &NumberText(question), &[at as u64]);
     if let Some(way) = text.granted(way_of(told, question, call, at)) {
         put_way(text, &way);
     }
@@ -48,11 +42,8 @@ fn put_left(text: &mut NoteText, told: EndedLog<'_, '_>, left: &Open) {
         Open::Loopback { number, at } => {
             let word = if number.ours { "sent" } else { "received" };
             text.tell_of("note: loopback @, ", &NumberText(*number), &[]);
-            text.tell_of(
-                "@ by record # of vat #, has no echo\n",
-                &word,
-                &[*at as u64, vat],
-            );
+            let sentence = "@ by record # of vat #, has no echo\n";
+            text.tell_of(sentence, &word, &[*at as u64, vat]);
         }
         Open::Promise { reference, at } => text.note(
             "the promise of reference #, vowed by record # of vat #, was neither kept nor broken",
@@ -66,22 +57,16 @@ fn put_left(text: &mut NoteText, told: EndedLog<'_, '_>, left: &Open) {
 fn put_kind<F: Fn(&Open) -> bool>(text: &mut NoteText, told: EndedLog<'_, '_>, kind: &str, is_of: F)
     requires { F.IsAlwaysCallable is_of }
 {
-    let mut count = 0_usize;
-    for left in told.log.list.iter() {
-        if is_of(left) && told.tells(left) {
-            if count < MOST {
-                put_left(text, told, left);
-            }
-            count = count.saturating_add(1);
-        }
+    let mut those = told.log.list.iter().filter(|left| is_of(left) && told.tells(left));
+    for left in those.by_ref().take(MOST) {
+        put_left(text, told, left);
     }
-    put_more(text, told.vat(), count, kind)
+    put_more(text, told.vat(), those.count(), kind)
 }
 
 /// Appends the note of how many more of a kind a log has, if it has more than are told.
-fn put_more(text: &mut NoteText, vat: u32, count: usize, kind: &str) {
-    if count > MOST {
-        let more = count.saturating_sub(MOST);
+fn put_more(text: &mut NoteText, vat: u32, more: usize, kind: &str) {
+    if more > 0 {
         text.note_of("vat # has # more @", &kind, &[u64::from(vat), more as u64]);
     }
 }
@@ -89,64 +74,41 @@ fn put_more(text: &mut NoteText, vat: u32, count: usize, kind: &str) {
 /// Appends the note of an abort, with its reason.
 fn put_abort(text: &mut NoteText, told: EndedLog<'_, '_>, abort: Aborted) {
     let word = if abort.sent { "sent" } else { "received" };
-    let vat = u64::from(told.vat());
-    text.tell_of(
-        "note: record # of vat # @ an abort",
-        &word,
-        &[abort.at as u64, vat],
-    );
-    text.tell(" of connection #", &[u64::from(abort.connection)]);
-    put_reason(told.alloc, text, told.log.log, abort.at, ": ");
+    let numbers = [abort.at as u64, u64::from(told.vat()), u64::from(abort.connection)];
+    text.tell_of("note: record # of vat # @ an abort of connection #", &word, &numbers);
+    put_reason(text, told.log.log, abort.at, ": ");
     text.words("\n");
 }
 
 /// Appends the notes of the aborts of a log.
 fn put_aborts(text: &mut NoteText, told: EndedLog<'_, '_>) {
-    let mut count = 0_usize;
-    for abort in told.log.aborts.iter() {
-        if told.is_told(abort.sent, abort.connection) {
-            if count < MOST {
-                put_abort(text, told, *abort);
-            }
-            count = count.saturating_add(1);
-        }
+    let aborts = told.log.aborts.iter();
+    let mut those = aborts.filter(|abort| told.is_told(abort.sent, abort.connection));
+    for abort in those.by_ref().take(MOST) {
+        put_abort(text, told, *abort);
     }
-    put_more(text, told.vat(), count, "aborts")
+    put_more(text, told.vat(), those.count(), "aborts")
 }
 
 /// Appends the notes of what is open at the end of a log, and of its aborts, which may be why.
 fn put_log(text: &mut NoteText, told: EndedLog<'_, '_>) {
     put_aborts(text, told);
-    put_kind(
-        text,
-        told,
-        "questions without a Return",
-        |left| matches!(left, Open::Question { .. }),
-    );
-    put_kind(
-        text,
-        told,
-        "loopbacks without an echo",
-        |left| matches!(left, Open::Loopback { .. }),
-    );
-    let unsettled = "promises that were neither kept nor broken";
-    put_kind(
-        text,
-        told,
-        unsettled,
-        |left| matches!(left, Open::Promise { .. }),
-    );
+    let kind = "questions without a Return";
+    put_kind(text, told, kind, |one| matches!(one, Open::Question { .. }));
+    let kind = "loopbacks without an echo";
+    put_kind(text, told, kind, |one| matches!(one, Open::Loopback { .. }));
+    let kind = "promises that were neither kept nor broken";
+    put_kind(text, told, kind, |one| matches!(one, Open::Promise { .. }));
     let counts = OpenCounts::of(told.log.list.as_slice()).held();
     if counts.is_any() {
-        let vat = u64::from(told.vat());
-        text.note_of("open at the end of vat #: @", &counts, &[vat]);
+        text.note_of("open at the end of vat #: @", &counts, &[u64::from(told.vat())]);
     }
 }
 
 /// Appends the notes of what is open at the end of a case whose report is yes, or of a log that is good.
-pub fn put_good(alloc: Global, text: &mut NoteText, case: &OpenCase<'_>) {
-    put_under_way(alloc, text, case);
+pub fn put_good(text: &mut NoteText, case: &OpenCase<'_>) {
+    put_under_way(text, case);
     for log in case.logs.iter() {
-        put_log(text, EndedLog { alloc, case, log });
+        put_log(text, EndedLog { case, log });
     }
 }

@@ -26,32 +26,25 @@ impl ObjectMembers {
         }
     }
 
-    /// Adds a member.
-    fn add(&mut self, name: &str, member: Value) {
-        if put(&mut self.members, self.alloc, name, member).is_err() {
-            self.is_refused = true;
-        }
+    /// Adds a member, where memory wasn't refused for it.
+    fn add(&mut self, name: &str, member: Result<Value, AllocError>) {
+        let added = member.and_then(|member| put(&mut self.members, self.alloc, name, member));
+        self.is_refused |= added.is_err();
     }
 
     /// Adds a number.
     fn number(&mut self, name: &str, number: u64) {
-        self.add(name, Value::from(number));
+        self.add(name, Ok(Value::from(number)));
     }
 
     /// Adds a word.
     fn word(&mut self, name: &str, word: &str) {
-        match String::from_str(self.alloc, word) {
-            Ok(word) => self.add(name, Value::String(word)),
-            Err(AllocError) => self.is_refused = true,
-        }
+        self.add(name, String::from_str(self.alloc, word).map(Value::String));
     }
 
-    /// Adds a list, where memory wasn't refused for it.
+    /// Adds a list.
     fn list(&mut self, name: &str, items: Result<Vec<Value>, AllocError>) {
-        match items {
-            Ok(items) => self.add(name, Value::Array(items)),
-            Err(AllocError) => self.is_refused = true,
-        }
+        self.add(name, items.map(Value::Array));
     }
 
     /// Adds a record of a vat.
@@ -65,7 +58,7 @@ impl ObjectMembers {
         self.record(vat, at);
         self.number("connection", u64::from(key.connection));
         self.number(name, u64::from(key.number));
-        self.add("sent", Value::Bool(key.ours));
+        self.add("sent", Ok(Value::Bool(key.ours)));
     }
 
     /// Adds how far a call came, and where it stands.
@@ -73,67 +66,41 @@ impl ObjectMembers {
         let (word, _) = way.stands.words();
         self.list("way", hop_objects(self.alloc, way.hops.as_slice()));
         self.word("stands", word);
-        self.add("stands_at", Value::from(way.stands_at));
+        self.add("stands_at", Ok(Value::from(way.stands_at)));
     }
 
     /// The object.
     fn finish(self) -> Result<Value, AllocError> {
-        let ObjectMembers {
-            alloc: _,
-            members,
-            is_refused,
-        } = self;
-        if is_refused {
+        if self.is_refused {
             return Err(AllocError);
         }
-        Ok(Value::Object(members))
+        Ok(Value::Object(self.members))
     }
-}
-
-/// Adds what is made to a list.
-fn push(list: &mut Vec<Value>, made: Result<Value, AllocError>) -> Result<(), AllocError> {
-    match made {
-        Ok(value) => {
-            list.push(value)?;
-            Ok(())
-        }
-        Err(AllocError) => Err(AllocError),
-    }
-}
-
-/// The object of a record that brings a call further.
-fn hop_object(alloc: Global, hop: Hop) -> Result<Value, AllocError> {
-    let (word, _) = hop.does.words();
-    let mut object = ObjectMembers::new(alloc);
-    object.record(hop.vat, hop.at);
-    object.word("does", word);
-    object.finish()
 }
 
 /// The objects of the records that bring a call further.
 fn hop_objects(alloc: Global, hops: &[Hop]) -> Result<Vec<Value>, AllocError> {
     let mut list = Vec::new(alloc);
     for hop in hops {
-        push(&mut list, hop_object(alloc, *hop))?;
+        let (word, _) = hop.does.words();
+        let mut object = ObjectMembers::new(alloc);
+        object.record(hop.vat, hop.at);
+        object.word("does", word);
+        list.push(object.finish()?)?;
     }
     Ok(list)
 }
 
-/// The object of frames that were sent on a connection and never received.
-fn under_way_object(alloc: Global, under_way: UnderWay) -> Result<Value, AllocError> {
-    let mut object = ObjectMembers::new(alloc);
-    object.number("connection", u64::from(under_way.connection));
-    object.record(under_way.sender, under_way.first);
-    object.number("to", u64::from(under_way.receiver));
-    object.number("messages", under_way.count as u64);
-    object.finish()
-}
-
 /// The objects of what was sent in a case and never received.
-fn under_way_objects(alloc: Global, case: &OpenCase<'_>) -> Result<Vec<Value>, AllocError> {
-    let mut list = Vec::new(alloc);
-    for under_way in all_under_way(alloc, case)?.iter() {
-        push(&mut list, under_way_object(alloc, *under_way))?;
+fn under_way_objects(case: &OpenCase<'_>) -> Result<Vec<Value>, AllocError> {
+    let mut list = Vec::new(case.alloc);
+    for under_way in all_under_way(case)?.iter() {
+        let mut object = ObjectMembers::new(case.alloc);
+        object.number("connection", u64::from(under_way.connection));
+        object.record(under_way.sender, under_way.first);
+        object.number("to", u64::from(under_way.receiver));
+        object.number("messages", under_way.count as u64);
+        list.push(object.finish()?)?;
     }
     Ok(list)
 }
@@ -141,15 +108,12 @@ fn under_way_objects(alloc: Global, case: &OpenCase<'_>) -> Result<Vec<Value>, A
 /// The object of something that is open at the end of a log.
 fn left_object(told: EndedLog<'_, '_>, left: Open) -> Result<Value, AllocError> {
     let vat = told.vat();
-    let mut object = ObjectMembers::new(told.alloc);
+    let mut object = ObjectMembers::new(told.case.alloc);
     match left {
         Open::Question { question, call, at } => {
             object.opened(vat, at, question, "question");
             object.number("call", call);
-            match way_of(told, question, call, at) {
-                Ok(way) => object.way(&way),
-                Err(AllocError) => object.is_refused = true,
-            }
+            object.way(&way_of(told, question, call, at)?);
         }
         Open::Unfinished { question, call, at } => {
             object.opened(vat, at, question, "question");
@@ -172,26 +136,22 @@ fn left_object(told: EndedLog<'_, '_>, left: Open) -> Result<Value, AllocError> 
             object.number("connection", u64::from(number.connection));
             object.number("id", u64::from(number.number));
             object.number("count", count);
-            object.add("unresolved", Value::Bool(unresolved));
+            object.add("unresolved", Ok(Value::Bool(unresolved)));
         }
     }
     object.finish()
 }
 
 /// The objects of what is open of a kind in a case, where it is told.
-fn kind_objects<F: Fn(&Open) -> bool>(
-    alloc: Global,
-    case: &OpenCase<'_>,
-    is_of: F,
-) -> Result<Vec<Value>, AllocError>
+fn kind_objects<F: Fn(&Open) -> bool>(case: &OpenCase<'_>, is_of: F) -> Result<Vec<Value>, AllocError>
     requires { F.IsAlwaysCallable is_of }
 {
-    let mut list = Vec::new(alloc);
+    let mut list = Vec::new(case.alloc);
     for log in case.logs.iter() {
-        let told = EndedLog { alloc, case, log };
+        let told = EndedLog { case, log };
         for left in log.list.iter() {
             if is_of(left) && told.tells(left) {
-                push(&mut list, left_object(told, *left))?;
+                list.push(left_object(told, *left)?)?;
             }
         }
     }
@@ -199,22 +159,18 @@ fn kind_objects<F: Fn(&Open) -> bool>(
 }
 
 /// All that is open at the end of a case whose report is yes, or of a log that is good.
-///
-/// # Errors
-///
-/// Out of memory.
-pub fn open_object(alloc: Global, case: &OpenCase<'_>) -> Result<Value, AllocError> {
-    let loopbacks = kind_objects(alloc, case, |left| matches!(left, Open::Loopback { .. }));
-    let numbers = kind_objects(alloc, case, |left| matches!(left, Open::Number { .. }));
-    let promises = kind_objects(alloc, case, |left| matches!(left, Open::Promise { .. }));
-    let questions = kind_objects(alloc, case, |left| matches!(left, Open::Question { .. }));
-    let unfinished = kind_objects(alloc, case, |left| matches!(left, Open::Unfinished { .. }));
-    let mut object = ObjectMembers::new(alloc);
+pub fn open_object(case: &OpenCase<'_>) -> Result<Value, AllocError> {
+    let loopbacks = kind_objects(case, |left| matches!(left, Open::Loopback { .. }));
+    let numbers = kind_objects(case, |left| matches!(left, Open::Number { .. }));
+    let promises = kind_objects(case, |left| matches!(left, Open::Promise { .. }));
+    let questions = kind_objects(case, |left| matches!(left, Open::Question { .. }));
+    let unfinished = kind_objects(case, |left| matches!(left, Open::Unfinished { .. }));
+    let mut object = ObjectMembers::new(case.alloc);
     object.list("loopbacks", loopbacks);
     object.list("numbers", numbers);
     object.list("promises", promises);
     object.list("questions", questions);
-    object.list("under_way", under_way_objects(alloc, case));
+    object.list("under_way", under_way_objects(case));
     object.list("unfinished", unfinished);
     object.finish()
 }

@@ -105,11 +105,8 @@ fn held_by(
 /// Notes that an echo goes elsewhere than its senderLoopback was meant for.
 fn put_elsewhere(past: &Past<'_>, text: &mut NoteText, echoed: TableKey, asked: usize) {
     if let Some(view) = past.state.embargoed_view(echoed) {
-        text.note_of(
-            "record # received its senderLoopback, whose target stood for @",
-            &ViewText::of(view),
-            &[asked as u64],
-        );
+        let sentence = "record # received its senderLoopback, whose target stood for @";
+        text.note_of(sentence, &ViewText::of(view), &[asked as u64]);
         if let Some(end) = past.state.end(view) {
             text.note_of("that leads to @", &ViewText(end), &[]);
         }

@@ -13,7 +13,7 @@ pub(crate) fn put_unvowed(past: &Past<'_>, text: &mut NoteText) {
     else {
         return;
     };
-    let Some(Some(view)) = text.granted(past.state.view_of_reference(*reference)) else {
+    let Some(view) = text.found(past.state.view_of_reference(*reference)) else {
         return;
     };
     if let Some(at) = binder_of(past, *reference) {
@@ -22,7 +22,7 @@ pub(crate) fn put_unvowed(past: &Past<'_>, text: &mut NoteText) {
     let View::Promise(_) = view else {
         return;
     };
-    if let Some(Some((at, word))) = text.granted(promise_settled_by(past, &view)) {
+    if let Some((at, word)) = text.found(promise_settled_by(past, &view)) {
         text.note_of("it was @ by record #", &word, &[at as u64]);
     }
 }
@@ -56,7 +56,7 @@ fn put_cap(past: &Past<'_>, text: &mut NoteText) {
 /// Notes what a promise stands for and where that leads, of a Resolve that says something else.
 fn put_unturned(past: &Past<'_>, text: &mut NoteText, life: NumberLife) {
     put_life(past, text, life);
-    let Some(Some(promise)) = text.granted(past.state.view_of_number(life.key)) else {
+    let Some(promise) = text.found(past.state.view_of_number(life.key)) else {
         return;
     };
     text.note_of("it stands for @", &ViewText::of(&promise), &[]);

@@ -1,8 +1,7 @@
 //! What references stand for, as people are told of it.
 
 use report_lines::Shown;
-use std::fmt;
-use std::fmt::{Display, Formatter};
+use std::fmt::{self, Display, Formatter};
 use vat_view::{BorrowedView, View};
 
 /// What a reference or a number stands for.

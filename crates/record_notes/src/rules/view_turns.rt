@@ -135,11 +135,8 @@ impl Way {
         let mut from = &self.first;
         for turn in self.turns.iter() {
             text.tell_of("note: @ is ", &ViewText::of(from), &[]);
-            text.tell_of(
-                "@, by record #\n",
-                &ViewText::of(&turn.to),
-                &[turn.at as u64],
-            );
+            let sentence = "@, by record #\n";
+            text.tell_of(sentence, &ViewText::of(&turn.to), &[turn.at as u64]);
             from = &turn.to;
         }
     }
@@ -174,11 +171,8 @@ pub(crate) fn put_bound(text: &mut NoteText, reference: u64, view: &View, binder
     let view = ViewText::of(view);
     match binder {
         Some(at) => {
-            text.note_of(
-                "reference # is @, bound by record #",
-                &view,
-                &[reference, at as u64],
-            );
+            let sentence = "reference # is @, bound by record #";
+            text.note_of(sentence, &view, &[reference, at as u64]);
         }
         None => text.note_of("reference # is @", &view, &[reference]),
     }
@@ -191,7 +185,7 @@ pub(crate) fn put_turns(past: &Past<'_>, text: &mut NoteText, view: View) {
 
 /// Appends the note of the record that bound a reference, and what it stands for; and one of each turn from there on.
 pub(crate) fn put_reference(past: &Past<'_>, text: &mut NoteText, reference: u64) {
-    if let Some(Some(view)) = text.granted(past.state.view_of_reference(reference)) {
+    if let Some(view) = text.found(past.state.view_of_reference(reference)) {
         put_bound(text, reference, &view, binder_of(past, reference));
         put_turns(past, text, view);
     }

@@ -44,10 +44,9 @@ impl<'a> JsonText<'a> {
     /// Itself, if no memory was refused.
     pub(crate) fn finish(self) -> Result<JsonText<'a>, AllocError> {
         if self.is_refused {
-            Err(AllocError)
-        } else {
-            Ok(self)
+            return Err(AllocError);
         }
+        Ok(self)
     }
 
     /// The text, if no memory was refused.
@@ -196,9 +195,8 @@ impl<'a> JsonText<'a> {
     /// Writes a method of an interface: its number, and its name where it has one.
     pub(crate) fn method_members(&mut self, interface: u64, method: u16) {
         self.member("method", method);
-        if let Some(Some(name)) = self
-            .called(interface, method)
-            .map(|called| called.method_name())
+        if let Some(called) = self.called(interface, method)
+            && let Some(name) = called.method_name()
         {
             self.text_member("method_name", name);
         }

@@ -3,7 +3,7 @@
 use crate::json_text::JsonText;
 use cap_frame::Path;
 use report_lines::loopback_text;
-use rpc_view::{Descriptor, Loopback, Outcome, Payload, Resolution, RpcMessage, Target};
+use rpc_view::{Descriptor, Outcome, Payload, Resolution, RpcMessage, Target};
 
 /// Writes a kind and the number that is alone beside it.
 fn put_numbered(json: &mut JsonText<'_>, kind: &str, id: u32) {
@@ -115,10 +115,8 @@ fn put_call(
     json.method_members(interface, method);
     put_payload(json, "params", params);
     json.member("question", question);
-    json.text_member(
-        "send_results_to",
-        if yourself { "yourself" } else { "caller" },
-    );
+    let results_to = if yourself { "yourself" } else { "caller" };
+    json.text_member("send_results_to", results_to);
 }
 
 /// Writes a Return.
@@ -134,14 +132,6 @@ fn put_return(
     json.member("no_finish_needed", light);
     put_outcome(json, outcome);
     json.member("release_param_caps", releases);
-}
-
-/// Writes a Disembargo.
-fn put_disembargo(json: &mut JsonText<'_>, id: u32, loopback: Loopback, target: &Target) {
-    json.text_member("context", loopback_text(loopback));
-    json.member("id", id);
-    json.text_member("kind", "disembargo");
-    put_target(json, target);
 }
 
 /// Writes the members of a message.
@@ -168,6 +158,13 @@ pub(crate) fn put_message(json: &mut JsonText<'_>, message: &RpcMessage) {
             outcome,
             light,
         } => put_return(json, *answer, *release_param_caps, outcome, *light),
+        _ => put_later_message(json, message),
+    }
+}
+
+/// Writes the members of a message that tells of what other messages opened.
+fn put_later_message(json: &mut JsonText<'_>, message: &RpcMessage) {
+    match message {
         RpcMessage::Finish {
             question,
             release_result_caps,
@@ -193,7 +190,13 @@ pub(crate) fn put_message(json: &mut JsonText<'_>, message: &RpcMessage) {
             number,
             loopback,
             target,
-        } => put_disembargo(json, *number, *loopback, target),
+        } => {
+            json.text_member("context", loopback_text(*loopback));
+            json.member("id", *number);
+            json.text_member("kind", "disembargo");
+            put_target(json, target);
+        }
         RpcMessage::Abort => json.text_member("kind", "abort"),
+        _ => {}
     }
 }

@@ -16,16 +16,14 @@ pub struct JsonOutput<'a, W: Write> {
 impl<'a, W: Write> JsonOutput<'a, W> {
     /// Before any line.
     pub fn new(alloc: Global, out: &'a mut W) -> JsonOutput<'a, W> {
-        JsonOutput {
-            lines: JsonLines::new(alloc, out),
-        }
+        let lines = JsonLines::new(alloc, out);
+        JsonOutput { lines }
     }
 
     /// With names for interfaces and methods.
     pub fn with_names(self, names: &'a SchemaNames) -> JsonOutput<'a, W> {
-        JsonOutput {
-            lines: self.lines.with_names(names),
-        }
+        let lines = self.lines.with_names(names);
+        JsonOutput { lines }
     }
 }
 

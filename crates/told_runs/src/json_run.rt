@@ -58,7 +58,7 @@ fn notes_beside<S: SearchingSource>(
     told: &LinesTold,
 ) -> Result<Notes, AllocError> {
     match told {
-        Err(Failed::File(error)) => { Ok(Notes::of_text(write_note(alloc, command.out(), error)?)) }
+        Err(Failed::File(error)) => Ok(Notes::of_text(write_note(alloc, command.out(), error)?)),
         _ => hearing.notes(alloc, command, source, Form::Json),
     }
 }
@@ -96,11 +96,8 @@ pub fn run_as_json_with_notes<R: Threads + Wait + Sync, S: SearchingSource, W: W
         (λ answers. Tells answers (Adds F.contents) file.old file.new result) }
 {
     let mut hearing = NoteHearing::new();
-    let host = Host {
-        rt,
-        alloc,
-        watch: &Unwatched,
-    };
+    let watch = &Unwatched;
+    let host = Host { rt, alloc, watch };
     let told = answer_heard(&host, command, source, &mut hearing, out, file);
     let _ = source.look_back();
     let notes = notes_beside(alloc, command, &hearing, source, &told);

@@ -181,11 +181,8 @@ pub fn run_telling<
         (λ answers. Tells answers (Adds F.contents) file.old file.new result) }
 {
     let mut hearing = NoteHearing::new();
-    let host = Host {
-        rt,
-        alloc,
-        watch: noted.watch,
-    };
+    let watch = noted.watch;
+    let host = Host { rt, alloc, watch };
     let told = answer_heard(&host, command, &mut noted.source, &mut hearing, out, file);
     look_back_if(!out.telling.is_quiet, &mut noted.source);
     let notes = notes_beside(alloc, command, &hearing, &noted.source, &told, out.telling);

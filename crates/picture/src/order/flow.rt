@@ -102,10 +102,7 @@ fn next_seat(seats: &[Seat]) -> Option<&Seat>
 fn next_turn(seats: &[Seat], links: &[Link]) -> Option<VatTurn>
     ensures { result ≡ option_map (turn_of_seat links.now) (next_seat seats.now) }
 {
-    match next_seat(seats) {
-        Some(seat) => Some(seat.turn(links)),
-        None => None,
-    }
+    Some(next_seat(seats)?.turn(links))
 }
 
 /// Each vat follows a turn.

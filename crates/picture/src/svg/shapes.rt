@@ -74,17 +74,8 @@ fn line_of(arrow: &Arrow) -> LineSegment
 {
     let here = point_at(arrow.column, arrow.line);
     let there = reach_point(arrow.column, arrow.line, arrow.reach);
-    if arrow.sent {
-        LineSegment {
-            from: here,
-            to: there,
-        }
-    } else {
-        LineSegment {
-            from: there,
-            to: here,
-        }
-    }
+    let (from, to) = if arrow.sent { (here, there) } else { (there, here) };
+    LineSegment { from, to }
 }
 
 impl Display for Arrow {
@@ -194,10 +185,8 @@ impl Display for Words<'_> {
 fn words_at(row: &Row<'_>) -> Point
     ensures { result ≡ words_begin_at row.now }
 {
-    Point {
-        x: x_of(row.column) + 14,
-        y: words_y(row.body, row.line),
-    }
+    let (x, y) = (x_of(row.column) + 14, words_y(row.body, row.line));
+    Point { x, y }
 }
 
 /// A row: its mark and its words.
@@ -214,10 +203,8 @@ impl Display for PlainRow<'_> {
             mark: mark_word(&row.message),
             at: point_at(row.column, row.line),
         };
-        let words = Words {
-            at: words_at(row),
-            label: label_of(row),
-        };
+        let (at, label) = (words_at(row), label_of(row));
+        let words = Words { at, label };
         write!(f, "{circle}{words}")
     }
 }

@@ -16,7 +16,6 @@
 mod life_notes;
 mod note_text;
 mod number_lives;
-mod number_text;
 mod openings;
 mod question_notes;
 mod read_again;
@@ -25,8 +24,7 @@ mod replay;
 
 pub use life_notes::{put_gone, put_life, put_miscounted};
 pub use note_text::NoteText;
-pub use number_lives::{Lives, NumberLife};
-pub use number_text::NumberText;
+pub use number_lives::{Lives, NumberLife, NumberText};
 pub use openings::{QuestionOpening, opening_of};
 pub use question_notes::{put_misused, put_opening, put_reopened};
 pub use read_again::{ReadFrame, decoded, decoded_as, message_at, message_of};

@@ -2,6 +2,7 @@
 
 use rpc_view::Descriptor;
 use std::alloc::{AllocError, Global};
+use std::fmt::{self, Display, Formatter};
 use vat_view::{DecodedRecord, Number, TableKey, VatState};
 
 /// How many numbers of a record are watched, at most.
@@ -131,5 +132,23 @@ impl Lives {
     /// What was seen of a number.
     pub fn of(&self, key: TableKey) -> Option<NumberLife> {
         self.items.iter().find(|life| life.key == key).copied()
+    }
+}
+
+/// A number and its connection, behind the word for its kind.
+#[derive(Clone, Copy)]
+pub struct NumberText(pub TableKey);
+
+impl Display for NumberText {
+    fn fmt<W: fmt::Write>(&self, f: &mut Formatter<W>) -> fmt::Result {
+        let key = self.0;
+        write!(f, "{} of connection {}", key.number, key.connection)
+    }
+}
+
+impl Display for NumberLife {
+    fn fmt<W: fmt::Write>(&self, f: &mut Formatter<W>) -> fmt::Result {
+        let kind = if self.key.ours { "export" } else { "import" };
+        write!(f, "{kind} {}", NumberText(self.key))
     }
 }

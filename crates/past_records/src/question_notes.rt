@@ -1,7 +1,7 @@
 //! Questions that are opened while they aren't free, and that are used where they can't be.
 
 use crate::note_text::NoteText;
-use crate::number_text::NumberText;
+use crate::number_lives::NumberText;
 use crate::openings::{QuestionOpening, opening_of};
 use crate::records_before::Past;
 use vat_view::TableKey;

@@ -48,9 +48,9 @@ pub fn put_record(text: &mut NoteText, name: &str, log: &VatLog, at: usize) {
 
 /// Appends the note of a record of a vat, where its log is kept.
 pub fn put_place(text: &mut NoteText, logs: &Logs<'_>, vat: u32, at: usize) {
-    if let Some(name) = logs.name_of(vat) {
-        if let Some(log) = text.found(logs.of_vat(text.alloc(), vat)) {
-            put_record(text, name, &log, at);
-        }
+    if let Some(name) = logs.name_of(vat)
+        && let Some(log) = text.found(logs.of_vat(text.alloc(), vat))
+    {
+        put_record(text, name, &log, at);
     }
 }

@@ -156,7 +156,7 @@ pub(crate) fn way_of(
         let vat = told.vat();
         way.follow(told.case, Sent { vat, question, at })?;
     } else {
-        let _ = way.add_fate(told.log, call)?;
+        way.add_fate(told.log, call)?;
     }
     Ok(way)
 }

@@ -1,8 +1,7 @@
 //! Capability tables that don't say what the references beside them stand for.
 
 use crate::rules::number_changes::put_changed;
-use crate::rules::view_text::ViewText;
-use crate::rules::view_turns::put_reference;
+use crate::rules::view_turns::{ViewText, put_reference};
 use past_records::{NoteText, Past, put_life, put_opening};
 use report_lines::Shown;
 use rpc_view::{Descriptor, Edition};
@@ -143,10 +142,8 @@ fn put_if_amiss(past: &Past<'_>, text: &mut NoteText, entry: NotedEntry<'_>) -> 
     let Some(view) = text.granted(past.state.view_of_reference(entry.reference)) else {
         return true;
     };
-    if let (Some(view), Some(stands)) = (&view, entry.stands) {
-        if goes_for(past, view, stands) {
-            return put_open(past, text, entry, view);
-        }
+    if let (Some(view), Some(stands)) = (&view, entry.stands) && goes_for(past, view, stands) {
+        return put_open(past, text, entry, view);
     }
     let shown = EntryText(&past.event, entry.place);
     text.note_of("@ has reference # beside it", &shown, &[entry.reference]);

@@ -1,8 +1,7 @@
 //! Calls that go elsewhere than where they were meant to.
 
 use crate::rules::call_notes::put_origin;
-use crate::rules::view_text::ViewText;
-use crate::rules::view_turns::{Way, put_way};
+use crate::rules::view_turns::{ViewText, Way, put_way};
 use past_records::{NoteText, Past, put_life, put_opening};
 use rpc_view::{Edition, RpcMessage};
 use std::alloc::AllocError;

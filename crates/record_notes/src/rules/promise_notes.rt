@@ -2,8 +2,7 @@
 
 use crate::rules::desc_notes::put_entry;
 use crate::rules::number_changes::resolved_by;
-use crate::rules::view_text::ViewText;
-use crate::rules::view_turns::{binder_of, promise_settled_by, put_bound, put_turns};
+use crate::rules::view_turns::{ViewText, binder_of, promise_settled_by, put_bound, put_way};
 use past_records::{NoteText, NumberLife, Past, put_life};
 use vat_view::{DecodedRecord, View};
 
@@ -46,10 +45,10 @@ fn put_if_settled(past: &Past<'_>, text: &mut NoteText, life: NumberLife, began:
 
 /// Notes what the capability of a Resolve stands for.
 fn put_cap(past: &Past<'_>, text: &mut NoteText) {
-    if let Some(stands) = text.granted(past.state.views_of_descriptors(&past.event)) {
-        if let Some(view) = stands.first() {
-            put_entry(past, text, 0, view.as_ref());
-        }
+    if let Some(stands) = text.granted(past.state.views_of_descriptors(&past.event))
+        && let Some(view) = stands.first()
+    {
+        put_entry(past, text, 0, view.as_ref());
     }
 }
 
@@ -61,7 +60,7 @@ fn put_unturned(past: &Past<'_>, text: &mut NoteText, life: NumberLife) {
     };
     text.note_of("it stands for @", &ViewText::of(&promise), &[]);
     let stays = past.state.stays(&promise);
-    put_turns(past, text, promise);
+    put_way(past, text, promise);
     if stays {
         text.say("no record before says what that turned out to be");
     }

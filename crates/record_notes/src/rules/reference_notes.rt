@@ -115,12 +115,8 @@ fn put_named(past: &Past<'_>, text: &mut NoteText) {
                 put_if_unbound(past, text, *reference);
             }
         }
-        DecodedRecord::Wire {
-            sent: true,
-            references,
-            ..
-        } => {
-            for reference in references.as_slice().iter().take(MOST) {
+        DecodedRecord::Wire { sent: true, .. } => {
+            for reference in past.event.references().iter().take(MOST) {
                 put_if_unbound(past, text, *reference);
             }
         }

@@ -2,7 +2,7 @@
 
 use crate::rules::call_notes::{put_left, put_origin, settled_by};
 use crate::rules::desc_notes::{put_apart, put_entry};
-use crate::rules::view_turns::put_turns;
+use crate::rules::view_turns::put_way;
 use past_records::{NoteText, Past, QuestionOpening, opening_of};
 use rpc_view::{Descriptor, Edition, Outcome, Payload, RpcMessage};
 use std::alloc::AllocError;
@@ -83,7 +83,7 @@ fn put_other(past: &Past<'_>, text: &mut NoteText, payload: &Payload, call: u64)
     let Some(shown) = text.granted(known.copy()) else {
         return;
     };
-    put_turns(past, text, shown);
+    put_way(past, text, shown);
     if let Some(view) = stands.get(place) {
         if let Some(view) = view {
             put_apart(past, text, &known, place, view);

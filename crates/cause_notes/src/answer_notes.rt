@@ -20,7 +20,6 @@ use case_report::Breach;
 use past_records::{NoteText, message_at};
 use record_notes::{Logs, put_place, put_rule_cause};
 use report_lines::Fault;
-use serde_json::Value;
 use std::alloc::{AllocError, Global};
 
 /// Appends the notes of what led to a record that breaks a rule, and of what else was found; behind an overtaken call there is
@@ -144,7 +143,7 @@ fn put_answer<S: SearchingSource>(
     source: &S,
     hex: Option<&str>,
     form: Form,
-) -> Option<Value> {
+) -> Option<String> {
     if let HeardAnswer::Fault(fault) = heard.told {
         put_fault(text, source, hex, fault);
         return None;

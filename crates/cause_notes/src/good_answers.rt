@@ -8,7 +8,6 @@ use exception_reasons::record_reason;
 use past_records::{NoteText, ReadFrame, message_at, put_reason};
 use record_notes::{OpenCase, events_of, log_of, open_object, put_good};
 use rpc_view::{Loopback, RpcMessage};
-use serde_json::Value;
 use std::alloc::{AllocError, Global};
 use std::collections::BTreeSet;
 use vat_log::VatLog;
@@ -19,7 +18,7 @@ pub struct Notes {
     /// The notes, a line each.
     pub text: String,
     /// All that is open at the end of good logs, as an object, where it is asked for.
-    pub left_open: Option<Value>,
+    pub left_open: Option<String>,
 }
 
 impl Notes {
@@ -137,7 +136,7 @@ fn put_case(
     text: &mut NoteText,
     sought: Result<Option<OpenCase<'_>>, AllocError>,
     form: Form,
-) -> Option<Value> {
+) -> Option<String> {
     let case = text.found(sought)?;
     put_good(text, &case);
     match form {
@@ -151,7 +150,7 @@ pub(crate) fn put_last_log(
     text: &mut NoteText,
     files: &[(String, Bytes)],
     form: Form,
-) -> Option<Value> {
+) -> Option<String> {
     let (_, bytes) = files.last()?;
     let log = text.found(log_of(text.alloc(), bytes))?;
     let events = text.found(events_of(text.alloc(), &log))?;
@@ -160,7 +159,7 @@ pub(crate) fn put_last_log(
 }
 
 /// The same of a case whose report is yes and of which nothing is kept but its files.
-fn put_kept(text: &mut NoteText, files: &[(String, Bytes)], form: Form) -> Option<Value> {
+fn put_kept(text: &mut NoteText, files: &[(String, Bytes)], form: Form) -> Option<String> {
     let case = text.found(case_of(text.alloc(), files))?;
     put_first_abort(text, &case);
     let open = OpenCase::of_case(text.alloc(), &case, files);
@@ -173,7 +172,7 @@ pub(crate) fn put_yes(
     heard: &Heard,
     files: &[(String, Bytes)],
     form: Form,
-) -> Option<Value> {
+) -> Option<String> {
     match &heard.findings {
         Some(findings) => {
             put_first_abort(text, findings.case());

@@ -192,8 +192,8 @@ fn put_fields(text: &mut NoteText, sent: &Field, received: &Field) {
     } else {
         (&sent.name, &received.name)
     };
-    text.tell_of(": @ was sent, ", one, &[]);
-    text.tell_of("@ received\n", other, &[]);
+    text.tell_of(": @ was sent, ", &one.as_str(), &[]);
+    text.tell_of("@ received\n", &other.as_str(), &[]);
 }
 
 /// Appends the note of the first of these fields that differs. Where none does that is read, the note says so.

@@ -75,10 +75,23 @@ fn put_bad_vats(text: &mut NoteText, logs: &Logs<'_>, findings: &Findings, told:
     }
 }
 
-/// Appends the note of the first things that are good, by their numbers, if there are any.
-fn put_good<I: Iterator<Item = u32>>(text: &mut NoteText, words: &str, kind: &str, numbers: I) {
-    let mut between = words;
-    for number in numbers.take(MOST) {
+/// The number of the vat of a log that is good by itself.
+fn good_vat(finding: &VatFinding) -> Option<u32> {
+    is_good(finding).then_some(finding.log().vat())
+}
+
+/// The number of a connection on which all that was received was sent so.
+fn good_link(link: &LinkFinding) -> Option<u32> {
+    let is_good = matches!(link.outcome(), LinkOutcome::Good { .. });
+    is_good.then_some(link.connection())
+}
+
+/// Appends a note of the numbers of those of these that are good, if any are.
+fn put_good<T, F: Fn(&T) -> Option<u32>>(text: &mut NoteText, words: [&str; 2], all: &[T], good: F)
+    requires { F.IsAlwaysCallable good }
+{
+    let [mut between, kind] = words;
+    for number in all.iter().filter_map(|one| good(one)).take(MOST) {
         text.words(between);
         text.words(kind);
         text.shown(&number);
@@ -89,18 +102,11 @@ fn put_good<I: Iterator<Item = u32>>(text: &mut NoteText, words: &str, kind: &st
     }
 }
 
-/// Appends the notes of what was found of the other logs, of those that are good by themselves, and of the connections on which all
-/// that was received was sent so.
+/// Appends the notes of what was found of the other logs, and of the logs and links that are good.
 pub(crate) fn put_others(text: &mut NoteText, logs: &Logs<'_>, told: u32) {
-    let Some(findings) = logs.findings else {
-        return;
-    };
-    put_bad_vats(text, logs, findings, told);
-    let good = findings.vats().iter().filter(|finding| is_good(finding));
-    let vats = good.map(|finding| finding.log().vat());
-    put_good(text, "note: good by themselves: ", "vat ", vats);
-    let links = findings.links().iter();
-    let good = links.filter(|link| matches!(link.outcome(), LinkOutcome::Good { .. }));
-    let connections = good.map(|link| link.connection());
-    put_good(text, "note: received as sent: ", "connection ", connections);
+    if let Some(findings) = logs.findings {
+        put_bad_vats(text, logs, findings, told);
+        put_good(text, ["note: good by themselves: ", "vat "], findings.vats(), good_vat);
+        put_good(text, ["note: received as sent: ", "connection "], findings.links(), good_link);
+    }
 }

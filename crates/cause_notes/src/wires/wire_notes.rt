@@ -124,7 +124,7 @@ fn put_overtaking(text: &mut NoteText, files: WireFiles<'_>, overtaking: Overtak
 
 /// Appends the notes beside a yes: of calls that came in the other order, and of what is open.
 fn put_yes(text: &mut NoteText, files: WireFiles<'_>, found: &WireAnswer) {
-    for overtaking in found.overtaking.into_iter().flatten() {
+    for overtaking in found.overtaking.iter().filter_map(|one| *one) {
         put_overtaking(text, files, overtaking);
     }
     if let Some(logs) = &found.logs {

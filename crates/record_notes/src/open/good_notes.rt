@@ -57,16 +57,18 @@ fn put_left(text: &mut NoteText, told: EndedLog<'_, '_>, left: &Open) {
 fn put_kind<F: Fn(&Open) -> bool>(text: &mut NoteText, told: EndedLog<'_, '_>, kind: &str, is_of: F)
     requires { F.IsAlwaysCallable is_of }
 {
-    let mut those = told.log.list.iter().filter(|left| is_of(left) && told.tells(left));
-    for left in those.by_ref().take(MOST) {
+    let list = told.log.list.as_slice();
+    let is_told = |left: &Open| is_of(left) && told.tells(left);
+    for left in list.iter().filter(|left| is_told(left)).take(MOST) {
         put_left(text, told, left);
     }
-    put_more(text, told.vat(), those.count(), kind)
+    put_more(text, told.vat(), list.iter().filter(|left| is_told(left)).count(), kind)
 }
 
 /// Appends the note of how many more of a kind a log has, if it has more than are told.
-fn put_more(text: &mut NoteText, vat: u32, more: usize, kind: &str) {
-    if more > 0 {
+fn put_more(text: &mut NoteText, vat: u32, count: usize, kind: &str) {
+    if count > MOST {
+        let more = count.saturating_sub(MOST);
         text.note_of("vat # has # more @", &kind, &[u64::from(vat), more as u64]);
     }
 }
@@ -82,12 +84,12 @@ fn put_abort(text: &mut NoteText, told: EndedLog<'_, '_>, abort: Aborted) {
 
 /// Appends the notes of the aborts of a log.
 fn put_aborts(text: &mut NoteText, told: EndedLog<'_, '_>) {
-    let aborts = told.log.aborts.iter();
-    let mut those = aborts.filter(|abort| told.is_told(abort.sent, abort.connection));
-    for abort in those.by_ref().take(MOST) {
+    let aborts = told.log.aborts.as_slice();
+    let is_told = |abort: &Aborted| told.is_told(abort.sent, abort.connection);
+    for abort in aborts.iter().filter(|abort| is_told(abort)).take(MOST) {
         put_abort(text, told, *abort);
     }
-    put_more(text, told.vat(), those.count(), "aborts")
+    put_more(text, told.vat(), aborts.iter().filter(|abort| is_told(abort)).count(), "aborts")
 }
 
 /// Appends the notes of what is open at the end of a log, and of its aborts, which may be why.

@@ -65,18 +65,12 @@ impl Display for DotEdge<'_> {
     ghost output = { λ edge. Some (dot_edge_text (edge_of edge.0.now)) };
 
     fn fmt<W: fmt::Write>(&self, f: &mut Formatter<W>) -> fmt::Result {
-        let Edge {
-            vat,
-            cap,
-            at_record,
-            ..
-        } = self.0;
-        let vat = Node(*vat);
-        let owner = Owner(cap);
-        let cap = Shown(cap);
+        let edge = self.0;
+        let (vat, owner, cap) = (Node(edge.vat), Owner(&edge.cap), Shown(&edge.cap));
+        let record = edge.at_record;
         write!(
             f,
-            "  {vat} -> {owner} [label=\"{cap}\\nrecord {at_record}\"];"
+            "  {vat} -> {owner} [label=\"{cap}\\nrecord {record}\"];"
         )
     }
 }

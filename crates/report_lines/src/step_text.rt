@@ -135,9 +135,7 @@ impl Display for NumberedStep<'_> {
 
     fn fmt<W: fmt::Write>(&self, f: &mut Formatter<W>) -> fmt::Result {
         let NumberedStep { at, record, step } = self;
-        let vat = vat_of(step);
-        let kind = Shown(*step);
-        let called = Shown(call_of_step(step));
+        let (vat, kind, called) = (vat_of(step), Shown(*step), Shown(call_of_step(step)));
         write!(f, "step {at} vat {vat} record {record} {kind}{called}")
     }
 }

@@ -78,7 +78,10 @@ fn put_told(text: &mut NoteText, logs: &Logs<'_>, told: HeardAnswer) {
 }
 
 /// The case that the files make, the first of which is the case file; if they make one, with all its logs.
-pub(crate) fn case_of(alloc: Global, files: &[(String, Bytes)]) -> Result<Option<Case>, AllocError> {
+pub(crate) fn case_of(
+    alloc: Global,
+    files: &[(String, Bytes)],
+) -> Result<Option<Case>, AllocError> {
     let Some((first, _)) = files.first() else {
         return Ok(None);
     };
@@ -95,7 +98,10 @@ pub(crate) fn case_of(alloc: Global, files: &[(String, Bytes)]) -> Result<Option
 
 /// What is found of each log and each link of the case that the files make, of which the line alone was found: that is found once
 /// more.
-fn findings_again(alloc: Global, files: &[(String, Bytes)]) -> Result<Option<Findings>, AllocError> {
+fn findings_again(
+    alloc: Global,
+    files: &[(String, Bytes)],
+) -> Result<Option<Findings>, AllocError> {
     match case_of(alloc, files)? {
         Some(case) if case.tie_fault().is_none() => Ok(Some(find_alone(alloc, case)?)),
         _ => Ok(None),
@@ -169,7 +175,11 @@ pub fn notes_of<S: SearchingSource>(
 ) -> Result<Notes, AllocError> {
     let mut text = NoteText::new(alloc);
     for name in source.left_out() {
-        text.file("note: ", name.as_str(), " is longer than notes look back over\n");
+        text.file(
+            "note: ",
+            name.as_str(),
+            " is longer than notes look back over\n",
+        );
     }
     let left_open = put_answer(&mut text, heard, source, hex, form);
     let text = text.finish()?;

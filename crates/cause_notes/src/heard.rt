@@ -125,7 +125,10 @@ fn of_finding(finding: &SlimFinding) -> HeardAnswer {
 /// What is heard of what is whole of a log.
 fn of_salvaged(found: &Salvaged) -> HeardAnswer {
     let end = found.log.bytes().len();
-    found.fault.map_or(HeardAnswer::Nothing, |fault| HeardAnswer::Cut { fault, end })
+    found.fault.map_or(
+        HeardAnswer::Nothing,
+        |fault| HeardAnswer::Cut { fault, end },
+    )
 }
 
 /// Both logs once more. None where one has too many owners to count.

@@ -38,7 +38,12 @@ pub(crate) fn put_join(text: &mut NoteText, files: &[(String, Bytes)], note: Joi
             text.words(": each end must have received the first frames that the other sent\n");
         }
         JoinNote::Ambiguous(end) => {
-            put_end(text, "note: connections that differ fit connection #", files, end);
+            put_end(
+                text,
+                "note: connections that differ fit connection #",
+                files,
+                end,
+            );
             text.words(": it received too little to tell which is the other end\n");
         }
     }

@@ -27,7 +27,8 @@ pub use note_text::NoteText;
 pub use number_lives::{Lives, NumberLife, NumberText};
 pub use openings::{QuestionOpening, opening_of};
 pub use question_notes::{put_misused, put_opening, put_reopened};
-pub use read_again::{ReadFrame, decoded, decoded_as, message_at, message_of};
-pub use read_again::{put_reason, put_reason_of};
+pub use read_again::{
+    ReadFrame, decoded, decoded_as, message_at, message_of, put_reason, put_reason_of,
+};
 pub use records_before::Past;
 pub use replay::Replay;

@@ -58,7 +58,9 @@ fn put_counted(past: &Past<'_>, text: &mut NoteText, life: NumberLife, given: u6
     let counts = [given, life.held];
     text.note_of("it gives back # of @, and # of it is held", &life, &counts);
     put_life(past, text, life);
-    if let Some(at) = life.lowered && life.ended != Some(at) {
+    if let Some(at) = life.lowered
+        && life.ended != Some(at)
+    {
         put_back(past, text, "a part of it was @ record #", at);
     }
 }
@@ -66,7 +68,8 @@ fn put_counted(past: &Past<'_>, text: &mut NoteText, life: NumberLife, given: u6
 /// How often a record's descriptors introduce a number of its connection.
 fn introduced(event: &DecodedRecord, key: TableKey) -> u64 {
     let those = event.descriptors().iter();
-    those.filter(|one| event.number_introduced(one) == Some(key)).count() as u64
+    let those = those.filter(|one| event.number_introduced(one) == Some(key));
+    those.count() as u64
 }
 
 /// Notes the first number of which the record gives back more than is held, of those that a record before introduced.

@@ -31,7 +31,8 @@ pub struct Lives {
 
 /// The number that one of a record's descriptors uses or introduces, where it is an export or an import.
 pub(crate) fn number_described(event: &DecodedRecord, descriptor: &Descriptor) -> Option<TableKey> {
-    event.number_introduced(descriptor).or(event.number_described(descriptor))
+    let introduced = event.number_introduced(descriptor);
+    introduced.or(event.number_described(descriptor))
 }
 
 /// The number that a record names beside its capability table.
@@ -80,7 +81,8 @@ impl Lives {
 
     /// Watches the numbers of a record's descriptors too.
     pub(crate) fn add_described(&mut self, event: &DecodedRecord) -> Result<(), AllocError> {
-        for key in event.descriptors().iter().filter_map(|one| number_described(event, one)) {
+        let described = event.descriptors().iter();
+        for key in described.filter_map(|one| number_described(event, one)) {
             self.add(key)?;
         }
         Ok(())

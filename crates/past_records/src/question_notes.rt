@@ -111,7 +111,9 @@ pub fn put_misused(past: &Past<'_>, text: &mut NoteText) {
     let described = event.descriptors().iter().take(MOST);
     let described = described.map(|one| (event.question_described(one), Use::Names));
     for (key, use_of) in named.into_iter().chain(described) {
-        if let Some(key) = key && put_if_misused(past, text, key, use_of) {
+        if let Some(key) = key
+            && put_if_misused(past, text, key, use_of)
+        {
             return;
         }
     }

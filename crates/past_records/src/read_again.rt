@@ -12,7 +12,11 @@ use vat_view::DecodedRecord;
 pub type ReadFrame = Option<Result<RpcMessage, ViewError>>;
 
 /// What the frame of a record says.
-pub fn message_of(alloc: Global, stored: &Record, edition: Edition) -> Result<ReadFrame, AllocError> {
+pub fn message_of(
+    alloc: Global,
+    stored: &Record,
+    edition: Edition,
+) -> Result<ReadFrame, AllocError> {
     let Some(frame) = stored.body().frame() else {
         return Ok(None);
     };
@@ -45,7 +49,11 @@ pub fn decoded_as(
 }
 
 /// The record of this number as it is judged. None where its frame isn't read, or there is none.
-pub fn decoded(alloc: Global, log: &VatLog, at: usize) -> Result<Option<DecodedRecord>, AllocError> {
+pub fn decoded(
+    alloc: Global,
+    log: &VatLog,
+    at: usize,
+) -> Result<Option<DecodedRecord>, AllocError> {
     match log.get(at) {
         Some(stored) => decoded_as(alloc, stored, edition_of(log)),
         None => Ok(None),

@@ -131,7 +131,7 @@ impl<'a> Past<'a> {
         requires { F.IsAlwaysCallable is_sought }
     {
         let mut behind = self.at.saturating_add(1)..self.log.len();
-        behind.find(|at| self.log.get(*at).is_some_and(|stored| is_sought(stored.body())))
+        behind.find(|at| matches!(self.log.get(*at), Some(stored) if is_sought(stored.body())))
     }
 
     /// The life of the number that one of its descriptors names.

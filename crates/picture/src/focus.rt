@@ -46,9 +46,7 @@ fn mate_by(case: &Case, report: &Report) -> Option<Place>
             connection,
             end,
             message,
-        } => {
-            mate_at(case, receipt(case, *connection, *end, *message as usize)?)
-        }
+        } => { mate_at(case, receipt(case, *connection, *end, *message as usize)?) }
         _ => None,
     }
 }

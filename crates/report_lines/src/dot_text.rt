@@ -68,9 +68,6 @@ impl Display for DotEdge<'_> {
         let edge = self.0;
         let (vat, owner, cap) = (Node(edge.vat), Owner(&edge.cap), Shown(&edge.cap));
         let record = edge.at_record;
-        write!(
-            f,
-            "  {vat} -> {owner} [label=\"{cap}\\nrecord {record}\"];"
-        )
+        write!(f, "  {vat} -> {owner} [label=\"{cap}\\nrecord {record}\"];")
     }
 }

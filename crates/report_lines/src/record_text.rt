@@ -135,7 +135,11 @@ fn put_field<W: fmt::Write>(
     ensures { WritesOnOk W.write_str_gives f.old result
         (body_text (Body.Field reference call path.now)) f.new }
 {
-    write!(f, "field reference {reference} call {call} path {}", Shown(path))
+    write!(
+        f,
+        "field reference {reference} call {call} path {}",
+        Shown(path)
+    )
 }
 
 /// What a record says, but for its frame.

@@ -93,7 +93,9 @@ fn delivered_of<'a>(
     maker: u32,
     calls: &BTreeSet<u64>,
 ) -> Option<(Placed<'a>, Name)> {
-    let mut deliveries = steps.iter().filter_map(|one| Some((*one, delivery_of(one.step)?)));
+    let mut deliveries = steps
+        .iter()
+        .filter_map(|one| Some((*one, delivery_of(one.step)?)));
     deliveries.find(|(_, call)| call.maker == maker && calls.contains(&call.number))
 }
 

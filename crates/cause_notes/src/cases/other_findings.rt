@@ -20,7 +20,8 @@ fn put_report(text: &mut NoteText, words: &str, report: Report) {
 
 /// Appends the notes of a link on which a message was received that wasn't sent so.
 fn put_link(text: &mut NoteText, logs: &Logs<'_>, arrival: Arrival) {
-    let words = "note: a message was received that wasn't sent so, and what follows may come of that: ";
+    let words =
+        "note: a message was received that wasn't sent so, and what follows may come of that: ";
     put_report(text, words, arrival.report());
     put_received(text, logs, arrival);
     put_counterpart(text, logs, arrival);
@@ -40,7 +41,10 @@ pub(crate) fn put_links(text: &mut NoteText, logs: &Logs<'_>, told: Option<u32>)
         return;
     };
     let arrivals = findings.links().iter().filter_map(arrival_of);
-    for arrival in arrivals.filter(|one| told != Some(one.connection)).take(MOST) {
+    for arrival in arrivals
+        .filter(|one| told != Some(one.connection))
+        .take(MOST)
+    {
         put_link(text, logs, arrival);
     }
 }
@@ -69,7 +73,10 @@ fn put_vat(text: &mut NoteText, logs: &Logs<'_>, finding: &VatFinding) {
 
 /// Appends the notes of each other log that isn't good, or is outside.
 fn put_bad_vats(text: &mut NoteText, logs: &Logs<'_>, findings: &Findings, told: u32) {
-    let others = findings.vats().iter().filter(|finding| finding.log().vat() != told);
+    let others = findings
+        .vats()
+        .iter()
+        .filter(|finding| finding.log().vat() != told);
     for finding in others.filter(|finding| !is_good(finding)).take(MOST) {
         put_vat(text, logs, finding);
     }
@@ -106,7 +113,17 @@ fn put_good<T, F: Fn(&T) -> Option<u32>>(text: &mut NoteText, words: [&str; 2], 
 pub(crate) fn put_others(text: &mut NoteText, logs: &Logs<'_>, told: u32) {
     if let Some(findings) = logs.findings {
         put_bad_vats(text, logs, findings, told);
-        put_good(text, ["note: good by themselves: ", "vat "], findings.vats(), good_vat);
-        put_good(text, ["note: received as sent: ", "connection "], findings.links(), good_link);
+        put_good(
+            text,
+            ["note: good by themselves: ", "vat "],
+            findings.vats(),
+            good_vat,
+        );
+        put_good(
+            text,
+            ["note: received as sent: ", "connection "],
+            findings.links(),
+            good_link,
+        );
     }
 }

@@ -29,7 +29,9 @@ fn put_bad<S: RememberingSource>(text: &mut NoteText, source: &S, fault: Fault) 
     if let Some(name) = source.last() {
         text.file(words, name, "\n");
     }
-    if let Some(file) = last_file(source) && !put_kind(text, file, wanted) {
+    if let Some(file) = last_file(source)
+        && !put_kind(text, file, wanted)
+    {
         match fault {
             Fault::Log(fault) => put_log_fault(text, fault, file.1.len()),
             Fault::Order(fault) => put_order_fault(text, fault, file.1.len()),

@@ -19,7 +19,8 @@ fn put_stopped<S: SearchingSource>(text: &mut NoteText, source: &S, name: &str) 
     if let Some(stopped) = text.granted(format!(in alloc; "{name}.stopped"))
         && source.has(stopped.as_str())
     {
-        let words = " is there: its recorder stopped before its vat did, and said why on standard error\n";
+        let words =
+            " is there: its recorder stopped before its vat did, and said why on standard error\n";
         text.file("note: ", stopped.as_str(), words);
     }
 }
@@ -46,7 +47,11 @@ fn put_beside<S: SearchingSource>(text: &mut NoteText, source: &S, name: &str) {
         && !name.starts_with('/')
         && source.has(beside.as_str())
     {
-        text.file("note: ", beside.as_str(), " is there: the names in a case file start in the folder ");
+        text.file(
+            "note: ",
+            beside.as_str(),
+            " is there: the names in a case file start in the folder ",
+        );
         text.file("in which vataudit runs, so run it in ", folder, "\n");
     }
 }

@@ -113,7 +113,10 @@ fn put_overtaking(text: &mut NoteText, files: WireFiles<'_>, overtaking: Overtak
     let name = at_end(files, overtaking.end).0.as_str();
     text.file("note: ", name, ": messages ");
     let numbers = [overtaking.earlier, overtaking.later];
-    text.tell("# and # came in the other order; if they were made ", &numbers);
+    text.tell(
+        "# and # came in the other order; if they were made ",
+        &numbers,
+    );
     text.words("through one reference, that is a fault\n");
     if overtaking.others > 0 {
         text.file("note: ", name, ": ");
@@ -201,9 +204,7 @@ fn put_of_line(text: &mut NoteText, files: WireFiles<'_>, found: &WireAnswer) {
         WireLine::TooLong { .. } => text.say(
             "a log has at most 4294967295 records, and a frame in it at most 67108864 bytes",
         ),
-        WireLine::BadFrame { end, message } => {
-            put_bad_frame(text, at_end(files, end), message)
-        }
+        WireLine::BadFrame { end, message } => { put_bad_frame(text, at_end(files, end), message) }
     }
 }
 

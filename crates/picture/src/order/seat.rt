@@ -100,7 +100,9 @@ fn is_awaited(coming: &[u32]) -> bool
 fn take_frame(coming: &mut Vec<u32>, received: Option<u32>)
     ensures { coming.new.items ≡ taken received coming.old.items }
 {
-    if let Some(connection) = received && let Some(at) = first_on(coming, connection) {
+    if let Some(connection) = received
+        && let Some(at) = first_on(coming, connection)
+    {
         coming.remove(at);
     }
 }
@@ -109,7 +111,9 @@ fn take_frame(coming: &mut Vec<u32>, received: Option<u32>)
 fn hear_frame(coming: &mut Vec<u32>, vat: u32, sent: Option<(u32, u32)>) -> Result<(), AllocError>
     ensures { OnOk result (coming.new.items ≡ heard vat sent coming.old.items) }
 {
-    if let Some((to, connection)) = sent && to == vat {
+    if let Some((to, connection)) = sent
+        && to == vat
+    {
         coming.push(connection)?;
     }
     Ok(())

@@ -74,7 +74,11 @@ fn line_of(arrow: &Arrow) -> LineSegment
 {
     let here = point_at(arrow.column, arrow.line);
     let there = reach_point(arrow.column, arrow.line, arrow.reach);
-    let (from, to) = if arrow.sent { (here, there) } else { (there, here) };
+    let (from, to) = if arrow.sent {
+        (here, there)
+    } else {
+        (there, here)
+    };
     LineSegment { from, to }
 }
 

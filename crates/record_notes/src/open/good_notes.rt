@@ -62,7 +62,12 @@ fn put_kind<F: Fn(&Open) -> bool>(text: &mut NoteText, told: EndedLog<'_, '_>, k
     for left in list.iter().filter(|left| is_told(left)).take(MOST) {
         put_left(text, told, left);
     }
-    put_more(text, told.vat(), list.iter().filter(|left| is_told(left)).count(), kind)
+    put_more(
+        text,
+        told.vat(),
+        list.iter().filter(|left| is_told(left)).count(),
+        kind,
+    )
 }
 
 /// Appends the note of how many more of a kind a log has, if it has more than are told.
@@ -76,8 +81,16 @@ fn put_more(text: &mut NoteText, vat: u32, count: usize, kind: &str) {
 /// Appends the note of an abort, with its reason.
 fn put_abort(text: &mut NoteText, told: EndedLog<'_, '_>, abort: Aborted) {
     let word = if abort.sent { "sent" } else { "received" };
-    let numbers = [abort.at as u64, u64::from(told.vat()), u64::from(abort.connection)];
-    text.tell_of("note: record # of vat # @ an abort of connection #", &word, &numbers);
+    let numbers = [
+        abort.at as u64,
+        u64::from(told.vat()),
+        u64::from(abort.connection),
+    ];
+    text.tell_of(
+        "note: record # of vat # @ an abort of connection #",
+        &word,
+        &numbers,
+    );
     put_reason(text, told.log.log, abort.at, ": ");
     text.words("\n");
 }
@@ -89,7 +102,12 @@ fn put_aborts(text: &mut NoteText, told: EndedLog<'_, '_>) {
     for abort in aborts.iter().filter(|abort| is_told(abort)).take(MOST) {
         put_abort(text, told, *abort);
     }
-    put_more(text, told.vat(), aborts.iter().filter(|abort| is_told(abort)).count(), "aborts")
+    put_more(
+        text,
+        told.vat(),
+        aborts.iter().filter(|abort| is_told(abort)).count(),
+        "aborts",
+    )
 }
 
 /// Appends the notes of what is open at the end of a log, and of its aborts, which may be why.
@@ -103,7 +121,11 @@ fn put_log(text: &mut NoteText, told: EndedLog<'_, '_>) {
     put_kind(text, told, kind, |one| matches!(one, Open::Promise { .. }));
     let counts = OpenCounts::of(told.log.list.as_slice()).held();
     if counts.is_any() {
-        text.note_of("open at the end of vat #: @", &counts, &[u64::from(told.vat())]);
+        text.note_of(
+            "open at the end of vat #: @",
+            &counts,
+            &[u64::from(told.vat())],
+        );
     }
 }
 

@@ -64,7 +64,10 @@ impl<'a> OpenCase<'a> {
     }
 
     /// The case, where all its logs are good.
-    fn if_good(self, is_good: Result<bool, AllocError>) -> Result<Option<OpenCase<'a>>, AllocError> {
+    fn if_good(
+        self,
+        is_good: Result<bool, AllocError>,
+    ) -> Result<Option<OpenCase<'a>>, AllocError> {
         match is_good {
             Ok(true) => Ok(Some(self)),
             Ok(false) => Ok(None),
@@ -73,7 +76,11 @@ impl<'a> OpenCase<'a> {
     }
 
     /// A case that has these links and no logs yet.
-    fn without_logs(alloc: Global, links: &'a [Link], files: &'a [(String, Bytes)]) -> OpenCase<'a> {
+    fn without_logs(
+        alloc: Global,
+        links: &'a [Link],
+        files: &'a [(String, Bytes)],
+    ) -> OpenCase<'a> {
         OpenCase {
             alloc,
             logs: Vec::new(alloc),
@@ -135,7 +142,9 @@ impl<'a> OpenCase<'a> {
 
     /// The vat at the other end of a connection, where the case has it. Its links stand by rising connection.
     pub(crate) fn peer_of(&self, vat: u32, connection: u32) -> Option<u32> {
-        let at = self.links.binary_search_by_key(&connection, |link| link.connection);
+        let at = self
+            .links
+            .binary_search_by_key(&connection, |link| link.connection);
         let link = self.links.get(at.ok()?)?;
         if link.a == vat {
             Some(link.b)

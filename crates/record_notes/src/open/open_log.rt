@@ -57,7 +57,9 @@ impl<'a> OpenLog<'a> {
     /// Adds the questions without a Return that a peer asked, and their calls.
     fn add_asked(&mut self) -> Result<(), AllocError> {
         for left in self.list.iter() {
-            if let Open::Question { question, call, at } = left && !question.ours {
+            if let Open::Question { question, call, at } = left
+                && !question.ours
+            {
                 self.asked.insert(*question, (*call, *at))?;
                 self.fates.insert(*call, None)?;
             }
@@ -73,7 +75,8 @@ impl<'a> OpenLog<'a> {
         } else if let Some(sends) = self.sends.get_mut(&connection) {
             sends.push(at)?;
         } else {
-            self.sends.insert(connection, Vec::from_slice(self.alloc, &[at])?)?;
+            self.sends
+                .insert(connection, Vec::from_slice(self.alloc, &[at])?)?;
         }
         Ok(())
     }
@@ -81,7 +84,9 @@ impl<'a> OpenLog<'a> {
     /// Adds what this record tells.
     fn see(&mut self, event: &DecodedRecord, at: usize) -> Result<(), AllocError> {
         let question = event.question_opened();
-        if let Some((call, does)) = step_of(event) && let Some(fate) = self.fates.get_mut(&call) {
+        if let Some((call, does)) = step_of(event)
+            && let Some(fate) = self.fates.get_mut(&call)
+        {
             *fate = Some(Fate { at, does, question });
         }
         let DecodedRecord::Wire {
@@ -151,7 +156,10 @@ impl<'a> OpenLog<'a> {
 
     /// The records that send a frame on a connection.
     pub(crate) fn sends_on(&self, connection: u32) -> &[usize] {
-        self.sends.get(&connection).map(|sends| sends.as_slice()).unwrap_or(&[])
+        self.sends
+            .get(&connection)
+            .map(|sends| sends.as_slice())
+            .unwrap_or(&[])
     }
 
     /// How many frames the records before this one send on a connection.

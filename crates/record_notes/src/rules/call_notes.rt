@@ -58,7 +58,10 @@ fn fails(event: &DecodedRecord, question: TableKey) -> bool {
 /// The record that answered a received call with an exception or as canceled.
 fn failed_by(past: &Past<'_>, call: u64) -> Option<usize> {
     let came = brought_by(past, call)?;
-    let question = past.get(came)?.question_opened().filter(|question| !question.ours)?;
+    let question = past
+        .get(came)?
+        .question_opened()
+        .filter(|question| !question.ours)?;
     past.find(came, |event| fails(event, question))
 }
 

@@ -79,7 +79,10 @@ pub(crate) fn put_entry(past: &Past<'_>, text: &mut NoteText, place: usize, stan
 
 /// Whether the entry of a record at a place says senderHosted.
 fn is_hosted(event: &DecodedRecord, place: usize) -> bool {
-    matches!(event.descriptors().get(place), Some(Descriptor::SenderHosted(_)))
+    matches!(
+        event.descriptors().get(place),
+        Some(Descriptor::SenderHosted(_))
+    )
 }
 
 /// Where a view ends that is still open and stands beside an entry that says senderHosted, where it is so.
@@ -142,7 +145,9 @@ fn put_if_amiss(past: &Past<'_>, text: &mut NoteText, entry: NotedEntry<'_>) -> 
     let Some(view) = text.granted(past.state.view_of_reference(entry.reference)) else {
         return true;
     };
-    if let (Some(view), Some(stands)) = (&view, entry.stands) && goes_for(past, view, stands) {
+    if let (Some(view), Some(stands)) = (&view, entry.stands)
+        && goes_for(past, view, stands)
+    {
         return put_open(past, text, entry, view);
     }
     let shown = EntryText(&past.event, entry.place);

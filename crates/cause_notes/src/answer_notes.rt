@@ -175,11 +175,8 @@ pub fn notes_of<S: SearchingSource>(
 ) -> Result<Notes, AllocError> {
     let mut text = NoteText::new(alloc);
     for name in source.left_out() {
-        text.file(
-            "note: ",
-            name.as_str(),
-            " is longer than notes look back over\n",
-        );
+        let words = " is longer than notes look back over\n";
+        text.file("note: ", name.as_str(), words);
     }
     let left_open = put_answer(&mut text, heard, source, hex, form);
     let text = text.finish()?;

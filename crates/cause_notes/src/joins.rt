@@ -38,12 +38,8 @@ pub(crate) fn put_join(text: &mut NoteText, files: &[(String, Bytes)], note: Joi
             text.words(": each end must have received the first frames that the other sent\n");
         }
         JoinNote::Ambiguous(end) => {
-            put_end(
-                text,
-                "note: connections that differ fit connection #",
-                files,
-                end,
-            );
+            let words = "note: connections that differ fit connection #";
+            put_end(text, words, files, end);
             text.words(": it received too little to tell which is the other end\n");
         }
     }

@@ -48,11 +48,8 @@ impl<'a> Logs<'a> {
 
     /// The log of this vat among the files that were read.
     fn read(&self, alloc: Global, vat: u32) -> Result<Option<Arc<VatLog>>, AllocError> {
-        for (_, bytes) in self
-            .files
-            .iter()
-            .filter(|(_, bytes)| vat_of(bytes) == Some(vat))
-        {
+        let files = self.files.iter();
+        for (_, bytes) in files.filter(|(_, bytes)| vat_of(bytes) == Some(vat)) {
             if let Some(log) = log_of(alloc, bytes)? {
                 return Ok(Some(Arc::new(alloc, log)?));
             }

@@ -49,9 +49,8 @@ fn parting_at(
     let (vat, sent) = (placed.vat, placed.at);
     let connection = sends(placed.step, overtaken)?;
     let mut leaving = steps.iter();
-    let left = leaving
-        .find(|other| other.vat == vat && leaves(other.step, early, connection))?
-        .at;
+    let later = leaving.find(|other| other.vat == vat && leaves(other.step, early, connection))?;
+    let left = later.at;
     (left > sent).then_some(Parting {
         vat,
         connection,

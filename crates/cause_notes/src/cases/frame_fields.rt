@@ -62,10 +62,8 @@ impl FieldList<'_> {
             self.push(entry, format!(in alloc; "{descriptor}"));
         }
         let fields = Shown(payload.fields.as_slice());
-        self.push(
-            format!(in alloc; "{name}.content"),
-            format!(in alloc; "[{fields}]"),
-        );
+        let content = format!(in alloc; "{name}.content");
+        self.push(content, format!(in alloc; "[{fields}]"));
     }
 
     /// Adds what a Return says of its call.

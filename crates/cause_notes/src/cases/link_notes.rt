@@ -125,13 +125,9 @@ fn put_alike(text: &mut NoteText, direction: &Direction<'_>, message: u64) {
 
 /// Appends the note of the record by which a vat received a message of a connection.
 pub(crate) fn put_received(text: &mut NoteText, logs: &Logs<'_>, arrival: Arrival) {
+    let connection = arrival.connection;
     if let Some(log) = text.found(logs.of_vat(text.alloc(), arrival.end))
-        && let Some(stream) = text.granted(Stream::of(
-            text.alloc(),
-            &log,
-            false,
-            arrival.connection,
-        ))
+        && let Some(stream) = text.granted(Stream::of(text.alloc(), &log, false, connection))
         && let Some(received) = stream.frames.get(arrival.message as usize)
     {
         put_named(text, logs, &log, received.at);

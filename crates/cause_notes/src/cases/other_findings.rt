@@ -41,10 +41,8 @@ pub(crate) fn put_links(text: &mut NoteText, logs: &Logs<'_>, told: Option<u32>)
         return;
     };
     let arrivals = findings.links().iter().filter_map(arrival_of);
-    for arrival in arrivals
-        .filter(|one| told != Some(one.connection))
-        .take(MOST)
-    {
+    let others = arrivals.filter(|one| told != Some(one.connection));
+    for arrival in others.take(MOST) {
         put_link(text, logs, arrival);
     }
 }
@@ -73,11 +71,9 @@ fn put_vat(text: &mut NoteText, logs: &Logs<'_>, finding: &VatFinding) {
 
 /// Appends the notes of each other log that isn't good, or is outside.
 fn put_bad_vats(text: &mut NoteText, logs: &Logs<'_>, findings: &Findings, told: u32) {
-    let others = findings
-        .vats()
-        .iter()
-        .filter(|finding| finding.log().vat() != told);
-    for finding in others.filter(|finding| !is_good(finding)).take(MOST) {
+    let vats = findings.vats().iter();
+    let bad = vats.filter(|one| one.log().vat() != told && !is_good(one));
+    for finding in bad.take(MOST) {
         put_vat(text, logs, finding);
     }
 }
@@ -113,17 +109,9 @@ fn put_good<T, F: Fn(&T) -> Option<u32>>(text: &mut NoteText, words: [&str; 2], 
 pub(crate) fn put_others(text: &mut NoteText, logs: &Logs<'_>, told: u32) {
     if let Some(findings) = logs.findings {
         put_bad_vats(text, logs, findings, told);
-        put_good(
-            text,
-            ["note: good by themselves: ", "vat "],
-            findings.vats(),
-            good_vat,
-        );
-        put_good(
-            text,
-            ["note: received as sent: ", "connection "],
-            findings.links(),
-            good_link,
-        );
+        let words = ["note: good by themselves: ", "vat "];
+        put_good(text, words, findings.vats(), good_vat);
+        let words = ["note: received as sent: ", "connection "];
+        put_good(text, words, findings.links(), good_link);
     }
 }

@@ -115,11 +115,8 @@ fn tie_in(alloc: Global, logs: &Logs<'_>, connection: u32) -> Result<Option<Tie>
 
 /// Appends the notes of the files that are logs of this vat.
 fn put_same_vat(text: &mut NoteText, logs: &Logs<'_>, vat: u32) {
-    for (name, _) in logs
-        .files
-        .iter()
-        .filter(|(_, bytes)| vat_of(bytes) == Some(vat))
-    {
+    let files = logs.files.iter();
+    for (name, _) in files.filter(|(_, bytes)| vat_of(bytes) == Some(vat)) {
         text.file("note: ", name.as_str(), " is a log of vat ");
         text.tell("#\n", &[u64::from(vat)]);
     }
@@ -166,10 +163,8 @@ fn put_stranger(text: &mut NoteText, file: &(String, Bytes), connection: u32, ti
     }
     if let Some(at) = use_of(&log, connection) {
         text.file("note: ", file.0.as_str(), ": ");
-        text.tell(
-            "record # is on connection #, and ",
-            &[at as u64, u64::from(connection)],
-        );
+        let place = [at as u64, u64::from(connection)];
+        text.tell("record # is on connection #, and ", &place);
         match tie {
             None => text.words("no link of the case is that connection\n"),
             Some(_) => text.tell("that doesn't join vat #\n", &[u64::from(vat)]),
@@ -194,12 +189,8 @@ fn put_missing(text: &mut NoteText, logs: &Logs<'_>, connection: u32) {
     if let Some(tie) = tie {
         put_unlogged(text, logs, tie);
     }
-    for file in logs
-        .files
-        .iter()
-        .take(MOST)
-        .filter(|file| vat_of(&file.1).is_some())
-    {
+    let files = logs.files.iter().take(MOST);
+    for file in files.filter(|file| vat_of(&file.1).is_some()) {
         put_stranger(text, file, connection, tie);
     }
 }

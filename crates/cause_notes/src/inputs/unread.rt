@@ -47,11 +47,8 @@ fn put_beside<S: SearchingSource>(text: &mut NoteText, source: &S, name: &str) {
         && !name.starts_with('/')
         && source.has(beside.as_str())
     {
-        text.file(
-            "note: ",
-            beside.as_str(),
-            " is there: the names in a case file start in the folder ",
-        );
+        let words = " is there: the names in a case file start in the folder ";
+        text.file("note: ", beside.as_str(), words);
         text.file("in which vataudit runs, so run it in ", folder, "\n");
     }
 }

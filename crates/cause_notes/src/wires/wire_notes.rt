@@ -113,10 +113,8 @@ fn put_overtaking(text: &mut NoteText, files: WireFiles<'_>, overtaking: Overtak
     let name = at_end(files, overtaking.end).0.as_str();
     text.file("note: ", name, ": messages ");
     let numbers = [overtaking.earlier, overtaking.later];
-    text.tell(
-        "# and # came in the other order; if they were made ",
-        &numbers,
-    );
+    let sentence = "# and # came in the other order; if they were made ";
+    text.tell(sentence, &numbers);
     text.words("through one reference, that is a fault\n");
     if overtaking.others > 0 {
         text.file("note: ", name, ": ");

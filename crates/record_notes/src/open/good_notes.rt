@@ -62,12 +62,8 @@ fn put_kind<F: Fn(&Open) -> bool>(text: &mut NoteText, told: EndedLog<'_, '_>, k
     for left in list.iter().filter(|left| is_told(left)).take(MOST) {
         put_left(text, told, left);
     }
-    put_more(
-        text,
-        told.vat(),
-        list.iter().filter(|left| is_told(left)).count(),
-        kind,
-    )
+    let count = list.iter().filter(|left| is_told(left)).count();
+    put_more(text, told.vat(), count, kind)
 }
 
 /// Appends the note of how many more of a kind a log has, if it has more than are told.
@@ -81,16 +77,9 @@ fn put_more(text: &mut NoteText, vat: u32, count: usize, kind: &str) {
 /// Appends the note of an abort, with its reason.
 fn put_abort(text: &mut NoteText, told: EndedLog<'_, '_>, abort: Aborted) {
     let word = if abort.sent { "sent" } else { "received" };
-    let numbers = [
-        abort.at as u64,
-        u64::from(told.vat()),
-        u64::from(abort.connection),
-    ];
-    text.tell_of(
-        "note: record # of vat # @ an abort of connection #",
-        &word,
-        &numbers,
-    );
+    let (vat, connection) = (u64::from(told.vat()), u64::from(abort.connection));
+    let sentence = "note: record # of vat # @ an abort of connection #";
+    text.tell_of(sentence, &word, &[abort.at as u64, vat, connection]);
     put_reason(text, told.log.log, abort.at, ": ");
     text.words("\n");
 }
@@ -102,12 +91,8 @@ fn put_aborts(text: &mut NoteText, told: EndedLog<'_, '_>) {
     for abort in aborts.iter().filter(|abort| is_told(abort)).take(MOST) {
         put_abort(text, told, *abort);
     }
-    put_more(
-        text,
-        told.vat(),
-        aborts.iter().filter(|abort| is_told(abort)).count(),
-        "aborts",
-    )
+    let count = aborts.iter().filter(|abort| is_told(abort)).count();
+    put_more(text, told.vat(), count, "aborts")
 }
 
 /// Appends the notes of what is open at the end of a log, and of its aborts, which may be why.
@@ -121,11 +106,8 @@ fn put_log(text: &mut NoteText, told: EndedLog<'_, '_>) {
     put_kind(text, told, kind, |one| matches!(one, Open::Promise { .. }));
     let counts = OpenCounts::of(told.log.list.as_slice()).held();
     if counts.is_any() {
-        text.note_of(
-            "open at the end of vat #: @",
-            &counts,
-            &[u64::from(told.vat())],
-        );
+        let vat = [u64::from(told.vat())];
+        text.note_of("open at the end of vat #: @", &counts, &vat);
     }
 }
 

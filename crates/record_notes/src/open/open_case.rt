@@ -76,11 +76,7 @@ impl<'a> OpenCase<'a> {
     }
 
     /// A case that has these links and no logs yet.
-    fn without_logs(
-        alloc: Global,
-        links: &'a [Link],
-        files: &'a [(String, Bytes)],
-    ) -> OpenCase<'a> {
+    fn empty(alloc: Global, links: &'a [Link], files: &'a [(String, Bytes)]) -> OpenCase<'a> {
         OpenCase {
             alloc,
             logs: Vec::new(alloc),
@@ -95,7 +91,7 @@ impl<'a> OpenCase<'a> {
         findings: &'a Findings,
         files: &'a [(String, Bytes)],
     ) -> Result<Option<OpenCase<'a>>, AllocError> {
-        let mut open = OpenCase::without_logs(alloc, findings.case().links(), files);
+        let mut open = OpenCase::empty(alloc, findings.case().links(), files);
         let is_good = open.add_found(findings);
         open.if_good(is_good)
     }
@@ -106,7 +102,7 @@ impl<'a> OpenCase<'a> {
         case: &'a Case,
         files: &'a [(String, Bytes)],
     ) -> Result<Option<OpenCase<'a>>, AllocError> {
-        let mut open = OpenCase::without_logs(alloc, case.links(), files);
+        let mut open = OpenCase::empty(alloc, case.links(), files);
         let is_good = open.add_case(case);
         open.if_good(is_good)
     }
@@ -118,7 +114,7 @@ impl<'a> OpenCase<'a> {
         events: &[DecodedRecord],
         files: &'a [(String, Bytes)],
     ) -> Result<Option<OpenCase<'a>>, AllocError> {
-        let mut open = OpenCase::without_logs(alloc, &[], files);
+        let mut open = OpenCase::empty(alloc, &[], files);
         let is_good = open.add(log, events);
         open.if_good(is_good)
     }
@@ -142,10 +138,9 @@ impl<'a> OpenCase<'a> {
 
     /// The vat at the other end of a connection, where the case has it. Its links stand by rising connection.
     pub(crate) fn peer_of(&self, vat: u32, connection: u32) -> Option<u32> {
-        let at = self
-            .links
-            .binary_search_by_key(&connection, |link| link.connection);
-        let link = self.links.get(at.ok()?)?;
+        let links = self.links;
+        let at = links.binary_search_by_key(&connection, |link| link.connection);
+        let link = links.get(at.ok()?)?;
         if link.a == vat {
             Some(link.b)
         } else if link.b == vat {

@@ -156,10 +156,8 @@ impl<'a> OpenLog<'a> {
 
     /// The records that send a frame on a connection.
     pub(crate) fn sends_on(&self, connection: u32) -> &[usize] {
-        self.sends
-            .get(&connection)
-            .map(|sends| sends.as_slice())
-            .unwrap_or(&[])
+        let sends = self.sends.get(&connection);
+        sends.map(|sends| sends.as_slice()).unwrap_or(&[])
     }
 
     /// How many frames the records before this one send on a connection.

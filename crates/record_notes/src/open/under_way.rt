@@ -18,19 +18,14 @@ pub(crate) struct UnderWay {
 }
 
 /// What one end of a connection sent and the other never received, if there is any.
-fn under_way_from(
-    case: &OpenCase<'_>,
-    link: &Link,
-    sender: u32,
-    receiver: u32,
-) -> Option<UnderWay> {
+fn under_way_from(case: &OpenCase<'_>, link: &Link, from: u32, to: u32) -> Option<UnderWay> {
     let connection = link.connection;
-    let received = case.log_of(receiver)?.received_on(connection);
-    let sends = case.log_of(sender)?.sends_on(connection);
+    let received = case.log_of(to)?.received_on(connection);
+    let sends = case.log_of(from)?.sends_on(connection);
     Some(UnderWay {
         connection,
-        sender,
-        receiver,
+        sender: from,
+        receiver: to,
         count: sends.len().saturating_sub(received),
         first: *sends.get(received)?,
     })

@@ -3,7 +3,6 @@
 use crate::cases::link_notes::{put_counterpart, put_received};
 use crate::cases::order_cause::put_order_cause;
 use crate::cases::other_findings::{put_links, put_others};
-use crate::found::{found, put_line};
 use crate::good_answers::{Form, Notes, put_last_log, put_yes};
 use crate::heard::{Heard, HeardAnswer};
 use crate::inputs::bad_frame::put_unread_frame;
@@ -21,42 +20,33 @@ use case_report::Breach;
 use past_records::{NoteText, message_at};
 use record_notes::{Logs, put_place, put_rule_cause};
 use report_lines::Fault;
-use serde_json::Value;
 use std::alloc::{AllocError, Global};
 
 /// Appends the notes of what led to a record that breaks a rule, and of what else was found; behind an overtaken call there is
 /// nothing else.
-fn put_cause(
-    alloc: Global,
-    text: &mut NoteText,
-    logs: &Logs<'_>,
-    vat: u32,
-    at: usize,
-    breach: Breach,
-) {
+fn put_cause(text: &mut NoteText, logs: &Logs<'_>, vat: u32, at: usize, breach: Breach) {
     match breach {
-        Breach::Order => put_order_cause(alloc, text, logs, vat, at),
+        Breach::Order => put_order_cause(text, logs, vat, at),
         Breach::Rule(rule) => {
-            if let Some(log) = found(text, logs.of_vat(alloc, vat)) {
-                put_rule_cause(alloc, text, &log, at, rule);
+            if let Some(log) = text.found(logs.of_vat(text.alloc(), vat)) {
+                put_rule_cause(text, &log, at, rule);
             }
-            put_others(alloc, text, logs, vat);
+            put_others(text, logs, vat);
         }
     }
 }
 
 /// Appends the note of why the frame of a record isn't read, where it isn't one that is outside of what is judged.
-fn put_frame_of(alloc: Global, text: &mut NoteText, logs: &Logs<'_>, vat: u32, at: usize) {
-    let Some(log) = found(text, logs.of_vat(alloc, vat)) else {
-        return;
-    };
-    if let Some(Err(fault)) = found(text, message_at(alloc, &log, at)) {
+fn put_frame_of(text: &mut NoteText, logs: &Logs<'_>, vat: u32, at: usize) {
+    if let Some(log) = text.found(logs.of_vat(text.alloc(), vat))
+        && let Some(Err(fault)) = text.found(message_at(text.alloc(), &log, at))
+    {
         put_unread_frame(text, Fault::from(fault));
     }
 }
 
 /// Appends the notes of a no or of an outside.
-fn put_told(alloc: Global, text: &mut NoteText, logs: &Logs<'_>, told: HeardAnswer) {
+fn put_told(text: &mut NoteText, logs: &Logs<'_>, told: HeardAnswer) {
     match told {
         HeardAnswer::Broken {
             vat,
@@ -64,25 +54,25 @@ fn put_told(alloc: Global, text: &mut NoteText, logs: &Logs<'_>, told: HeardAnsw
             breach,
             rule,
         } => {
-            put_links(alloc, text, logs, None);
-            put_place(alloc, text, logs, vat, at as usize);
-            put_line(text, "note: rule: ", rule);
-            put_cause(alloc, text, logs, vat, at as usize, breach);
+            put_links(text, logs, None);
+            put_place(text, logs, vat, at as usize);
+            text.line("note: rule: ", rule);
+            put_cause(text, logs, vat, at as usize, breach);
         }
         HeardAnswer::Outside { vat, at, why } => {
-            put_links(alloc, text, logs, None);
-            put_place(alloc, text, logs, vat, at as usize);
-            put_line(text, "note: not judged: ", why);
-            put_frame_of(alloc, text, logs, vat, at as usize);
-            put_others(alloc, text, logs, vat);
+            put_links(text, logs, None);
+            put_place(text, logs, vat, at as usize);
+            text.line("note: not judged: ", why);
+            put_frame_of(text, logs, vat, at as usize);
+            put_others(text, logs, vat);
         }
         HeardAnswer::Link { arrival, rule } => {
-            put_received(alloc, text, logs, arrival);
-            put_line(text, "note: rule: ", rule);
-            put_counterpart(alloc, text, logs, arrival);
-            put_links(alloc, text, logs, Some(arrival.connection));
+            put_received(text, logs, arrival);
+            text.line("note: rule: ", rule);
+            put_counterpart(text, logs, arrival);
+            put_links(text, logs, Some(arrival.connection));
         }
-        HeardAnswer::NoOrder(rule) => put_line(text, "note: rule: ", rule),
+        HeardAnswer::NoOrder(rule) => text.line("note: rule: ", rule),
         _ => {}
     }
 }
@@ -118,79 +108,64 @@ fn findings_again(
     }
 }
 
-/// Appends the notes of a no or of an outside, beside what was found of logs and links, if anything was.
-fn put_beside<S: SearchingSource>(
-    alloc: Global,
-    text: &mut NoteText,
-    source: &S,
-    findings: Option<&Findings>,
-    told: HeardAnswer,
-) {
+/// Appends the notes of a no or of an outside, beside what was heard to be found of logs and links, or else is found again.
+fn put_found<S: SearchingSource>(text: &mut NoteText, heard: &Heard, source: &S) {
     let files = source.kept();
-    put_told(alloc, text, &Logs { files, findings }, told);
-}
-
-/// The same beside what was heard to be found, or else is found again.
-fn put_found<S: SearchingSource>(alloc: Global, text: &mut NoteText, heard: &Heard, source: &S) {
-    if heard.is_of_case && heard.told.is_of_finding() {
-        if let Some(again) = found(text, findings_again(alloc, source.kept())) {
-            return put_beside(alloc, text, source, Some(&again), heard.told);
-        }
-    }
-    put_beside(alloc, text, source, heard.findings.as_ref(), heard.told);
+    let again = if heard.is_of_case && heard.told.is_of_finding() {
+        text.found(findings_again(text.alloc(), files))
+    } else {
+        None
+    };
+    let findings = again.as_ref().or(heard.findings.as_ref());
+    put_told(text, &Logs { files, findings }, heard.told);
 }
 
 /// Appends the notes beside an answer that isn't good and no fault, a line each.
-fn put_bad<S: SearchingSource>(alloc: Global, text: &mut NoteText, heard: &Heard, source: &S) {
+fn put_bad<S: SearchingSource>(text: &mut NoteText, heard: &Heard, source: &S) {
     match (heard.told, &heard.wire, heard.join) {
-        (HeardAnswer::Wire, Some(answer), _) => put_wire(alloc, text, source.kept(), answer),
+        (HeardAnswer::Wire, Some(answer), _) => put_wire(text, source.kept(), answer),
         (HeardAnswer::Join, _, Some(note)) => put_join(text, source.kept(), note),
         (HeardAnswer::Cut { fault, end }, _, _) => put_left_out(text, source, fault, end),
-        _ => put_found(alloc, text, heard, source),
+        _ => put_found(text, heard, source),
     }
 }
 
 /// The same, with what the record of a log that isn't kept tells.
-fn put_no<S: SearchingSource>(alloc: Global, text: &mut NoteText, heard: &Heard, source: &S) {
-    let far = found(text, far_record(alloc, source, heard.told));
+fn put_no<S: SearchingSource>(text: &mut NoteText, heard: &Heard, source: &S) {
+    let far = text.found(far_record(text.alloc(), source, heard.told));
     if let Some(far) = &far {
-        far.put(alloc, text);
+        far.put(text);
     }
-    put_bad(alloc, text, heard, source);
+    put_bad(text, heard, source);
     if let Some(far) = &far {
-        far.put_cause(alloc, text, source, heard.told);
+        far.put_cause(text, source, heard.told);
     }
 }
 
 /// Appends the notes beside an answer, and gives what is open, where it is good and that is asked for.
 fn put_answer<S: SearchingSource>(
-    alloc: Global,
     text: &mut NoteText,
     heard: &Heard,
     source: &S,
     hex: Option<&str>,
     form: Form,
-) -> Option<Value> {
+) -> Option<String> {
     if let HeardAnswer::Fault(fault) = heard.told {
-        put_fault(alloc, text, source, hex, fault);
+        put_fault(text, source, hex, fault);
         return None;
     }
     put_limit(text, heard.limit);
     match heard.told {
-        HeardAnswer::GoodLog => put_last_log(alloc, text, source.kept(), form),
-        HeardAnswer::Yes => put_yes(alloc, text, heard, source.kept(), form),
+        HeardAnswer::GoodLog => put_last_log(text, source.kept(), form),
+        HeardAnswer::Yes => put_yes(text, heard, source.kept(), form),
         _ => {
-            put_no(alloc, text, heard, source);
+            put_no(text, heard, source);
             None
         }
     }
 }
 
 /// What people are told beside an answer. `hex` is the frame of the command line, where it has one.
-///
-/// # Errors
-///
-/// Out of memory.
 pub fn notes_of<S: SearchingSource>(
     alloc: Global,
     heard: &Heard,
@@ -200,13 +175,10 @@ pub fn notes_of<S: SearchingSource>(
 ) -> Result<Notes, AllocError> {
     let mut text = NoteText::new(alloc);
     for name in source.left_out() {
-        text.file(
-            "note: ",
-            name.as_str(),
-            " is longer than notes look back over\n",
-        );
+        let words = " is longer than notes look back over\n";
+        text.file("note: ", name.as_str(), words);
     }
-    let left_open = put_answer(alloc, &mut text, heard, source, hex, form);
+    let left_open = put_answer(&mut text, heard, source, hex, form);
     let text = text.finish()?;
     Ok(Notes { text, left_open })
 }

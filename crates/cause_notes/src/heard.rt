@@ -101,11 +101,7 @@ fn of_report(report: &Report) -> HeardAnswer {
             end,
             message,
         } => {
-            let arrival = Arrival {
-                connection,
-                end,
-                message,
-            };
+            let arrival = Arrival::new(connection, end, message);
             HeardAnswer::Link { arrival, rule }
         }
         Report::OrderStep(_) | Report::NoOrder => HeardAnswer::NoOrder(rule),
@@ -128,13 +124,11 @@ fn of_finding(finding: &SlimFinding) -> HeardAnswer {
 
 /// What is heard of what is whole of a log.
 fn of_salvaged(found: &Salvaged) -> HeardAnswer {
-    match found.fault {
-        Some(fault) => HeardAnswer::Cut {
-            fault,
-            end: found.log.bytes().len(),
-        },
-        None => HeardAnswer::Nothing,
-    }
+    let end = found.log.bytes().len();
+    found.fault.map_or(
+        HeardAnswer::Nothing,
+        |fault| HeardAnswer::Cut { fault, end },
+    )
 }
 
 /// Both logs once more. None where one has too many owners to count.

@@ -15,35 +15,31 @@ pub enum JoinNote {
     Ambiguous(LogEnd),
 }
 
-/// Appends a connection and the name of the file that has its log.
-fn put_end(text: &mut NoteText, files: &[(String, Bytes)], end: LogEnd) {
-    text.tell("connection #", &[u64::from(end.connection)]);
+/// Appends words that end with a connection, and the name of the file that has its log.
+fn put_end(text: &mut NoteText, words: &str, files: &[(String, Bytes)], end: LogEnd) {
+    text.tell(words, &[u64::from(end.connection)]);
     if let Some((name, _)) = files.get(end.log) {
-        text.words(" of ");
-        text.name(name.as_str());
+        text.file(" of ", name.as_str(), "");
     }
 }
 
 /// The notes of what was found of ends.
 pub(crate) fn put_join(text: &mut NoteText, files: &[(String, Bytes)], note: JoinNote) {
-    text.words("note: ");
     match note {
         JoinNote::Alike(first, second) => {
-            put_end(text, files, first);
-            text.words(" and ");
-            put_end(text, files, second);
-            text.words(
-                " are alike in both directions: such are paired in the order in which the logs are listed\n",
-            );
+            put_end(text, "note: connection #", files, first);
+            put_end(text, " and connection #", files, second);
+            text.words(" are alike in both directions: such are paired in the order in which ");
+            text.words("the logs are listed\n");
         }
         JoinNote::Unmatched(end) => {
-            text.words("no other log's connection fits, or is left for, ");
-            put_end(text, files, end);
+            let words = "note: no other log's connection fits, or is left for, connection #";
+            put_end(text, words, files, end);
             text.words(": each end must have received the first frames that the other sent\n");
         }
         JoinNote::Ambiguous(end) => {
-            text.words("connections that differ fit ");
-            put_end(text, files, end);
+            let words = "note: connections that differ fit connection #";
+            put_end(text, words, files, end);
             text.words(": it received too little to tell which is the other end\n");
         }
     }

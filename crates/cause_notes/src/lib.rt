@@ -5,16 +5,16 @@
 //! stands on `record_notes`, which finds what led to a broken rule and what is open at the end, and on `past_records`, into whose
 //! text all notes are put. Of its own it has `cases`, frames that differ, calls that overtake, what was found of the other logs;
 //! `inputs`, which file is bad or can't be read, and why; `wires`, connections that were judged by their bytes; `long_logs`,
-//! records of logs that are too long to be kept; `joins`, logs whose connections were joined; `row_limit`, rows of a picture;
-//! `write_notes`, writes that fail; and `found`, what is sought where memory may be refused.
+//! records of logs that are too long to be kept; `joins`, logs whose connections were joined; `row_limit`, rows of a picture; and
+//! `write_notes`, writes that fail.
 //!
 //! A note says what was found in the records, and nothing else: where a search finds nothing the note is left out. A note costs
 //! one walk over the log that it tells of. What is open at the end of a case is told by its logs, which are read once more for it.
+//! An `AllocError` says that memory was refused.
 #![tactic(auto)]
 
 mod answer_notes;
 mod cases;
-mod found;
 mod good_answers;
 mod heard;
 mod inputs;

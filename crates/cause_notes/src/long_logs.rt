@@ -1,7 +1,6 @@
 //! Notes of a record of a log that is longer than notes look back over. The log is gone through again, and none of its records is
 //! kept but that one: so they tell what the tables know.
 
-use crate::found::{found, made};
 use crate::heard::HeardAnswer;
 use crate::inputs::unread::SearchingSource;
 use byte_pieces::Pieces;
@@ -80,10 +79,6 @@ fn record_in<'a, S: SearchingSource>(
 }
 
 /// The record of which this tells, where its log isn't kept and can be read once more.
-///
-/// # Errors
-///
-/// Out of memory.
 pub(crate) fn far_record<S: SearchingSource>(
     alloc: Global,
     source: &S,
@@ -93,11 +88,8 @@ pub(crate) fn far_record<S: SearchingSource>(
         HeardAnswer::Broken { vat, at, .. } | HeardAnswer::Outside { vat, at, .. } => (vat, at),
         _ => return Ok(None),
     };
-    if source
-        .kept()
-        .iter()
-        .any(|(_, bytes)| vat_of(bytes) == Some(vat))
-    {
+    let mut kept = source.kept().iter();
+    if kept.any(|(_, bytes)| vat_of(bytes) == Some(vat)) {
         return Ok(None);
     }
     for name in source.left_out() {
@@ -138,11 +130,8 @@ fn replayed<S: SearchingSource>(
         return Ok(None);
     };
     let mut replay = Replay::watching(alloc, event)?;
-    if take_all(alloc, &mut stream, far, &mut replay)? {
-        Ok(Some(replay))
-    } else {
-        Ok(None)
-    }
+    let is_taken = take_all(alloc, &mut stream, far, &mut replay)?;
+    Ok(if is_taken { Some(replay) } else { None })
 }
 
 /// A log of this vat that has no record and is judged by this edition.
@@ -156,32 +145,24 @@ fn no_records(alloc: Global, vat: u32, edition: Edition) -> Result<VatLog, Alloc
 
 impl FarRecord<'_> {
     /// Appends the note of the record.
-    pub(crate) fn put(&self, alloc: Global, text: &mut NoteText) {
-        put_stored(alloc, text, self.name, self.at, &self.stored, self.edition);
+    pub(crate) fn put(&self, text: &mut NoteText) {
+        put_stored(text, self.name, self.at, &self.stored, self.edition);
     }
 
     /// Appends the notes of what led to it, where it breaks a rule of its log, as far as the tables know it.
     pub(crate) fn put_cause<S: SearchingSource>(
         &self,
-        alloc: Global,
         text: &mut NoteText,
         source: &S,
         told: HeardAnswer,
     ) {
-        let HeardAnswer::Broken {
-            breach: Breach::Rule(rule),
-            ..
-        } = told
-        else {
-            return;
-        };
-        let Some(event) = found(text, decoded_as(alloc, &self.stored, self.edition)) else {
-            return;
-        };
-        let Some(replay) = found(text, replayed(alloc, source, self, &event)) else {
-            return;
-        };
-        if let Some(log) = made(text, no_records(alloc, self.vat, self.edition)) {
+        let alloc = text.alloc();
+        if let HeardAnswer::Broken { breach, .. } = told
+            && let Breach::Rule(rule) = breach
+            && let Some(event) = text.found(decoded_as(alloc, &self.stored, self.edition))
+            && let Some(replay) = text.found(replayed(alloc, source, self, &event))
+            && let Some(log) = text.granted(no_records(alloc, self.vat, self.edition))
+        {
             put_past_cause(&replay.before(alloc, &log, event), text, rule);
         }
     }

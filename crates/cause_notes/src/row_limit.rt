@@ -14,9 +14,7 @@ pub struct RowLimit {
 /// The note of it, if there is one.
 pub(crate) fn put_limit(text: &mut NoteText, limit: Option<RowLimit>) {
     if let Some(RowLimit { asked, most }) = limit {
-        text.tell(
-            "note: --count # asks for more rows than are drawn at most: #\n",
-            &[asked, most],
-        );
+        let sentence = "--count # asks for more rows than are drawn at most: #";
+        text.note(sentence, &[asked, most]);
     }
 }

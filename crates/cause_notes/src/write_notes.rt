@@ -3,15 +3,10 @@
 use past_records::NoteText;
 use std::alloc::{AllocError, Global};
 use std::fmt::Write;
-use std::io;
-use std::io::ErrorKind;
+use std::io::{self, ErrorKind};
 
 /// The note of a write that failed, with the system's reason and the name of the file, where it went to one. There is none
 /// where the reader has gone: whoever closes a pipe has read enough.
-///
-/// # Errors
-///
-/// Out of memory.
 pub fn write_note(
     alloc: Global,
     name: Option<&str>,
@@ -19,14 +14,11 @@ pub fn write_note(
 ) -> Result<String, AllocError> {
     let mut text = NoteText::new(alloc);
     if error.kind() != ErrorKind::BrokenPipe {
-        text.words("note: cannot write ");
         match name {
-            Some(name) => text.name(name),
-            None => text.words("to standard output"),
+            Some(name) => text.file("note: cannot write ", name, ""),
+            None => text.words("note: cannot write to standard output"),
         }
-        text.words(": ");
-        text.shown(error);
-        text.words("\n");
+        text.tell_of(": @\n", error, &[]);
     }
     text.finish()
 }

@@ -8,9 +8,7 @@ use named_text::NamedText;
 use report_lines::{DotEdge, ShownEdge, ShownLine};
 use schema_names::SchemaNames;
 use std::alloc::{AllocError, Global};
-use std::fmt::Display;
-use std::io;
-use std::io::Write;
+use std::io::{self, Write};
 
 /// Why a line isn't written.
 #[derive(Drop)]
@@ -135,11 +133,7 @@ impl<'a, W: Write> JsonLines<'a, W> {
     }
 
     /// Writes the last object with these members, which are JSON; or one of their own where there is no last one.
-    fn write_last<N: Display, O: Display>(
-        &mut self,
-        notes: &Option<N>,
-        left_open: &Option<O>,
-    ) -> io::Result<()> {
+    fn write_last(&mut self, notes: &Option<String>, left_open: &Option<String>) -> io::Result<()> {
         let held = self.held.take();
         let (before, between, behind) = match &held {
             Some(object) => object.parts(),
@@ -165,7 +159,7 @@ impl<'a, W: Write> JsonLines<'a, W> {
     /// # Errors
     ///
     /// That of a write.
-    pub fn end<O: Display + Drop>(&mut self, notes: &str, left_open: Option<O>) -> io::Result<()> {
+    pub fn end(&mut self, notes: &str, left_open: Option<String>) -> io::Result<()> {
         let notes = if notes.is_empty() {
             None
         } else {

@@ -28,7 +28,7 @@ pub struct JsonText<'a> {
 
 impl<'a> JsonText<'a> {
     /// An empty text. Interfaces and methods have names in it where some are given.
-    pub(crate) fn new(alloc: Global, names: Option<&'a SchemaNames>) -> JsonText<'a> {
+    pub fn new(alloc: Global, names: Option<&'a SchemaNames>) -> JsonText<'a> {
         JsonText {
             alloc,
             names,
@@ -44,14 +44,13 @@ impl<'a> JsonText<'a> {
     /// Itself, if no memory was refused.
     pub(crate) fn finish(self) -> Result<JsonText<'a>, AllocError> {
         if self.is_refused {
-            Err(AllocError)
-        } else {
-            Ok(self)
+            return Err(AllocError);
         }
+        Ok(self)
     }
 
     /// The text, if no memory was refused.
-    pub(crate) fn into_text(self) -> Result<String, AllocError> {
+    pub fn into_text(self) -> Result<String, AllocError> {
         Ok(self.finish()?.text)
     }
 
@@ -78,7 +77,7 @@ impl<'a> JsonText<'a> {
     }
 
     /// Remembers that memory was refused.
-    pub(crate) fn refuse(&mut self) {
+    pub fn refuse(&mut self) {
         self.is_refused = true;
     }
 
@@ -94,7 +93,7 @@ impl<'a> JsonText<'a> {
     }
 
     /// Begins an object or a list, by this bracket.
-    pub(crate) fn begin(&mut self, bracket: &str) {
+    pub fn begin(&mut self, bracket: &str) {
         self.begin_value();
         self.put(bracket);
         self.separator = "";
@@ -102,7 +101,7 @@ impl<'a> JsonText<'a> {
     }
 
     /// Ends one.
-    pub(crate) fn end(&mut self, bracket: &str) {
+    pub fn end(&mut self, bracket: &str) {
         self.put(bracket);
         self.separator = ",";
         self.depth = self.depth.saturating_sub(1);
@@ -144,19 +143,19 @@ impl<'a> JsonText<'a> {
     }
 
     /// Writes a member that is a number, or says whether something is so.
-    pub(crate) fn member<D: Display + Copy>(&mut self, name: &str, value: D) {
+    pub fn member<D: Display + Copy>(&mut self, name: &str, value: D) {
         self.key(name);
         self.value(&value);
     }
 
     /// Begins a member that is an object or a list, by this bracket.
-    pub(crate) fn begin_member(&mut self, name: &str, bracket: &str) {
+    pub fn begin_member(&mut self, name: &str, bracket: &str) {
         self.key(name);
         self.begin(bracket);
     }
 
     /// Writes a member that is a text.
-    pub(crate) fn text_member(&mut self, name: &str, text: &str) {
+    pub fn text_member(&mut self, name: &str, text: &str) {
         self.key(name);
         self.text(text);
     }
@@ -196,9 +195,8 @@ impl<'a> JsonText<'a> {
     /// Writes a method of an interface: its number, and its name where it has one.
     pub(crate) fn method_members(&mut self, interface: u64, method: u16) {
         self.member("method", method);
-        if let Some(Some(name)) = self
-            .called(interface, method)
-            .map(|called| called.method_name())
+        if let Some(called) = self.called(interface, method)
+            && let Some(name) = called.method_name()
         {
             self.text_member("method_name", name);
         }

@@ -18,4 +18,5 @@ mod schema_object;
 mod wire_object;
 
 pub use json_lines::{JsonFault, JsonLines, OUT_OF_MEMORY};
+pub use json_text::JsonText;
 pub use schema_object::bad_schema_object;

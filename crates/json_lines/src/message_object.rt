@@ -4,7 +4,7 @@ use crate::json_text::JsonText;
 use cap_frame::Path;
 use report_lines::loopback_text;
 use rpc_view::{
-    CallHead, Descriptor, Loopback, Outcome, Payload, Resolution, ReturnHead, RpcMessage, Target,
+    CallHead, Descriptor, Outcome, Payload, Resolution, ReturnHead, RpcMessage, Target,
 };
 
 /// Writes a kind and the number that is alone beside it.
@@ -110,10 +110,8 @@ fn put_call(json: &mut JsonText<'_>, head: CallHead, params: &Payload) {
     json.method_members(head.interface, head.method);
     put_payload(json, "params", params);
     json.member("question", head.question);
-    json.text_member(
-        "send_results_to",
-        if head.yourself { "yourself" } else { "caller" },
-    );
+    let results_to = if head.yourself { "yourself" } else { "caller" };
+    json.text_member("send_results_to", results_to);
 }
 
 /// Writes a Return.
@@ -123,14 +121,6 @@ fn put_return(json: &mut JsonText<'_>, head: ReturnHead, outcome: &Outcome) {
     json.member("no_finish_needed", head.light);
     put_outcome(json, outcome);
     json.member("release_param_caps", head.release_param_caps);
-}
-
-/// Writes a Disembargo.
-fn put_disembargo(json: &mut JsonText<'_>, id: u32, loopback: Loopback, target: &Target) {
-    json.text_member("context", loopback_text(loopback));
-    json.member("id", id);
-    json.text_member("kind", "disembargo");
-    put_target(json, target);
 }
 
 /// Writes the members of a message.
@@ -149,6 +139,13 @@ pub(crate) fn put_message(json: &mut JsonText<'_>, message: &RpcMessage) {
             put_target(json, target);
         }
         RpcMessage::Return { head, outcome } => put_return(json, *head, outcome),
+        _ => put_later_message(json, message),
+    }
+}
+
+/// Writes the members of a message that tells of what other messages opened.
+fn put_later_message(json: &mut JsonText<'_>, message: &RpcMessage) {
+    match message {
         RpcMessage::Finish {
             question,
             release_result_caps,
@@ -174,7 +171,13 @@ pub(crate) fn put_message(json: &mut JsonText<'_>, message: &RpcMessage) {
             number,
             loopback,
             target,
-        } => put_disembargo(json, *number, *loopback, target),
+        } => {
+            json.text_member("context", loopback_text(*loopback));
+            json.member("id", *number);
+            json.text_member("kind", "disembargo");
+            put_target(json, target);
+        }
         RpcMessage::Abort => json.text_member("kind", "abort"),
+        _ => {}
     }
 }

@@ -6,10 +6,6 @@ use std::alloc::{AllocError, Global};
 
 /// The text of the object that says that a file is no schema. It has the notes, each a line behind the word `note`, where
 /// there are any.
-///
-/// # Errors
-///
-/// Out of memory.
 pub fn bad_schema_object(alloc: Global, file: &str, notes: &str) -> Result<String, AllocError> {
     let mut json = JsonText::new(alloc, None);
     json.begin("{");

@@ -1,8 +1,7 @@
 //! What is called, with its names.
 
 use schema_names::{SchemaInterface, SchemaNames};
-use std::fmt;
-use std::fmt::{Display, Formatter};
+use std::fmt::{self, Display, Formatter};
 
 /// What names stand in.
 #[derive(Clone, Copy, PartialEq, Eq)]

@@ -2,8 +2,7 @@
 
 use crate::called::{Called, Form};
 use schema_names::SchemaNames;
-use std::fmt;
-use std::fmt::{Display, Formatter};
+use std::fmt::{self, Display, Formatter};
 
 /// The word before an interface's number.
 const INTERFACE: &str = "interface ";

@@ -9,13 +9,13 @@
 //! records are printed. Of a log that isn't kept a [`Replay`] makes the past of a record: what the tables know, and no record.
 //!
 //! All notes go into a [`NoteText`], which remembers that memory was refused, so that nobody else has to: whoever puts a note
-//! there answers nothing, and at the end it is asked once whether it took all.
+//! there answers nothing, and at the end it is asked once whether it took all. Elsewhere an `AllocError` says that memory was
+//! refused.
 #![tactic(auto)]
 
 mod life_notes;
 mod note_text;
 mod number_lives;
-mod number_text;
 mod openings;
 mod question_notes;
 mod read_again;
@@ -24,10 +24,11 @@ mod replay;
 
 pub use life_notes::{put_gone, put_life, put_miscounted};
 pub use note_text::NoteText;
-pub use number_lives::{Lives, NumberLife};
-pub use number_text::NumberText;
+pub use number_lives::{Lives, NumberLife, NumberText};
 pub use openings::{QuestionOpening, opening_of};
 pub use question_notes::{put_misused, put_opening, put_reopened};
-pub use read_again::{decoded, decoded_as, message_at, message_of, put_reason, put_reason_of};
+pub use read_again::{
+    ReadFrame, decoded, decoded_as, message_at, message_of, put_reason, put_reason_of,
+};
 pub use records_before::Past;
 pub use replay::Replay;

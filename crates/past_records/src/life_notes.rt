@@ -43,41 +43,33 @@ fn gone(past: &Past<'_>, key: TableKey) -> Option<NumberLife> {
     past.lives.of(key).filter(|life| life.held == 0)
 }
 
-/// The life of the first number that a capability of the record uses and that isn't held.
-fn gone_described(past: &Past<'_>) -> Option<NumberLife> {
-    let mut used = past.event.descriptors().iter();
-    used.find_map(|descriptor| gone(past, past.event.number_described(descriptor)?))
-}
-
-/// Notes the life of the number that the record uses and that isn't held.
+/// Notes the life of the first number that the record uses, by itself or by a capability, and that isn't held.
 pub fn put_gone(past: &Past<'_>, text: &mut NoteText) {
-    let named = number_named(&past.event).and_then(|key| gone(past, key));
-    if let Some(life) = named.or_else(|| gone_described(past)) {
+    let described = past.event.descriptors().iter();
+    let described = described.filter_map(|one| past.event.number_described(one));
+    let mut used = number_named(&past.event).into_iter().chain(described);
+    if let Some(life) = used.find_map(|key| gone(past, key)) {
         put_life(past, text, life);
     }
 }
 
 /// Notes how often a number is held of which more is given back, and what was done to it before.
 fn put_counted(past: &Past<'_>, text: &mut NoteText, life: NumberLife, given: u64) {
-    text.note_of(
-        "it gives back # of @, and # of it is held",
-        &life,
-        &[given, life.held],
-    );
+    let counts = [given, life.held];
+    text.note_of("it gives back # of @, and # of it is held", &life, &counts);
     put_life(past, text, life);
-    if let Some(at) = life.lowered {
-        if life.ended != Some(at) {
-            put_back(past, text, "a part of it was @ record #", at);
-        }
+    if let Some(at) = life.lowered
+        && life.ended != Some(at)
+    {
+        put_back(past, text, "a part of it was @ record #", at);
     }
 }
 
 /// How often a record's descriptors introduce a number of its connection.
 fn introduced(event: &DecodedRecord, key: TableKey) -> u64 {
-    let descriptors = event.descriptors().iter();
-    descriptors
-        .filter(|descriptor| event.number_introduced(descriptor) == Some(key))
-        .count() as u64
+    let those = event.descriptors().iter();
+    let those = those.filter(|one| event.number_introduced(one) == Some(key));
+    those.count() as u64
 }
 
 /// Notes the first number of which the record gives back more than is held, of those that a record before introduced.
@@ -117,10 +109,10 @@ fn watching_introduced<'a>(past: &Past<'a>, source: usize) -> Result<Option<Past
 /// Notes of the numbers that a Return or a Finish gives back: the log is walked once more, since these numbers stand in
 /// another record.
 fn put_given_back(past: &Past<'_>, text: &mut NoteText) {
-    if let Some(source) = source_of(past) {
-        if let Some(Some(again)) = text.granted(watching_introduced(past, source)) {
-            put_overdrawn(&again, text, source);
-        }
+    if let Some(source) = source_of(past)
+        && let Some(again) = text.found(watching_introduced(past, source))
+    {
+        put_overdrawn(&again, text, source);
     }
 }
 

@@ -6,6 +6,7 @@ use std::fmt::{Display, Write};
 /// The text of notes. Once memory was refused it takes nothing more, and [`NoteText::finish`] says so.
 #[derive(Drop)]
 pub struct NoteText {
+    alloc: Global,
     text: String,
     is_refused: bool,
 }
@@ -14,9 +15,15 @@ impl NoteText {
     /// No text.
     pub fn new(alloc: Global) -> NoteText {
         NoteText {
+            alloc,
             text: String::new(alloc),
             is_refused: false,
         }
+    }
+
+    /// Where memory for what is to be noted comes from.
+    pub fn alloc(&self) -> Global {
+        self.alloc
     }
 
     /// Memory was refused to whoever looked for what is to be noted.
@@ -30,6 +37,11 @@ impl NoteText {
             self.refuse();
         }
         found.ok()
+    }
+
+    /// What was found, if anything was, and unless memory was refused for it.
+    pub fn found<T>(&mut self, found: Result<Option<T>, AllocError>) -> Option<T> {
+        self.granted(found)?
     }
 
     /// Appends words.
@@ -46,17 +58,19 @@ impl NoteText {
         }
     }
 
-    /// Appends the name of a file, as it is printed.
-    pub fn name(&mut self, name: &str) {
+    /// Appends the name of a file between words, as it is printed.
+    pub fn file(&mut self, before: &str, name: &str, behind: &str) {
         let name = name.escape_debug();
+        self.words(before);
         self.shown(&name);
+        self.words(behind);
     }
 
-    /// Appends the name of a file between words.
-    pub fn file(&mut self, before: &str, name: &str, behind: &str) {
-        self.words(before);
-        self.name(name);
-        self.words(behind);
+    /// Appends a line: these words, and a sentence.
+    pub fn line(&mut self, words: &str, sentence: &str) {
+        self.words(words);
+        self.words(sentence);
+        self.words("\n");
     }
 
     /// Appends words with what is shown in the place of a `@`.
@@ -95,9 +109,7 @@ impl NoteText {
 
     /// Appends a note.
     pub fn say(&mut self, sentence: &str) {
-        self.words("note: ");
-        self.words(sentence);
-        self.words("\n");
+        self.line("note: ", sentence);
     }
 
     /// Appends a note, whose sentence is told so.
@@ -105,16 +117,11 @@ impl NoteText {
         self.note_of(sentence, &"", numbers);
     }
 
-    /// The text.
-    ///
-    /// # Errors
-    ///
-    /// Out of memory, where it was refused before.
+    /// The text, unless memory was refused before.
     pub fn finish(self) -> Result<String, AllocError> {
-        let NoteText { text, is_refused } = self;
-        if is_refused {
+        if self.is_refused {
             return Err(AllocError);
         }
-        Ok(text)
+        Ok(self.text)
     }
 }

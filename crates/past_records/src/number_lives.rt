@@ -2,6 +2,7 @@
 
 use rpc_view::Descriptor;
 use std::alloc::{AllocError, Global};
+use std::fmt::{self, Display, Formatter};
 use vat_view::{DecodedRecord, Number, TableKey, VatState};
 
 /// How many numbers of a record are watched, at most.
@@ -30,9 +31,8 @@ pub struct Lives {
 
 /// The number that one of a record's descriptors uses or introduces, where it is an export or an import.
 pub(crate) fn number_described(event: &DecodedRecord, descriptor: &Descriptor) -> Option<TableKey> {
-    event
-        .number_introduced(descriptor)
-        .or(event.number_described(descriptor))
+    let introduced = event.number_introduced(descriptor);
+    introduced.or(event.number_described(descriptor))
 }
 
 /// The number that a record names beside its capability table.
@@ -61,9 +61,8 @@ impl NumberLife {
 impl Lives {
     /// No number.
     pub(crate) fn none(alloc: Global) -> Lives {
-        Lives {
-            items: Vec::new(alloc),
-        }
+        let items = Vec::new(alloc);
+        Lives { items }
     }
 
     /// Watches this number too, unless there are too many.
@@ -82,10 +81,9 @@ impl Lives {
 
     /// Watches the numbers of a record's descriptors too.
     pub(crate) fn add_described(&mut self, event: &DecodedRecord) -> Result<(), AllocError> {
-        for descriptor in event.descriptors() {
-            if let Some(key) = number_described(event, descriptor) {
-                self.add(key)?;
-            }
+        let described = event.descriptors().iter();
+        for key in described.filter_map(|one| number_described(event, one)) {
+            self.add(key)?;
         }
         Ok(())
     }
@@ -103,17 +101,13 @@ impl Lives {
     /// Sees what the record of this number, which was applied last, did to each.
     fn see(&mut self, state: &VatState, at: usize) {
         for life in &mut self.items {
-            let TableKey {
-                connection,
-                ours,
-                number,
-            } = life.key;
-            let number = if ours {
-                Number::Export(number)
+            let key = life.key;
+            let number = if key.ours {
+                Number::Export(key.number)
             } else {
-                Number::Import(number)
+                Number::Import(key.number)
             };
-            life.see(state.held(connection, number), at);
+            life.see(state.held(key.connection, number), at);
         }
     }
 
@@ -140,5 +134,23 @@ impl Lives {
     /// What was seen of a number.
     pub fn of(&self, key: TableKey) -> Option<NumberLife> {
         self.items.iter().find(|life| life.key == key).copied()
+    }
+}
+
+/// A number and its connection, behind the word for its kind.
+#[derive(Clone, Copy)]
+pub struct NumberText(pub TableKey);
+
+impl Display for NumberText {
+    fn fmt<W: fmt::Write>(&self, f: &mut Formatter<W>) -> fmt::Result {
+        let key = self.0;
+        write!(f, "{} of connection {}", key.number, key.connection)
+    }
+}
+
+impl Display for NumberLife {
+    fn fmt<W: fmt::Write>(&self, f: &mut Formatter<W>) -> fmt::Result {
+        let kind = if self.key.ours { "export" } else { "import" };
+        write!(f, "{kind} {}", NumberText(self.key))
     }
 }

@@ -1,7 +1,7 @@
 //! Questions that are opened while they aren't free, and that are used where they can't be.
 
 use crate::note_text::NoteText;
-use crate::number_text::NumberText;
+use crate::number_lives::NumberText;
 use crate::openings::{QuestionOpening, opening_of};
 use crate::records_before::Past;
 use vat_view::TableKey;
@@ -83,22 +83,11 @@ fn put_since(text: &mut NoteText, use_of: Use, opening: QuestionOpening) {
 }
 
 /// Notes what passed of a question before it is used so, where it has no room for that; and says whether it hasn't.
-fn put_if_misused(
-    past: &Past<'_>,
-    text: &mut NoteText,
-    key: Option<TableKey>,
-    use_of: Use,
-) -> bool {
-    let Some(key) = key else {
-        return false;
-    };
+fn put_if_misused(past: &Past<'_>, text: &mut NoteText, key: TableKey, use_of: Use) -> bool {
     let Some(opening) = opening_of(past, key) else {
         if past.is_whole() {
-            text.note_of(
-                "no record before it opens question @",
-                &NumberText(key),
-                &[],
-            );
+            let question = NumberText(key);
+            text.note_of("no record before it opens question @", &question, &[]);
         }
         return past.is_whole();
     };
@@ -110,24 +99,22 @@ fn put_if_misused(
     is_misused
 }
 
-/// The same of the first question that a capability of the record names and may not.
-fn put_misdescribed(past: &Past<'_>, text: &mut NoteText) {
-    for descriptor in past.event.descriptors().iter().take(MOST) {
-        let question = past.event.question_described(descriptor);
-        if put_if_misused(past, text, question, Use::Names) {
-            return;
-        }
-    }
-}
-
-/// Notes what passed of the question that the record uses where it can't be.
+/// Notes what passed of the first question that the record uses where it can't be: by itself, or by a capability.
 pub fn put_misused(past: &Past<'_>, text: &mut NoteText) {
     let event = &past.event;
-    let is_misused = put_if_misused(past, text, event.question_returned(), Use::Returns)
-        || put_if_misused(past, text, event.question_finished(), Use::Names)
-        || put_if_misused(past, text, event.question_targeted(), Use::Names)
-        || put_if_misused(past, text, event.question_taken(), Use::Takes);
-    if !is_misused {
-        put_misdescribed(past, text);
+    let named = [
+        (event.question_returned(), Use::Returns),
+        (event.question_finished(), Use::Names),
+        (event.question_targeted(), Use::Names),
+        (event.question_taken(), Use::Takes),
+    ];
+    let described = event.descriptors().iter().take(MOST);
+    let described = described.map(|one| (event.question_described(one), Use::Names));
+    for (key, use_of) in named.into_iter().chain(described) {
+        if let Some(key) = key
+            && put_if_misused(past, text, key, use_of)
+        {
+            return;
+        }
     }
 }

@@ -8,16 +8,15 @@ use vat_log::{Record, VatLog};
 use vat_rules::edition_of;
 use vat_view::DecodedRecord;
 
-/// What the frame of a record says, or why it isn't read. None where it has no frame.
-///
-/// # Errors
-///
-/// Out of memory.
+/// What a frame says, or why it isn't read. None where there is no frame.
+pub type ReadFrame = Option<Result<RpcMessage, ViewError>>;
+
+/// What the frame of a record says.
 pub fn message_of(
     alloc: Global,
     stored: &Record,
     edition: Edition,
-) -> Result<Option<Result<RpcMessage, ViewError>>, AllocError> {
+) -> Result<ReadFrame, AllocError> {
     let Some(frame) = stored.body().frame() else {
         return Ok(None);
     };
@@ -28,16 +27,8 @@ pub fn message_of(
     }
 }
 
-/// What the frame says of the record of this number, or why it isn't read. None where it has no frame.
-///
-/// # Errors
-///
-/// Out of memory.
-pub fn message_at(
-    alloc: Global,
-    log: &VatLog,
-    at: usize,
-) -> Result<Option<Result<RpcMessage, ViewError>>, AllocError> {
+/// What the frame of the record of this number says.
+pub fn message_at(alloc: Global, log: &VatLog, at: usize) -> Result<ReadFrame, AllocError> {
     match log.get(at) {
         Some(stored) => message_of(alloc, stored, edition_of(log)),
         None => Ok(None),
@@ -45,10 +36,6 @@ pub fn message_at(
 }
 
 /// A record as it is judged. None where its frame isn't read.
-///
-/// # Errors
-///
-/// Out of memory.
 pub fn decoded_as(
     alloc: Global,
     stored: &Record,
@@ -62,10 +49,6 @@ pub fn decoded_as(
 }
 
 /// The record of this number as it is judged. None where its frame isn't read, or there is none.
-///
-/// # Errors
-///
-/// Out of memory.
 pub fn decoded(
     alloc: Global,
     log: &VatLog,
@@ -78,16 +61,16 @@ pub fn decoded(
 }
 
 /// Appends the reason that a record gives, behind these words; nothing where it gives none.
-pub fn put_reason_of(alloc: Global, text: &mut NoteText, stored: &Record, words: &str) {
-    if let Some(Some(reason)) = text.granted(record_reason(alloc, stored.body())) {
+pub fn put_reason_of(text: &mut NoteText, stored: &Record, words: &str) {
+    if let Some(reason) = text.found(record_reason(text.alloc(), stored.body())) {
         text.words(words);
         text.tell_of("\"@\"", &reason, &[]);
     }
 }
 
 /// Appends the reason that the record of this number gives, behind these words; nothing where it gives none.
-pub fn put_reason(alloc: Global, text: &mut NoteText, log: &VatLog, at: usize, words: &str) {
+pub fn put_reason(text: &mut NoteText, log: &VatLog, at: usize, words: &str) {
     if let Some(stored) = log.get(at) {
-        put_reason_of(alloc, text, stored, words);
+        put_reason_of(text, stored, words);
     }
 }

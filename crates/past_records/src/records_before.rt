@@ -58,8 +58,7 @@ impl<'a> Past<'a> {
             events: Vec::new(alloc),
             lives,
         };
-        let is_whole = past.walk()?;
-        Ok(if is_whole { Some(past) } else { None })
+        Ok(if past.walk()? { Some(past) } else { None })
     }
 
     /// Keeps this record, the next one, and says whether it can be applied.
@@ -87,12 +86,7 @@ impl<'a> Past<'a> {
         Ok(true)
     }
 
-    /// The record of this number and the log before it, with the numbers watched that it uses. None where a frame isn't
-    /// read.
-    ///
-    /// # Errors
-    ///
-    /// Out of memory.
+    /// The record of this number and the log before it, with the numbers watched that it uses. None where a frame isn't read.
     pub fn of(alloc: Global, log: &'a VatLog, at: usize) -> Result<Option<Past<'a>>, AllocError> {
         let Some(event) = decoded(alloc, log, at)? else {
             return Ok(None);
@@ -120,37 +114,24 @@ impl<'a> Past<'a> {
     pub fn find<F: Fn(&DecodedRecord) -> bool>(&self, from: usize, is_sought: F) -> Option<usize>
         requires { F.IsAlwaysCallable is_sought }
     {
-        for at in from..self.at {
-            if is_sought(self.get(at)?) {
-                return Some(at);
-            }
-        }
-        None
+        let events = self.events.as_slice().get(from..)?;
+        let behind = events.iter().position(|event| is_sought(event))?;
+        Some(from.saturating_add(behind))
     }
 
     /// The last record before it that is as sought.
     pub fn find_last<F: Fn(&DecodedRecord) -> bool>(&self, is_sought: F) -> Option<usize>
         requires { F.IsAlwaysCallable is_sought }
     {
-        let mut found = None;
-        for (at, event) in self.events.iter().enumerate() {
-            if is_sought(event) {
-                found = Some(at);
-            }
-        }
-        found
+        self.events.iter().rposition(|event| is_sought(event))
     }
 
     /// The first record behind it in the log whose body is as sought.
     pub fn find_behind<F: Fn(&Body) -> bool>(&self, is_sought: F) -> Option<usize>
         requires { F.IsAlwaysCallable is_sought }
     {
-        for at in self.at.saturating_add(1)..self.log.len() {
-            if is_sought(self.log.get(at)?.body()) {
-                return Some(at);
-            }
-        }
-        None
+        let mut behind = self.at.saturating_add(1)..self.log.len();
+        behind.find(|at| matches!(self.log.get(*at), Some(stored) if is_sought(stored.body())))
     }
 
     /// The life of the number that one of its descriptors names.

@@ -25,10 +25,6 @@ impl Drop for Replay {
 
 impl Replay {
     /// Before the first record. The numbers that this record uses or introduces are watched.
-    ///
-    /// # Errors
-    ///
-    /// Out of memory.
     pub fn watching(alloc: Global, event: &DecodedRecord) -> Result<Replay, AllocError> {
         Ok(Replay {
             state: VatState::new(alloc),
@@ -38,10 +34,6 @@ impl Replay {
     }
 
     /// Applies the next record, and says whether it can be; where it can't, nothing changes.
-    ///
-    /// # Errors
-    ///
-    /// Out of memory.
     pub fn take(&mut self, event: &DecodedRecord) -> Result<bool, AllocError> {
         let is_applied = self.lives.apply(&mut self.state, event, self.count)?;
         self.count = self.count.saturating_add(usize::from(is_applied));

@@ -143,23 +143,18 @@ fn reach_in(scene: &Scene<'_>, sent: bool, column: u32, row: Option<u16>) -> Rea
 fn reach_of(scene: &Scene<'_>, sent: bool, mate: Option<Place>) -> Reach
     ensures { result ≡ reach_of scene.now sent mate }
 {
-    match mate {
-        Some(mate) => {
-            let column = column_of(scene.case.logs(), mate.vat);
-            reach_in(scene, sent, column, row_of(scene.order, scene.window, mate))
-        }
-        None => Reach::Nowhere,
-    }
+    let Some(mate) = mate else {
+        return Reach::Nowhere;
+    };
+    let column = column_of(scene.case.logs(), mate.vat);
+    reach_in(scene, sent, column, row_of(scene.order, scene.window, mate))
 }
 
 /// Whether it is drawn from its other end: it is received here, and sent in another row.
 fn is_drawn_there(sent: bool, reach: Reach) -> bool
     ensures { result ≡ is_drawn_there sent reach }
 {
-    match (sent, reach) {
-        (false, Reach::At { .. }) => true,
-        _ => false,
-    }
+    matches!((sent, reach), (false, Reach::At { .. }))
 }
 
 /// Whether a message is a Return that is late at this end or at the other one.
@@ -173,14 +168,8 @@ fn late_by(
         (λ either. either ≡ is_late_at_an_end (map arc_value logs.now) late mate) }
 {
     match mate {
-        Some(mate) => {
-            if late {
-                Ok(true)
-            } else {
-                late_at(alloc, logs, mate)
-            }
-        }
-        None => Ok(late),
+        Some(mate) if !late => late_at(alloc, logs, mate),
+        _ => Ok(late),
     }
 }
 
@@ -205,14 +194,12 @@ fn arrow_to(row: &Row<'_>, sent: bool, late: bool, reach: Reach) -> Option<Arrow
 fn arrow_of(alloc: Global, scene: &Scene<'_>, row: &Row<'_>) -> Result<Option<Arrow>, AllocError>
     ensures { IfOk result (λ arrow. arrow ≡ arrow_of scene.now row.now) }
 {
-    match row.body.passage() {
-        Some((sent, _)) => {
-            let mate = mate_of(scene.case, row.place, row.body);
-            let late = late_by(alloc, scene.case.logs(), row.late, mate)?;
-            Ok(arrow_to(row, sent, late, reach_of(scene, sent, mate)))
-        }
-        None => Ok(None),
-    }
+    let Some((sent, _)) = row.body.passage() else {
+        return Ok(None);
+    };
+    let mate = mate_of(scene.case, row.place, row.body);
+    let late = late_by(alloc, scene.case.logs(), row.late, mate)?;
+    Ok(arrow_to(row, sent, late, reach_of(scene, sent, mate)))
 }
 
 /// These arrows, and one more where there is one.

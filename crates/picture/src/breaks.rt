@@ -44,11 +44,7 @@ fn room_of(sentence: Option<&str>) -> u8
 pub fn gap_of(sentence: Option<&str>, row: Option<u16>) -> Option<Gap>
     ensures { result ≡ gap_of (option_copied sentence.entry) row }
 {
-    match row {
-        Some(row) => Some(Gap {
-            row,
-            room: room_of(sentence),
-        }),
-        None => None,
-    }
+    let row = row?;
+    let room = room_of(sentence);
+    Some(Gap { row, room })
 }

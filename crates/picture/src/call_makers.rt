@@ -22,10 +22,7 @@ pub struct Maker {
 fn is_own(steps: &[Step], at: usize, vat: u32) -> bool
     ensures { result ≡ passes_in (λ step. vat_of step == vat) (slice_get steps.now at) }
 {
-    match steps.get(at) {
-        Some(step) => vat_of(step) == vat,
-        None => false,
-    }
+    matches!(steps.get(at), Some(step) if vat_of(step) == vat)
 }
 
 /// The step of a run, of all records, that is this record.
@@ -48,9 +45,7 @@ fn step_at(steps: &[Step], place: Place) -> Option<usize>
 fn call_at(steps: &[Step], place: Place) -> Option<Name>
     ensures { result ≡ call_at_place steps.now place }
 {
-    let at = step_at(steps, place)?;
-    let step = steps.get(at)?;
-    call_of_step(step)
+    call_of_step(steps.get(step_at(steps, place)?)?)
 }
 
 /// Who made a call, and through which reference, where this step makes it.
@@ -63,16 +58,10 @@ fn maker_by(call: Name, step: &Step) -> Option<Maker>
             number,
             reference,
             ..
-        } => {
-            if *vat == call.maker && *number == call.number {
-                Some(Maker {
-                    vat: *vat,
-                    reference: *reference,
-                })
-            } else {
-                None
-            }
-        }
+        } if *vat == call.maker && *number == call.number => Some(Maker {
+            vat: *vat,
+            reference: *reference,
+        }),
         _ => None,
     }
 }
@@ -93,8 +82,7 @@ fn maker_of(steps: &[Step], call: Name) -> Option<Maker>
 pub fn maker_at(steps: &[Step], place: Place) -> Option<Maker>
     ensures { result ≡ maker_at steps.now place }
 {
-    let call = call_at(steps, place)?;
-    maker_of(steps, call)
+    maker_of(steps, call_at(steps, place)?)
 }
 
 /// Whether both are there, and the same.

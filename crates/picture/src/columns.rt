@@ -27,11 +27,8 @@ fn column_at(logs: &[Arc<VatLog>], line: u32, log: &VatLog) -> Column
     ensures { result ≡ column_at (map arc_value logs.now) line log.now }
 {
     let vat = log.vat();
-    Column {
-        vat,
-        column: column_of(logs, vat),
-        line,
-    }
+    let column = column_of(logs, vat);
+    Column { vat, column, line }
 }
 
 /// The columns of these logs' vats.

@@ -42,10 +42,6 @@ pub struct Picture<'a> {
 /// The picture of a case whose records are drawn in this order, and of its report: the rows of the steps that are asked for,
 /// or of those around what the report names, and the arrows of their messages. Where the steps of a run of the case are
 /// lent, the rows of calls are marked that were made through the reference of the call that the report names.
-///
-/// # Errors
-///
-/// Out of memory.
 pub fn draw<'a>(
     alloc: Global,
     case: &'a Case,

@@ -46,10 +46,7 @@ fn mate_by(case: &Case, report: &Report) -> Option<Place>
             connection,
             end,
             message,
-        } => {
-            let place = receipt(case, *connection, *end, *message as usize)?;
-            mate_at(case, place)
-        }
+        } => { mate_at(case, receipt(case, *connection, *end, *message as usize)?) }
         _ => None,
     }
 }
@@ -58,8 +55,6 @@ fn mate_by(case: &Case, report: &Report) -> Option<Place>
 pub fn focus_of(case: &Case, order: &[u32], report: &Report) -> Focus
     ensures { result ≡ focus_of case.now order.now report.now }
 {
-    Focus {
-        at: named_by(case, order, report),
-        mate: mate_by(case, report),
-    }
+    let (at, mate) = (named_by(case, order, report), mate_by(case, report));
+    Focus { at, mate }
 }

@@ -8,8 +8,7 @@ use crate::reason_text::ShortReason;
 use exception_reasons::Reason;
 use report_lines::{Shown, loopback_text};
 use rpc_view::{CallHead, Descriptor, Outcome, Payload, RpcMessage, Target};
-use std::fmt;
-use std::fmt::{Display, Formatter};
+use std::fmt::{self, Display, Formatter};
 use vat_log::{Body, ResultReferences};
 
 /// A capability table: its first three entries, and how many more there are.

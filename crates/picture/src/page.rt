@@ -14,8 +14,7 @@ use case_report::Report;
 use report_lines::{Shown, ShownReport};
 use rpc_view::RpcMessage;
 use std::alloc::{AllocError, Global};
-use std::fmt;
-use std::fmt::{Display, Formatter};
+use std::fmt::{self, Display, Formatter};
 use vat_log::Body;
 
 /// What the table has of a record whose frame has this message.
@@ -32,8 +31,7 @@ impl Display for ListedWords<'_> {
         let body = self.body;
         match (self.message, body) {
             (Some(message), _) => write!(f, "{} {}", Shown(body), Shown(message)),
-            (None, Body::Send { .. }) => write!(f, "{} unread", Shown(body)),
-            (None, Body::Receive { .. }) => write!(f, "{} unread", Shown(body)),
+            (None, Body::Send { .. } | Body::Receive { .. }) => write!(f, "{} unread", Shown(body)),
             (None, _) => write!(f, "{}", Shown(body)),
         }
     }
@@ -105,18 +103,10 @@ fn cells_of<'a>(row: &'a Row<'_>) -> ListedCells<'a>
     ensures { listed_cells result.number (listed_said result.said.words.body.now result.said.words.message.now result.said.reason.0.now)
         ≡ listed_cells row.now.place.number (listed_said row.now.body row.now.message row.now.reason) }
 {
-    let words = ListedWords {
-        body: row.body,
-        message: &row.message,
-    };
-    let said = ListedSaid {
-        words,
-        reason: WholeReason(&row.reason),
-    };
-    ListedCells {
-        number: row.place.number,
-        said,
-    }
+    let (body, message) = (row.body, &row.message);
+    let (words, reason) = (ListedWords { body, message }, WholeReason(&row.reason));
+    let (number, said) = (row.place.number, ListedSaid { words, reason });
+    ListedCells { number, said }
 }
 
 /// A row of the table.
@@ -128,11 +118,9 @@ impl Display for Listed<'_> {
 
     fn fmt<W: fmt::Write>(&self, f: &mut Formatter<W>) -> fmt::Result {
         let row = self.0;
-        let begin = ListedBegin {
-            place: row.place,
-            tone: row.tone,
-        };
-        let (link, cells) = (ListedLink(row.place), cells_of(row));
+        let (place, tone) = (row.place, row.tone);
+        let begin = ListedBegin { place, tone };
+        let (link, cells) = (ListedLink(place), cells_of(row));
         write!(f, "{begin}{link}{cells}")
     }
 }
@@ -205,10 +193,8 @@ impl Display for Page<'_> {
     fn fmt<W: fmt::Write>(&self, f: &mut Formatter<W>) -> fmt::Result {
         let picture = self.0;
         let (begin, table) = (Begin(picture.report), Table(picture));
-        let svg = Svg {
-            picture,
-            linked: true,
-        };
+        let linked = true;
+        let svg = Svg { picture, linked };
         write!(
             f,
             "{begin}{svg}</div>\n<div class='listed'>\n<table>\n<thead><tr><th>vat</th><th>record</th><th>what it says</th></tr></thead>\n<tbody>\n{table}</tbody>\n</table>\n</div>\n</body>\n</html>\n"
@@ -217,10 +203,6 @@ impl Display for Page<'_> {
 }
 
 /// The text of a picture: an SVG alone, or a page with it and a table of its records, which needs nothing else.
-///
-/// # Errors
-///
-/// Out of memory.
 pub fn text_of(alloc: Global, picture: &Picture<'_>, page: bool) -> Result<String, AllocError>
     ensures { IfOk result (λ text. string_bytes text ≡ drawn_text page picture.now) }
 {

@@ -6,8 +6,7 @@ ghost use Rattle.exception_reasons.specs.Printed.{byte_text, printed};
 ghost use Rattle.picture.specs.ReasonText.{markup, quoted, short_reason, whole_reason};
 
 use exception_reasons::{Printed, Reason};
-use std::fmt;
-use std::fmt::{Display, Formatter};
+use std::fmt::{self, Display, Formatter};
 
 /// Writes a byte as it is printed in a document: `&`, `<` and `>` by their names, and others as [`Printed`] says.
 fn put_byte<W: fmt::Write>(f: &mut Formatter<W>, byte: u8) -> fmt::Result

@@ -89,10 +89,7 @@ pub fn label_of<'a>(row: &'a Row<'_>) -> Label<'a>
 fn is_place(one: Option<Place>, other: Place) -> bool
     ensures { result ≡ is_place one other }
 {
-    match one {
-        Some(one) => one.vat == other.vat && one.number == other.number,
-        None => false,
-    }
+    matches!(one, Some(one) if one.vat == other.vat && one.number == other.number)
 }
 
 /// How a record is marked.

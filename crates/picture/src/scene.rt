@@ -58,20 +58,14 @@ impl<'a> Model for Scene<'a> {
 fn maker_named(steps: &[Step], place: Option<Place>) -> Option<Maker>
     ensures { result ≡ option_and_then (maker_at steps.now) place }
 {
-    match place {
-        Some(place) => maker_at(steps, place),
-        None => None,
-    }
+    maker_at(steps, place?)
 }
 
 /// The row of this record, if there is one.
 fn row_named(order: &[u32], window: Window, place: Option<Place>) -> Option<u16>
     ensures { result ≡ option_and_then (row_of_place order.now window) place }
 {
-    match place {
-        Some(place) => row_of(order, window, place),
-        None => None,
-    }
+    row_of(order, window, place?)
 }
 
 /// What is drawn of a case in this order, for its report: the window that is asked for, or the one around what the report

@@ -41,18 +41,12 @@ pub fn column_of(logs: &[Arc<VatLog>], vat: u32) -> u32
 pub fn body_in(log: &VatLog, number: usize) -> Option<&Body>
     ensures { option_copied result ≡ slice_get log.now.records number }
 {
-    match log.get(number) {
-        Some(stored) => Some(stored.body()),
-        None => None,
-    }
+    Some(log.get(number)?.body())
 }
 
 /// What the record of this place says.
 pub fn body_at(logs: &[Arc<VatLog>], place: Place) -> Option<&Body>
     ensures { option_copied result ≡ body_at (map arc_value logs.now) place }
 {
-    match log_of(logs, place.vat) {
-        Some(log) => body_in(log, place.number),
-        None => None,
-    }
+    body_in(log_of(logs, place.vat)?, place.number)
 }

@@ -91,10 +91,7 @@ pub fn middle_of(order: &[u32], place: Option<Place>) -> usize
     ensures { result ≡ middle_of order.now place }
 {
     match place {
-        Some(place) => match step_of(order, place) {
-            Some(step) => step,
-            None => 0,
-        },
+        Some(place) => step_of(order, place).unwrap_or(0),
         None => 0,
     }
 }
@@ -114,10 +111,7 @@ fn row_in(window: Window, step: usize) -> Option<u16>
 pub fn row_of(order: &[u32], window: Window, place: Place) -> Option<u16>
     ensures { result ≡ row_of_place order.now window place }
 {
-    match step_of(order, place) {
-        Some(step) => row_in(window, step),
-        None => None,
-    }
+    row_in(window, step_of(order, place)?)
 }
 
 /// The line of a row: further down, below the row at fault.

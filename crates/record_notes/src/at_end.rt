@@ -7,10 +7,6 @@ use vat_log::VatLog;
 use vat_view::DecodedRecord;
 
 /// The records of a log as they are judged. None where a frame isn't read.
-///
-/// # Errors
-///
-/// Out of memory.
 pub fn events_of(alloc: Global, log: &VatLog) -> Result<Option<Vec<DecodedRecord>>, AllocError> {
     let mut events = Vec::new(alloc);
     for at in 0..log.len() {
@@ -23,10 +19,6 @@ pub fn events_of(alloc: Global, log: &VatLog) -> Result<Option<Vec<DecodedRecord
 }
 
 /// What is open at the end of a log. None where a frame isn't read, or the log isn't good.
-///
-/// # Errors
-///
-/// Out of memory.
 pub fn open_in(alloc: Global, log: &VatLog) -> Result<Option<Vec<Open>>, AllocError> {
     match events_of(alloc, log)? {
         Some(events) => open_at_end(alloc, events.as_slice()),

@@ -25,12 +25,19 @@ pub fn vat_of(bytes: &Bytes) -> Option<u32> {
     }
 }
 
+/// The log that a file is, if it is one.
+pub fn log_of(alloc: Global, bytes: &Bytes) -> Result<Option<VatLog>, AllocError> {
+    match parse_log(alloc, bytes.clone()?) {
+        Ok(log) => Ok(Some(log)),
+        Err(LogError::OutOfMemory) => Err(AllocError),
+        Err(_) => Ok(None),
+    }
+}
+
 /// The name of the first of these files that has the log of a vat.
 pub(crate) fn name_in(files: &[(String, Bytes)], vat: u32) -> Option<&str> {
-    let mut those = files.iter();
-    those
-        .find(|(_, bytes)| vat_of(bytes) == Some(vat))
-        .map(|(name, _)| name.as_str())
+    let (name, _) = files.iter().find(|(_, bytes)| vat_of(bytes) == Some(vat))?;
+    Some(name.as_str())
 }
 
 impl<'a> Logs<'a> {
@@ -41,32 +48,23 @@ impl<'a> Logs<'a> {
 
     /// The log of this vat among the files that were read.
     fn read(&self, alloc: Global, vat: u32) -> Result<Option<Arc<VatLog>>, AllocError> {
-        for (_, bytes) in self.files {
-            if vat_of(bytes) == Some(vat) {
-                match parse_log(alloc, bytes.clone()?) {
-                    Ok(log) => return Ok(Some(Arc::new(alloc, log)?)),
-                    Err(LogError::OutOfMemory) => return Err(AllocError),
-                    Err(_) => {}
-                }
+        let files = self.files.iter();
+        for (_, bytes) in files.filter(|(_, bytes)| vat_of(bytes) == Some(vat)) {
+            if let Some(log) = log_of(alloc, bytes)? {
+                return Ok(Some(Arc::new(alloc, log)?));
             }
         }
         Ok(None)
     }
 
     /// The log of this vat, where it was read.
-    ///
-    /// # Errors
-    ///
-    /// Out of memory.
     pub fn of_vat(&self, alloc: Global, vat: u32) -> Result<Option<Arc<VatLog>>, AllocError> {
         let Some(findings) = self.findings else {
             return self.read(alloc, vat);
         };
-        for log in findings.case().logs() {
-            if log.vat() == vat {
-                return Ok(Some(Arc::try_clone(log)?));
-            }
+        match findings.case().logs().iter().find(|log| log.vat() == vat) {
+            Some(log) => Ok(Some(Arc::try_clone(log)?)),
+            None => Ok(None),
         }
-        Ok(None)
     }
 }

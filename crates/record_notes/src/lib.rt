@@ -2,8 +2,8 @@
 //! where nothing is wrong. No contract says what they tell, and no answer depends on them.
 //!
 //! It stands on `past_records`, which reads records once more and has the text that notes are put into, on `report_lines`, which
-//! prints records, on `case_book`, which keeps the logs of a case, and on `left_open`, which lists what is open at the end of a
-//! log. [`Logs`] finds the log of a vat and the name of its file, and [`put_record`] tells of one of its records.
+//! prints records, on `json_lines`, which writes objects, on `case_book`, which keeps the logs of a case, and on `left_open`,
+//! which lists what is open at the end of a log. [`Logs`] finds the log of a vat and the name of its file, and [`put_record`] tells of one of its records.
 //! [`put_rule_cause`] finds the notes of each rule, in a file for each family (room `rules`): calls, goals, capability tables,
 //! results, promises, references, loopbacks, connections. An [`OpenCase`] has what is open in each log of a case, with what became
 //! of the calls that are open and which frames are under way (room `open`): [`put_good`] tells of it in lines, [`open_object`] in
@@ -19,7 +19,7 @@ mod record_note;
 mod rules;
 
 pub use at_end::{events_of, open_in};
-pub use kept_logs::{Logs, vat_of};
+pub use kept_logs::{Logs, log_of, vat_of};
 pub use open::good_notes::put_good;
 pub use open::object::open_object;
 pub use open::open_case::OpenCase;

@@ -1,11 +1,10 @@
 //! How much is open at the end of a log, by kind.
 
 use left_open::Open;
-use std::fmt;
-use std::fmt::{Display, Formatter};
+use std::fmt::{self, Display, Formatter};
 
 /// How much of a vat's is open, to be shown as a list.
-#[derive(Clone, Copy)]
+#[derive(Clone, Copy, Default)]
 pub struct OpenCounts {
     /// Own questions without a Return.
     unreturned: usize,
@@ -21,40 +20,30 @@ pub struct OpenCounts {
     loopbacks: usize,
 }
 
-/// Something that was counted, with the word for one of it, and what follows that.
-type Counted = (usize, &'static str, &'static str);
-
-/// How much of this is of a kind.
-fn count<F: Fn(&Open) -> bool>(list: &[Open], is_of: F) -> usize
-    requires { F.IsAlwaysCallable is_of }
-{
-    list.iter().filter(|left| is_of(left)).count()
-}
-
 impl OpenCounts {
+    /// Counts something that is open, where it is counted.
+    fn add(&mut self, left: &Open) {
+        let count = match left {
+            Open::Question { question, .. } if question.ours => &mut self.unreturned,
+            Open::Unfinished { question, .. } if question.ours => &mut self.unfinished,
+            Open::Loopback { number, .. } if number.ours => &mut self.loopbacks,
+            Open::Number { number, .. } if !number.ours => &mut self.imports,
+            Open::Number { unresolved, .. } => {
+                self.promises = self.promises.saturating_add(usize::from(*unresolved));
+                &mut self.exports
+            }
+            _ => return,
+        };
+        *count = count.saturating_add(1);
+    }
+
     /// How much is open of this.
     pub fn of(list: &[Open]) -> OpenCounts {
-        OpenCounts {
-            unreturned: count(list, |left| {
-                matches!(left, Open::Question { question, .. } if question.ours)
-            }),
-            unfinished: count(list, |left| {
-                matches!(left, Open::Unfinished { question, .. } if question.ours)
-            }),
-            exports: count(
-                list,
-                |left| matches!(left, Open::Number { number, .. } if number.ours),
-            ),
-            imports: count(list, |left| {
-                matches!(left, Open::Number { number, .. } if !number.ours)
-            }),
-            promises: count(list, |left| {
-                matches!(left, Open::Number { number, unresolved: true, .. } if number.ours)
-            }),
-            loopbacks: count(list, |left| {
-                matches!(left, Open::Loopback { number, .. } if number.ours)
-            }),
+        let mut counts = OpenCounts::default();
+        for left in list {
+            counts.add(left);
         }
+        counts
     }
 
     /// The same without questions without a Return and loopbacks without an echo, which are told one by one.
@@ -71,8 +60,8 @@ impl OpenCounts {
         OpenCounts { exports: 0, ..self }
     }
 
-    /// What is counted.
-    fn counts(&self) -> [Counted; 6] {
+    /// What is counted, with the word for one of it, and what follows that.
+    fn counts(&self) -> [(usize, &'static str, &'static str); 6] {
         [
             (self.unreturned, "question", "without a Return"),
             (self.unfinished, "question", "without a Finish"),
@@ -91,13 +80,12 @@ impl OpenCounts {
 
 impl Display for OpenCounts {
     fn fmt<W: fmt::Write>(&self, f: &mut Formatter<W>) -> fmt::Result {
-        let mut is_first = true;
+        let mut between = "";
         for (count, word, rest) in self.counts() {
             if count > 0 {
-                let comma = if is_first { "" } else { ", " };
                 let plural = if count == 1 { "" } else { "s" };
-                write!(f, "{comma}{count} {word}{plural} {rest}")?;
-                is_first = false;
+                write!(f, "{between}{count} {word}{plural} {rest}")?;
+                between = ", ";
             }
         }
         Ok(())

@@ -29,35 +29,28 @@ fn shown_record<'a>(
 
 /// Appends the note of a record with its number, read by an edition: the name of its log, the record as `records` prints it, and
 /// the reason of its exception.
-pub fn put_stored(
-    alloc: Global,
-    text: &mut NoteText,
-    name: &str,
-    at: usize,
-    stored: &Record,
-    edition: Edition,
-) {
-    if let Some(shown) = text.granted(shown_record(alloc, at, stored, edition)) {
+pub fn put_stored(text: &mut NoteText, name: &str, at: usize, stored: &Record, edition: Edition) {
+    if let Some(shown) = text.granted(shown_record(text.alloc(), at, stored, edition)) {
         text.file("note: ", name, ": record ");
         text.shown(&shown);
     }
-    put_reason_of(alloc, text, stored, " reason ");
+    put_reason_of(text, stored, " reason ");
     text.words("\n");
 }
 
 /// Appends the note of the record of this number: the name of its log, the record as `records` prints it, and the reason of
 /// its exception.
-pub fn put_record(alloc: Global, text: &mut NoteText, name: &str, log: &VatLog, at: usize) {
+pub fn put_record(text: &mut NoteText, name: &str, log: &VatLog, at: usize) {
     if let Some(stored) = log.get(at) {
-        put_stored(alloc, text, name, at, stored, edition_of(log));
+        put_stored(text, name, at, stored, edition_of(log));
     }
 }
 
 /// Appends the note of a record of a vat, where its log is kept.
-pub fn put_place(alloc: Global, text: &mut NoteText, logs: &Logs<'_>, vat: u32, at: usize) {
-    if let Some(name) = logs.name_of(vat) {
-        if let Some(Some(log)) = text.granted(logs.of_vat(alloc, vat)) {
-            put_record(alloc, text, name, &log, at);
-        }
+pub fn put_place(text: &mut NoteText, logs: &Logs<'_>, vat: u32, at: usize) {
+    if let Some(name) = logs.name_of(vat)
+        && let Some(log) = text.found(logs.of_vat(text.alloc(), vat))
+    {
+        put_record(text, name, &log, at);
     }
 }

@@ -6,14 +6,13 @@ ghost use Rattle.report_lines.specs.Lines.{answer_status, answer_text};
 use crate::fault::Fault;
 use crate::finding_text::{outcome_status, put_outcome};
 use crate::join_text::{JoinLine, join_status, put_join};
-use crate::report_text::{put_no_order, put_report, report_status};
+use crate::report_text::{put_report, report_status};
 use crate::shown::Shown;
 use crate::wire_text::{put_wire, wire_status};
 use case_report::{Report, WireLine};
 use merge_order::Order;
 use rpc_view::RpcMessage;
-use std::fmt;
-use std::fmt::{Display, Formatter};
+use std::fmt::{self, Display, Formatter};
 use vat_log::{Salvaged, SpelledLog};
 use vat_rules::SlimFinding;
 
@@ -72,19 +71,14 @@ impl Display for Answer {
             Answer::Report(report) => put_report(f, report),
             Answer::Message(message) => write!(f, "{}", Shown(message)),
             Answer::Order(order) => write!(f, "order steps {}", order.as_slice().len()),
-            Answer::NoOrder => put_no_order(f),
+            Answer::NoOrder => put_report(f, &Report::NoOrder),
             Answer::Migrated(log) => {
                 write!(f, "migrated vat {} records {}", log.vat(), log.len())
             }
             Answer::Salvaged(found) => {
-                let log = &found.log;
-                let bytes = log.bytes().len();
-                write!(
-                    f,
-                    "salvaged vat {} records {} bytes {bytes}",
-                    log.vat(),
-                    log.len()
-                )
+                let (vat, records) = (found.log.vat(), found.log.len());
+                let bytes = found.log.bytes().len();
+                write!(f, "salvaged vat {vat} records {records} bytes {bytes}")
             }
             Answer::Wire(line) => put_wire(f, line),
             Answer::Join(line) => put_join(f, line),

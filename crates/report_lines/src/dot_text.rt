@@ -7,8 +7,7 @@ ghost use Rattle.report_lines.specs.DotText.{bound_text, dot_edge_text, node_tex
 use crate::shown::Shown;
 use authority::Edge;
 use run_model::Cap;
-use std::fmt;
-use std::fmt::{Display, Formatter};
+use std::fmt::{self, Display, Formatter};
 
 /// A line that bounds a graph in the DOT language, to be shown without the line's end.
 #[derive(Clone, Copy)]
@@ -66,18 +65,9 @@ impl Display for DotEdge<'_> {
     ghost output = { λ edge. Some (dot_edge_text (edge_of edge.0.now)) };
 
     fn fmt<W: fmt::Write>(&self, f: &mut Formatter<W>) -> fmt::Result {
-        let Edge {
-            vat,
-            cap,
-            at_record,
-            ..
-        } = self.0;
-        let vat = Node(*vat);
-        let owner = Owner(cap);
-        let cap = Shown(cap);
-        write!(
-            f,
-            "  {vat} -> {owner} [label=\"{cap}\\nrecord {at_record}\"];"
-        )
+        let edge = self.0;
+        let (vat, owner, cap) = (Node(edge.vat), Owner(&edge.cap), Shown(&edge.cap));
+        let record = edge.at_record;
+        write!(f, "  {vat} -> {owner} [label=\"{cap}\\nrecord {record}\"];")
     }
 }

@@ -7,8 +7,7 @@ ghost use Rattle.report_lines.specs.EdgeText.{cap_text, edge_text, name_text};
 use crate::shown::Shown;
 use authority::Edge;
 use run_model::{Cap, Name};
-use std::fmt;
-use std::fmt::{Display, Formatter};
+use std::fmt::{self, Display, Formatter};
 
 impl Display for Shown<Name> {
     ghost output = { λ call. Some (name_text call.0) };
@@ -40,12 +39,8 @@ impl Display for ShownEdge<'_> {
     ghost output = { λ edge. Some (edge_text (edge_of edge.0.now)) };
 
     fn fmt<W: fmt::Write>(&self, f: &mut Formatter<W>) -> fmt::Result {
-        let Edge {
-            vat,
-            cap,
-            at_record,
-            ..
-        } = self.0;
-        write!(f, "edge vat {vat} to {} record {at_record}", Shown(cap))
+        let edge = self.0;
+        let (vat, cap, record) = (edge.vat, Shown(&edge.cap), edge.at_record);
+        write!(f, "edge vat {vat} to {cap} record {record}")
     }
 }

@@ -12,8 +12,7 @@ use case_files::{CaseFault, SourceError};
 use merge_order::OrderError;
 use rpc_view::{Outside, ViewError};
 use std::alloc::{AllocError, AllocFailed};
-use std::fmt;
-use std::fmt::{Display, Formatter};
+use std::fmt::{self, Display, Formatter};
 use vat_log::LogError;
 
 /// Why an input has no finding, message or order. It is shown as its line (docs/FORMATS.md), without the line's end.

@@ -9,8 +9,7 @@ use cap_reader::ReadError;
 use case_book::{CaseError, TieFault};
 use merge_order::OrderError;
 use rpc_view::Outside;
-use std::fmt;
-use std::fmt::{Display, Formatter};
+use std::fmt::{self, Display, Formatter};
 use vat_log::LogError;
 
 impl Display for Shown<FrameError> {

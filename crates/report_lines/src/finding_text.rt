@@ -5,8 +5,7 @@ ghost use Rattle.std.specs.Fmt.{WritesOnOk};
 ghost use Rattle.vat_rules.specs.Slim.{outcome_in};
 ghost use Rattle.report_lines.specs.Lines.{broken_text, code_of, outcome_status, log_outcome_text, outside_text, word_of};
 
-use std::fmt;
-use std::fmt::Formatter;
+use std::fmt::{self, Formatter};
 use vat_rules::{Rule, SlimOutcome, Why};
 
 /// The code of a rule.

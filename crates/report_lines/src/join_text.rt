@@ -4,8 +4,7 @@ ghost use Rattle.std.specs.Prelude.{◌≡◌};
 ghost use Rattle.std.specs.Fmt.{WritesOnOk};
 ghost use Rattle.report_lines.specs.Lines.{join_status, join_text};
 
-use std::fmt;
-use std::fmt::Formatter;
+use std::fmt::{self, Formatter};
 
 /// What is answered of logs whose connections are joined.
 #[derive(Clone, Copy, PartialEq, Eq)]

@@ -10,8 +10,7 @@ use cap_frame::Path;
 use rpc_view::{
     CallHead, Descriptor, Loopback, Outcome, Payload, Resolution, ReturnHead, RpcMessage, Target,
 };
-use std::fmt;
-use std::fmt::{Display, Formatter};
+use std::fmt::{self, Display, Formatter};
 
 /// Numbers with a comma between each two.
 impl Display for Shown<&[u16]> {

@@ -10,8 +10,7 @@ use crate::answer::Answer;
 use crate::message_text::Interface;
 use crate::shown::Shown;
 use cap_frame::Path;
-use std::fmt;
-use std::fmt::{Display, Formatter};
+use std::fmt::{self, Display, Formatter};
 use vat_log::{Body, References};
 
 /// References with a comma between each two.
@@ -84,10 +83,8 @@ impl Display for Noted<'_> {
     ghost output = { λ noted. Some (noted_text noted.connection noted.call noted.references.now) };
 
     fn fmt<W: fmt::Write>(&self, f: &mut Formatter<W>) -> fmt::Result {
-        let connection = self.connection;
-        let call = NotedCall(self.call);
-        let references = NotedReferences(self.references);
-        write!(f, " connection {connection}{call}{references}")
+        let (call, references) = (NotedCall(self.call), NotedReferences(self.references));
+        write!(f, " connection {}{call}{references}", self.connection)
     }
 }
 
@@ -138,8 +135,11 @@ fn put_field<W: fmt::Write>(
     ensures { WritesOnOk W.write_str_gives f.old result
         (body_text (Body.Field reference call path.now)) f.new }
 {
-    let path = Shown(path);
-    write!(f, "field reference {reference} call {call} path {path}")
+    write!(
+        f,
+        "field reference {reference} call {call} path {}",
+        Shown(path)
+    )
 }
 
 /// What a record says, but for its frame.
@@ -203,8 +203,7 @@ impl Display for NumberedRecord<'_> {
     ghost output = { λ numbered. Some (record_text numbered.at numbered.body.now numbered.message) };
 
     fn fmt<W: fmt::Write>(&self, f: &mut Formatter<W>) -> fmt::Result {
-        let at = self.at;
-        let body = Shown(self.body);
+        let (at, body) = (self.at, Shown(self.body));
         match &self.message {
             None => write!(f, "{at} {body}"),
             Some(message) => write!(f, "{at} {body} {message}"),

@@ -2,12 +2,11 @@
 
 ghost use Rattle.std.specs.Prelude.{◌≡◌, Some};
 ghost use Rattle.std.specs.Fmt.{WritesOnOk};
-ghost use Rattle.report_lines.specs.Lines.{breach_code, no_order_text, report_status, report_text};
+ghost use Rattle.report_lines.specs.Lines.{breach_code, report_status, report_text};
 
 use crate::finding_text::{code_of, put_broken, put_outside};
 use case_report::{Breach, Report};
-use std::fmt;
-use std::fmt::{Display, Formatter};
+use std::fmt::{self, Display, Formatter};
 
 /// The code of what a record breaks.
 pub fn breach_code(breach: Breach) -> &'static str
@@ -17,13 +16,6 @@ pub fn breach_code(breach: Breach) -> &'static str
         Breach::Rule(rule) => code_of(rule),
         Breach::Order => "ORDER",
     }
-}
-
-/// Writes that no order of the records exists.
-pub fn put_no_order<W: fmt::Write>(f: &mut Formatter<W>) -> fmt::Result
-    ensures { WritesOnOk W.write_str_gives f.old result no_order_text f.new }
-{
-    f.write_str("no order exists")
 }
 
 /// Writes what is answered of a case.
@@ -39,7 +31,7 @@ pub fn put_report<W: fmt::Write>(f: &mut Formatter<W>, report: &Report) -> fmt::
             message,
         } => { write!(f, "no link {connection} end {end} message {message}") }
         Report::OrderStep(step) => write!(f, "no order step {step}"),
-        Report::NoOrder => put_no_order(f),
+        Report::NoOrder => f.write_str("no order exists"),
         Report::Yes {
             vats,
             records,

@@ -8,8 +8,7 @@ use crate::dot_text::{DotBound, DotEdge};
 use crate::edge_text::ShownEdge;
 use crate::record_text::NumberedRecord;
 use crate::step_text::NumberedStep;
-use std::fmt;
-use std::fmt::{Display, Formatter};
+use std::fmt::{self, Display, Formatter};
 
 /// What is written as a line of standard output. It is shown as the line's text, without the line's end.
 #[derive(Clone, Copy)]

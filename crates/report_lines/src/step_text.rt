@@ -6,8 +6,7 @@ ghost use Rattle.report_lines.specs.StepText.{call_of_step, call_of_message, cal
 
 use crate::shown::Shown;
 use run_model::{Message, Name, Plain, Step, vat_of};
-use std::fmt;
-use std::fmt::{Display, Formatter};
+use std::fmt::{self, Display, Formatter};
 
 /// The word for a message that says nothing of calls and capabilities.
 fn plain_word(plain: Plain) -> &'static str
@@ -136,9 +135,7 @@ impl Display for NumberedStep<'_> {
 
     fn fmt<W: fmt::Write>(&self, f: &mut Formatter<W>) -> fmt::Result {
         let NumberedStep { at, record, step } = self;
-        let vat = vat_of(step);
-        let kind = Shown(*step);
-        let called = Shown(call_of_step(step));
+        let (vat, kind, called) = (vat_of(step), Shown(*step), Shown(call_of_step(step)));
         write!(f, "step {at} vat {vat} record {record} {kind}{called}")
     }
 }

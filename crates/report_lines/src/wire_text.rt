@@ -7,8 +7,7 @@ ghost use Rattle.report_lines.specs.Lines.{end_name, wire_status, wire_text};
 use crate::finding_text::word_of;
 use crate::report_text::breach_code;
 use case_report::WireLine;
-use std::fmt;
-use std::fmt::Formatter;
+use std::fmt::{self, Formatter};
 use wire_cut::End;
 
 /// The name of an end of a connection: that of its file.

@@ -5,19 +5,54 @@ ghost use Rattle.command_line.specs.Spelled.{HasWorkers};
 ghost use Rattle.told_runs.specs.Endings.{EndsAs};
 ghost use Rattle.command_run.specs.Runs.{Adds, CarriesOut, Tells};
 
-use crate::json_output::JsonOutput;
 use crate::note_hearing::NoteHearing;
 use case_files::Source;
 use cause_notes::{Form, Notes, SearchingSource, write_note};
 use command_line::Command;
-use command_run::{FAILED, Failed, Host, Unwatched, answer_command, answer_heard};
-use json_lines::JsonFault;
-use report_lines::Fault;
+use command_run::{FAILED, Failed, Host, Output, Unwatched, answer_command, answer_heard};
+use json_lines::{JsonFault, JsonLines};
+use report_lines::{Fault, ShownLine};
+use schema_names::SchemaNames;
 use std::alloc::{AllocError, Global};
-use std::io;
-use std::io::Write;
+use std::io::{self, Write};
 use std::sync::Wait;
 use std::thread::Threads;
+
+/// An output that writes each line as a JSON object. What is written isn't known as text.
+#[derive(Drop)]
+pub struct JsonOutput<'a, W: Write> {
+    lines: JsonLines<'a, W>,
+}
+
+impl<'a, W: Write> JsonOutput<'a, W> {
+    /// Before any line.
+    pub fn new(alloc: Global, out: &'a mut W) -> JsonOutput<'a, W> {
+        let lines = JsonLines::new(alloc, out);
+        JsonOutput { lines }
+    }
+
+    /// With names for interfaces and methods.
+    pub fn with_names(self, names: &'a SchemaNames) -> JsonOutput<'a, W> {
+        let lines = self.lines.with_names(names);
+        JsonOutput { lines }
+    }
+}
+
+impl<W: Write> Output for JsonOutput<'_, W> {
+    type Error = JsonFault;
+
+    fn write_line(&mut self, shown: ShownLine<'_>) -> Result<(), JsonFault> {
+        self.lines.add(shown)
+    }
+
+    fn write_bytes(&mut self, bytes: &[u8]) -> Result<(), JsonFault> {
+        Ok(self.lines.add_bytes(bytes)?)
+    }
+
+    fn finish(&mut self) -> Result<(), JsonFault> {
+        Ok(())
+    }
+}
 
 /// What came of telling lines as objects.
 type LinesTold = Result<u8, Failed<JsonFault, io::Error>>;
@@ -59,7 +94,7 @@ fn notes_beside<S: SearchingSource>(
     told: &LinesTold,
 ) -> Result<Notes, AllocError> {
     match told {
-        Err(Failed::File(error)) => { Ok(Notes::of_text(write_note(alloc, command.out(), error)?)) }
+        Err(Failed::File(error)) => Ok(Notes::of_text(write_note(alloc, command.out(), error)?)),
         _ => hearing.notes(alloc, command, source, Form::Json),
     }
 }
@@ -97,11 +132,8 @@ pub fn run_as_json_with_notes<R: Threads + Wait + Sync, S: SearchingSource, W: W
         (λ answers. Tells answers (Adds F.contents) file.old file.new result) }
 {
     let mut hearing = NoteHearing::new();
-    let host = Host {
-        rt,
-        alloc,
-        watch: &Unwatched,
-    };
+    let watch = &Unwatched;
+    let host = Host { rt, alloc, watch };
     let told = answer_heard(&host, command, source, &mut hearing, out, file);
     let _ = source.look_back();
     let notes = notes_beside(alloc, command, &hearing, source, &told);

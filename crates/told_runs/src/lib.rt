@@ -7,13 +7,11 @@
 //! tells each line as an object, and [`run_as_json_with_notes`] the notes in the last one.
 #![tactic(auto)]
 
-mod json_output;
 mod json_run;
 mod note_hearing;
 mod noted_run;
 mod told_lines;
 
-pub use json_output::JsonOutput;
-pub use json_run::{run_as_json, run_as_json_with_notes};
+pub use json_run::{JsonOutput, run_as_json, run_as_json_with_notes};
 pub use noted_run::{NotedSource, run_with_notes};
 pub use told_lines::{Telling, ToldLines, run_telling};

@@ -18,9 +18,8 @@ pub(crate) struct NoteHearing {
 impl NoteHearing {
     /// Before any answer.
     pub(crate) fn new() -> NoteHearing {
-        NoteHearing {
-            heard: Heard::new(),
-        }
+        let heard = Heard::new();
+        NoteHearing { heard }
     }
 
     /// The notes beside what was heard of a source, in a form.

@@ -8,8 +8,7 @@ use cause_notes::{SearchingSource, write_note};
 use command_line::Command;
 use command_run::{FAILED, Failed, Host, Watch, answer_heard};
 use std::alloc::{AllocError, Global};
-use std::io;
-use std::io::Write;
+use std::io::{self, Write};
 use std::sync::Wait;
 use std::thread::Threads;
 
@@ -70,11 +69,8 @@ pub fn run_with_notes<
         (Adds F.contents) out.old out.new file.old file.new result) }
 {
     let mut hearing = NoteHearing::new();
-    let host = Host {
-        rt,
-        alloc,
-        watch: noted.watch,
-    };
+    let watch = noted.watch;
+    let host = Host { rt, alloc, watch };
     let answered = answer_heard(&host, command, &mut noted.source, &mut hearing, out, file);
     let _ = noted.source.look_back();
     let told = hearing.lines(alloc, command, &noted.source);

@@ -17,8 +17,7 @@ use named_text::NamedText;
 use report_lines::{Fault, ShownLine};
 use schema_names::SchemaNames;
 use std::alloc::{AllocError, Global};
-use std::io;
-use std::io::Write;
+use std::io::{self, Write};
 use std::sync::Wait;
 use std::thread::Threads;
 
@@ -182,11 +181,8 @@ pub fn run_telling<
         (λ answers. Tells answers (Adds F.contents) file.old file.new result) }
 {
     let mut hearing = NoteHearing::new();
-    let host = Host {
-        rt,
-        alloc,
-        watch: noted.watch,
-    };
+    let watch = noted.watch;
+    let host = Host { rt, alloc, watch };
     let told = answer_heard(&host, command, &mut noted.source, &mut hearing, out, file);
     look_back_if(!out.telling.is_quiet, &mut noted.source);
     let notes = notes_beside(alloc, command, &hearing, &noted.source, &told, out.telling);

@@ -1,7 +1,6 @@
 //! Calls that overtake others where an embargo wasn't asked for, or wasn't waited for.
 
 use crate::cases::order_cause::Placed;
-use crate::found::{found, made};
 use past_records::{NoteText, decoded};
 use record_notes::Logs;
 use rpc_view::{Loopback, RpcMessage};
@@ -47,19 +46,15 @@ fn parting_at(
     overtaken: Name,
     early: Name,
 ) -> Option<Parting> {
-    let vat = placed.vat;
+    let (vat, sent) = (placed.vat, placed.at);
     let connection = sends(placed.step, overtaken)?;
-    let left = steps
-        .iter()
-        .find(|other| other.vat == vat && leaves(other.step, early, connection))?
-        .at;
-    if left <= placed.at {
-        return None;
-    }
-    Some(Parting {
+    let mut leaving = steps.iter();
+    let later = leaving.find(|other| other.vat == vat && leaves(other.step, early, connection))?;
+    let left = later.at;
+    (left > sent).then_some(Parting {
         vat,
         connection,
-        sent: placed.at,
+        sent,
         left,
     })
 }
@@ -102,12 +97,12 @@ fn put_embargo(text: &mut NoteText, parting: Parting, asked: (bool, Option<usize
     let (vat, connection) = (u64::from(parting.vat), u64::from(parting.connection));
     let (sent, left) = (parting.sent as u64, parting.left as u64);
     match asked {
-        (false, _) => text.tell(
-            "note: vat # sent no senderLoopback on connection # between its records # and #: the embargo wasn't asked for\n",
+        (false, _) => text.note(
+            "vat # sent no senderLoopback on connection # between its records # and #: the embargo wasn't asked for",
             &[vat, connection, sent, left],
         ),
-        (true, Some(at)) => text.tell(
-            "note: record # of vat # didn't wait for the echo of the senderLoopback that its record # sent\n",
+        (true, Some(at)) => text.note(
+            "record # of vat # didn't wait for the echo of the senderLoopback that its record # sent",
             &[left, vat, at as u64],
         ),
         (true, None) => {}
@@ -116,22 +111,17 @@ fn put_embargo(text: &mut NoteText, parting: Parting, asked: (bool, Option<usize
 
 /// Appends the note of the embargo that should have kept one call behind the other, where their ways part.
 pub(crate) fn put_embargo_cause(
-    alloc: Global,
     text: &mut NoteText,
     logs: &Logs<'_>,
     steps: &[Placed<'_>],
     overtaken: Name,
     early: Name,
 ) {
-    let mut partings = steps.iter();
-    let Some(parting) = partings.find_map(|placed| parting_at(steps, placed, overtaken, early))
-    else {
-        return;
-    };
-    let Some(log) = found(text, logs.of_vat(alloc, parting.vat)) else {
-        return;
-    };
-    if let Some(asked) = made(text, asked_between(alloc, &log, parting)) {
+    let mut steps_of_both = steps.iter();
+    if let Some(parting) = steps_of_both.find_map(|one| parting_at(steps, one, overtaken, early))
+        && let Some(log) = text.found(logs.of_vat(text.alloc(), parting.vat))
+        && let Some(asked) = text.granted(asked_between(text.alloc(), &log, parting))
+    {
         put_embargo(text, parting, asked);
     }
 }

@@ -1,45 +1,23 @@
 //! The fields of a message, one by one, as rpc.capnp names them.
 
-use crate::found::made;
-use cap_frame::Path;
 use past_records::NoteText;
 use report_lines::Shown;
 use rpc_view::{Loopback, Outcome, Payload, Resolution, RpcMessage};
-use std::alloc::{AllocError, Global};
-use std::fmt;
-use std::fmt::{Display, Formatter};
+use std::alloc::AllocError;
+use std::fmt::{self, Display, Formatter};
 
-/// A part of a payload of this name: an entry of its capability table, or its content.
+/// A number that is shown in another form than its own.
 #[derive(Clone, Copy)]
-struct PayloadPart(&'static str, Option<usize>);
-
-impl Display for PayloadPart {
-    fn fmt<W: fmt::Write>(&self, f: &mut Formatter<W>) -> fmt::Result {
-        match *self {
-            PayloadPart(name, Some(place)) => write!(f, "{name}.capTable entry {place}"),
-            PayloadPart(name, None) => write!(f, "{name}.content"),
-        }
-    }
-}
-
-/// A value that is shown in another form than its own.
-#[derive(Clone, Copy)]
-pub(crate) enum ShownValue<'a> {
+pub(crate) enum ShownValue {
     Byte(u8),
     Interface(u64),
-    /// Where the content of a payload has capabilities.
-    Content(&'a [(Path, u32)]),
 }
 
-impl Display for ShownValue<'_> {
+impl Display for ShownValue {
     fn fmt<W: fmt::Write>(&self, f: &mut Formatter<W>) -> fmt::Result {
         match *self {
             ShownValue::Byte(byte) => write!(f, "{byte:02x}"),
             ShownValue::Interface(interface) => write!(f, "{interface:016x}"),
-            ShownValue::Content(fields) => {
-                let content = Shown(fields);
-                write!(f, "[{content}]")
-            }
         }
     }
 }
@@ -54,39 +32,38 @@ struct Field {
 /// The fields that were told, and the text that remembers where memory was refused for one.
 #[derive(Drop)]
 struct FieldList<'a> {
-    alloc: Global,
     items: Vec<Field>,
     text: &'a mut NoteText,
 }
 
-/// A field of this name.
-fn field_of<N: Display, D: Display>(
-    alloc: Global,
-    name: &N,
-    value: &D,
-) -> Result<Field, AllocError> {
-    let name = format!(in alloc; "{name}")?;
-    let value = format!(in alloc; "{value}")?;
-    Ok(Field { name, value })
-}
-
 impl FieldList<'_> {
-    /// Adds a field of this name.
-    fn add<N: Display + Drop, D: Display>(&mut self, name: N, value: &D) {
-        if let Some(field) = made(self.text, field_of(self.alloc, &name, value)) {
-            if self.items.push(field).is_err() {
-                self.text.refuse();
-            }
+    /// Adds a field, unless memory was refused for its name or its value.
+    fn push(&mut self, name: Result<String, AllocError>, value: Result<String, AllocError>) {
+        if let Some(name) = self.text.granted(name)
+            && let Some(value) = self.text.granted(value)
+            && self.items.push(Field { name, value }).is_err()
+        {
+            self.text.refuse();
         }
     }
 
+    /// Adds a field whose value is shown so.
+    fn add<D: Display>(&mut self, name: &str, value: &D) {
+        let alloc = self.text.alloc();
+        self.push(String::from_str(alloc, name), format!(in alloc; "{value}"));
+    }
+
     /// Adds a payload: each entry of its table, and where its content has capabilities.
-    fn payload(&mut self, name: &'static str, payload: &Payload) {
+    fn payload(&mut self, name: &str, payload: &Payload) {
+        let alloc = self.text.alloc();
         for (place, descriptor) in payload.descriptors.as_slice().iter().enumerate() {
-            self.add(PayloadPart(name, Some(place)), &Shown(descriptor));
+            let entry = format!(in alloc; "{name}.capTable entry {place}");
+            let descriptor = Shown(descriptor);
+            self.push(entry, format!(in alloc; "{descriptor}"));
         }
-        let content = ShownValue::Content(payload.fields.as_slice());
-        self.add(PayloadPart(name, None), &content);
+        let fields = Shown(payload.fields.as_slice());
+        let content = format!(in alloc; "{name}.content");
+        self.push(content, format!(in alloc; "[{fields}]"));
     }
 
     /// Adds what a Return says of its call.
@@ -191,12 +168,9 @@ fn kind_of(message: &RpcMessage) -> &'static str {
 }
 
 /// The fields of a message, its kind before those that `frame` prints, in their order.
-fn fields_of(alloc: Global, text: &mut NoteText, message: &RpcMessage) -> Vec<Field> {
-    let mut fields = FieldList {
-        alloc,
-        items: Vec::new(alloc),
-        text,
-    };
+fn fields_of(text: &mut NoteText, message: &RpcMessage) -> Vec<Field> {
+    let items = Vec::new(text.alloc());
+    let mut fields = FieldList { items, text };
     fields.message(message);
     fields.items
 }
@@ -211,11 +185,8 @@ fn put_fields(text: &mut NoteText, sent: &Field, received: &Field) {
     } else {
         (&sent.name, &received.name)
     };
-    text.words(": ");
-    text.words(one.as_str());
-    text.words(" was sent, ");
-    text.words(other.as_str());
-    text.words(" received\n");
+    text.tell_of(": @ was sent, ", &one.as_str(), &[]);
+    text.tell_of("@ received\n", &other.as_str(), &[]);
 }
 
 /// Appends the note of the first of these fields that differs. Where none does that is read, the note says so.
@@ -225,19 +196,14 @@ fn put_first_field(text: &mut NoteText, sent: &[Field], received: &[Field]) {
             return put_fields(text, one, other);
         }
     }
-    text.words(
-        "note: both read alike, so what differs is something that isn't read, as data of parameters or results\n",
+    text.say(
+        "both read alike, so what differs is something that isn't read, as data of parameters or results",
     );
 }
 
 /// Appends the note of the first field in which two messages differ.
-pub(crate) fn put_field(
-    alloc: Global,
-    text: &mut NoteText,
-    sent: &RpcMessage,
-    received: &RpcMessage,
-) {
-    let sent = fields_of(alloc, text, sent);
-    let received = fields_of(alloc, text, received);
+pub(crate) fn put_field(text: &mut NoteText, sent: &RpcMessage, received: &RpcMessage) {
+    let sent = fields_of(text, sent);
+    let received = fields_of(text, received);
     put_first_field(text, sent.as_slice(), received.as_slice());
 }

@@ -39,10 +39,10 @@ fn frames_on<'a>(
 ) -> Result<Vec<PassedFrame<'a>>, AllocError> {
     let mut frames = Vec::new(alloc);
     for at in 0..log.len() {
-        if let Some(record) = log.get(at) {
-            if let Some(frame) = frame_on(record.body(), sent, connection) {
-                frames.push(PassedFrame { at, frame })?;
-            }
+        if let Some(record) = log.get(at)
+            && let Some(frame) = frame_on(record.body(), sent, connection)
+        {
+            frames.push(PassedFrame { at, frame })?;
         }
     }
     Ok(frames)

@@ -57,27 +57,20 @@ impl Direction<'_> {
         let (next, before) = (first.saturating_add(1), first.saturating_sub(1));
         let number = first as u64;
         if let Some(other) = self.exchanged_with(first) {
-            text.tell(
-                "note: messages # and # of vat # are exchanged at vat #\n",
-                &[number, other as u64, sender, receiver],
-            );
+            let sentence = "messages # and # of vat # are exchanged at vat #";
+            text.note(sentence, &[number, other as u64, sender, receiver]);
         } else if self.is_same(first, next) && self.goes_on(first, next) {
-            text.tell(
-                "note: message # of vat # is missing at vat #; the rest comes one earlier\n",
-                &[number, sender, receiver],
-            );
+            let sentence = "message # of vat # is missing at vat #; the rest comes one earlier";
+            text.note(sentence, &[number, sender, receiver]);
         } else if !self.is_same(next, first) || !self.goes_on(next, first) {
             return false;
         } else if first > 0 && self.is_same(first, before) {
-            text.tell(
-                "note: message # of vat # came twice at vat #; the rest comes one later\n",
-                &[before as u64, sender, receiver],
-            );
+            let sentence = "message # of vat # came twice at vat #; the rest comes one later";
+            text.note(sentence, &[before as u64, sender, receiver]);
         } else {
-            text.tell(
-                "note: message # that vat # received is one more than vat # sent; the rest comes one later\n",
-                &[number, receiver, sender],
-            );
+            let sentence =
+                "message # that vat # received is one more than vat # sent; the rest comes one later";
+            text.note(sentence, &[number, receiver, sender]);
         }
         true
     }

@@ -1,10 +1,10 @@
 //! Calls that overtake others.
 
 use crate::cases::embargo_cause::put_embargo_cause;
-use crate::found::{found, made};
 use audit_core::run_of_findings;
 use past_records::NoteText;
 use record_notes::{Logs, put_place};
+use report_lines::call_of_step;
 use run_model::{Message, Name, Step, vat_of};
 use std::alloc::{AllocError, Global};
 use std::collections::{BTreeMap, BTreeSet};
@@ -30,14 +30,19 @@ fn placed_steps<'a>(alloc: Global, steps: &'a [Step]) -> Result<Vec<Placed<'a>>,
     Ok(placed)
 }
 
+/// The call that a step delivers, if it does.
+fn delivery_of(step: &Step) -> Option<Name> {
+    match step {
+        Step::Deliver { call, .. } => Some(*call),
+        _ => None,
+    }
+}
+
 /// The call that this record delivers, and which step it is.
 fn delivered_by(steps: &[Placed<'_>], vat: u32, at: usize) -> Option<(usize, Name)> {
     let mut numbered = steps.iter().enumerate();
     let (index, placed) = numbered.find(|(_, placed)| placed.vat == vat && placed.at == at)?;
-    match placed.step {
-        Step::Deliver { call, .. } => Some((index, *call)),
-        _ => None,
-    }
+    Some((index, delivery_of(placed.step)?))
 }
 
 /// A record that makes a call, and the reference through which it does.
@@ -50,22 +55,14 @@ struct MadeCall {
 
 /// What a step makes, if it makes a call.
 fn making_of(placed: &Placed<'_>) -> Option<MadeCall> {
-    match placed.step {
-        Step::Make {
-            vat,
-            number,
-            reference,
-            ..
-        } => Some(MadeCall {
-            at: placed.at,
-            call: Name {
-                maker: *vat,
-                number: *number,
-            },
-            through: *reference,
-        }),
-        _ => None,
-    }
+    let Step::Make { reference, .. } = placed.step else {
+        return None;
+    };
+    Some(MadeCall {
+        at: placed.at,
+        call: call_of_step(placed.step)?,
+        through: *reference,
+    })
 }
 
 /// The record that makes a call.
@@ -96,14 +93,10 @@ fn delivered_of<'a>(
     maker: u32,
     calls: &BTreeSet<u64>,
 ) -> Option<(Placed<'a>, Name)> {
-    for placed in steps {
-        if let Step::Deliver { call, .. } = placed.step {
-            if call.maker == maker && calls.contains(&call.number) {
-                return Some((*placed, *call));
-            }
-        }
-    }
-    None
+    let mut deliveries = steps
+        .iter()
+        .filter_map(|one| Some((*one, delivery_of(one.step)?)));
+    deliveries.find(|(_, call)| call.maker == maker && calls.contains(&call.number))
 }
 
 /// Whether a step sends or receives this call, and then the word for it.
@@ -121,98 +114,71 @@ fn passes(step: &Step, sought: Name) -> Option<&'static str> {
 
 /// Appends the note of a call's way: each record that sends or receives it.
 fn put_way(text: &mut NoteText, steps: &[Placed<'_>], call: Name) {
-    text.tell(
-        "note: the way of call # of vat #:",
-        &[call.number, u64::from(call.maker)],
-    );
+    let sentence = "note: the way of call # of vat #:";
+    text.tell(sentence, &[call.number, u64::from(call.maker)]);
     let mut between = " ";
     for placed in steps {
         if let Some(word) = passes(placed.step, call) {
-            text.words(between);
-            text.words(word);
             let place = [placed.at as u64, u64::from(placed.vat)];
-            text.tell(" by record # of vat #", &place);
+            text.words(between);
+            text.tell_of("@ by record # of vat #", &word, &place);
             between = ", ";
         }
     }
-    text.words(if between == " " {
-        " no vat sent it\n"
-    } else {
-        "\n"
-    });
+    if between == " " {
+        text.words(" no vat sent it");
+    }
+    text.words("\n");
 }
 
 /// Appends the notes of a call that overtook another, and of the delivery of that one.
 fn put_pair(
-    alloc: Global,
     text: &mut NoteText,
     logs: &Logs<'_>,
     steps: &[Placed<'_>],
     early: MadeCall,
-    late: (Placed<'_>, Name),
+    (delivery, overtaken): (Placed<'_>, Name),
 ) {
-    let (delivery, overtaken) = late;
     let Some(first) = making_in(steps, overtaken) else {
         return;
     };
     let maker = early.call.maker;
     let (vat, number) = (u64::from(maker), overtaken.number);
-    text.tell(
-        "note: call # of vat # overtakes call # of vat #, which was made before it through the same reference #\n",
+    text.note(
+        "call # of vat # overtakes call # of vat #, which was made before it through the same reference #",
         &[early.call.number, vat, number, vat, first.through],
     );
-    put_place(alloc, text, logs, maker, first.at);
-    put_place(alloc, text, logs, maker, early.at);
-    text.tell(
-        "note: call # of vat # is delivered only by record # of vat #\n",
+    put_place(text, logs, maker, first.at);
+    put_place(text, logs, maker, early.at);
+    text.note(
+        "call # of vat # is delivered only by record # of vat #",
         &[number, vat, delivery.at as u64, u64::from(delivery.vat)],
     );
-    put_place(alloc, text, logs, delivery.vat, delivery.at);
+    put_place(text, logs, delivery.vat, delivery.at);
     put_way(text, steps, overtaken);
     put_way(text, steps, early.call);
-    put_embargo_cause(alloc, text, logs, steps, overtaken, early.call);
+    put_embargo_cause(text, logs, steps, overtaken, early.call);
 }
 
 /// Appends the notes of the call that the one overtakes which this record of a vat delivers.
-fn put_overtaken(
-    alloc: Global,
-    text: &mut NoteText,
-    logs: &Logs<'_>,
-    steps: &[Placed<'_>],
-    vat: u32,
-    at: usize,
-) {
-    let Some((place, call)) = delivered_by(steps, vat, at) else {
-        return;
-    };
-    let Some(early) = making_in(steps, call) else {
-        return;
-    };
-    let Some(calls) = made(text, made_before(alloc, steps, early)) else {
-        return;
-    };
-    let (_, behind) = steps.split_at(place.min(steps.len()));
-    if let Some(late) = delivered_of(behind, call.maker, &calls) {
-        put_pair(alloc, text, logs, steps, early, late);
+fn put_overtaken(text: &mut NoteText, logs: &Logs<'_>, steps: &[Placed<'_>], vat: u32, at: usize) {
+    if let Some((place, call)) = delivered_by(steps, vat, at)
+        && let Some(early) = making_in(steps, call)
+        && let Some(calls) = text.granted(made_before(text.alloc(), steps, early))
+        && let Some(behind) = steps.get(place..)
+        && let Some(late) = delivered_of(behind, call.maker, &calls)
+    {
+        put_pair(text, logs, steps, early, late);
     }
 }
 
 /// Appends the notes of the call that the record of this number overtakes, whose vat this is: both MAKEs, where the earlier
 /// call is delivered, and the way of each.
-pub(crate) fn put_order_cause(
-    alloc: Global,
-    text: &mut NoteText,
-    logs: &Logs<'_>,
-    vat: u32,
-    at: usize,
-) {
-    let Some(findings) = logs.findings else {
-        return;
-    };
-    let Some(run) = found(text, run_of_findings(alloc, findings)) else {
-        return;
-    };
-    if let Some(steps) = made(text, placed_steps(alloc, run.steps())) {
-        put_overtaken(alloc, text, logs, steps.as_slice(), vat, at);
+pub(crate) fn put_order_cause(text: &mut NoteText, logs: &Logs<'_>, vat: u32, at: usize) {
+    if let Some(findings) = logs.findings
+        && let Some(run) = text.found(run_of_findings(text.alloc(), findings))
+        && let Some(steps) = text.granted(placed_steps(text.alloc(), run.steps()))
+    {
+        put_overtaken(text, logs, steps.as_slice(), vat, at);
     }
 }

@@ -3,11 +3,10 @@
 use crate::cases::link_notes::{Arrival, put_counterpart, put_received};
 use case_book::Findings;
 use case_report::{Breach, Report};
-use link_check::LinkOutcome;
+use link_check::{LinkFinding, LinkOutcome};
 use past_records::NoteText;
 use record_notes::{Logs, put_record};
 use report_lines::Answer;
-use std::alloc::Global;
 use vat_rules::{Outcome, VatFinding};
 
 /// How many findings of a kind are told of, at most.
@@ -16,49 +15,35 @@ const MOST: usize = 16;
 /// Appends a report behind these words.
 fn put_report(text: &mut NoteText, words: &str, report: Report) {
     text.words(words);
-    text.shown(&Answer::Report(report));
-    text.words("\n");
+    text.tell_of("@\n", &Answer::Report(report), &[]);
 }
 
 /// Appends the notes of a link on which a message was received that wasn't sent so.
-fn put_link(alloc: Global, text: &mut NoteText, logs: &Logs<'_>, arrival: Arrival) {
-    let Arrival {
-        connection,
-        end,
-        message,
-    } = arrival;
-    put_report(
-        text,
-        "note: a message was received that wasn't sent so, and what follows may come of that: ",
-        Report::Link {
-            connection,
-            end,
-            message,
-        },
-    );
-    put_received(alloc, text, logs, arrival);
-    put_counterpart(alloc, text, logs, arrival);
+fn put_link(text: &mut NoteText, logs: &Logs<'_>, arrival: Arrival) {
+    let words =
+        "note: a message was received that wasn't sent so, and what follows may come of that: ";
+    put_report(text, words, arrival.report());
+    put_received(text, logs, arrival);
+    put_counterpart(text, logs, arrival);
+}
+
+/// The message that broke a link.
+fn arrival_of(link: &LinkFinding) -> Option<Arrival> {
+    match link.outcome() {
+        LinkOutcome::Broken { end, message } => Some(Arrival::new(link.connection(), end, message)),
+        LinkOutcome::Good { .. } => None,
+    }
 }
 
 /// Appends the notes of each link on which a message was received that wasn't sent so, but for the one that is told of already.
-pub(crate) fn put_links(alloc: Global, text: &mut NoteText, logs: &Logs<'_>, told: Option<u32>) {
+pub(crate) fn put_links(text: &mut NoteText, logs: &Logs<'_>, told: Option<u32>) {
     let Some(findings) = logs.findings else {
         return;
     };
-    let mut left = MOST;
-    for link in findings.links() {
-        let connection = link.connection();
-        if let LinkOutcome::Broken { end, message } = link.outcome() {
-            if left > 0 && told != Some(connection) {
-                let arrival = Arrival {
-                    connection,
-                    end,
-                    message,
-                };
-                put_link(alloc, text, logs, arrival);
-                left -= 1;
-            }
-        }
+    let arrivals = findings.links().iter().filter_map(arrival_of);
+    let others = arrivals.filter(|one| told != Some(one.connection));
+    for arrival in others.take(MOST) {
+        put_link(text, logs, arrival);
     }
 }
 
@@ -68,7 +53,7 @@ fn is_good(finding: &VatFinding) -> bool {
 }
 
 /// Appends the notes of a log that isn't good, or is outside.
-fn put_vat(alloc: Global, text: &mut NoteText, logs: &Logs<'_>, finding: &VatFinding) {
+fn put_vat(text: &mut NoteText, logs: &Logs<'_>, finding: &VatFinding) {
     let vat = finding.log().vat();
     let (at, report) = match *finding.outcome() {
         Outcome::Good(_) => return,
@@ -80,70 +65,53 @@ fn put_vat(alloc: Global, text: &mut NoteText, logs: &Logs<'_>, finding: &VatFin
     };
     put_report(text, "note: in another log: ", report);
     if let Some(name) = logs.name_of(vat) {
-        put_record(alloc, text, name, finding.log(), at as usize);
+        put_record(text, name, finding.log(), at as usize);
     }
 }
 
 /// Appends the notes of each other log that isn't good, or is outside.
-fn put_bad_vats(
-    alloc: Global,
-    text: &mut NoteText,
-    logs: &Logs<'_>,
-    findings: &Findings,
-    told: u32,
-) {
-    let mut left = MOST;
-    for finding in findings.vats() {
-        if left > 0 && finding.log().vat() != told && !is_good(finding) {
-            put_vat(alloc, text, logs, finding);
-            left -= 1;
-        }
+fn put_bad_vats(text: &mut NoteText, logs: &Logs<'_>, findings: &Findings, told: u32) {
+    let vats = findings.vats().iter();
+    let bad = vats.filter(|one| one.log().vat() != told && !is_good(one));
+    for finding in bad.take(MOST) {
+        put_vat(text, logs, finding);
     }
 }
 
-/// Appends the note of the logs that are good by themselves.
-fn put_good_vats(text: &mut NoteText, findings: &Findings) {
-    let mut any = false;
-    let good = findings.vats().iter().filter(|finding| is_good(finding));
-    for finding in good.take(MOST) {
-        text.words(if any {
-            ", "
-        } else {
-            "note: good by themselves: "
-        });
-        text.tell("vat #", &[u64::from(finding.log().vat())]);
-        any = true;
+/// The number of the vat of a log that is good by itself.
+fn good_vat(finding: &VatFinding) -> Option<u32> {
+    is_good(finding).then_some(finding.log().vat())
+}
+
+/// The number of a connection on which all that was received was sent so.
+fn good_link(link: &LinkFinding) -> Option<u32> {
+    let is_good = matches!(link.outcome(), LinkOutcome::Good { .. });
+    is_good.then_some(link.connection())
+}
+
+/// Appends a note of the numbers of those of these that are good, if any are.
+fn put_good<T, F: Fn(&T) -> Option<u32>>(text: &mut NoteText, words: [&str; 2], all: &[T], good: F)
+    requires { F.IsAlwaysCallable good }
+{
+    let [mut between, kind] = words;
+    for number in all.iter().filter_map(|one| good(one)).take(MOST) {
+        text.words(between);
+        text.words(kind);
+        text.shown(&number);
+        between = ", ";
     }
-    if any {
+    if between == ", " {
         text.words("\n");
     }
 }
 
-/// Appends the note of the connections on which all that was received was sent so.
-fn put_good_links(text: &mut NoteText, findings: &Findings) {
-    let mut any = false;
-    let links = findings.links().iter();
-    let good = links.filter(|link| matches!(link.outcome(), LinkOutcome::Good { .. }));
-    for link in good.take(MOST) {
-        text.words(if any {
-            ", "
-        } else {
-            "note: received as sent: "
-        });
-        text.tell("connection #", &[u64::from(link.connection())]);
-        any = true;
+/// Appends the notes of what was found of the other logs, and of the logs and links that are good.
+pub(crate) fn put_others(text: &mut NoteText, logs: &Logs<'_>, told: u32) {
+    if let Some(findings) = logs.findings {
+        put_bad_vats(text, logs, findings, told);
+        let words = ["note: good by themselves: ", "vat "];
+        put_good(text, words, findings.vats(), good_vat);
+        let words = ["note: received as sent: ", "connection "];
+        put_good(text, words, findings.links(), good_link);
     }
-    if any {
-        text.words("\n");
-    }
-}
-
-/// Appends the notes of what was found of the other logs, and of the links that are good.
-pub(crate) fn put_others(alloc: Global, text: &mut NoteText, logs: &Logs<'_>, told: u32) {
-    let Some(findings) = logs.findings else {
-        return;
-    };
-    put_bad_vats(alloc, text, logs, findings, told);
-    put_good_vats(text, findings);
-    put_good_links(text, findings)
 }

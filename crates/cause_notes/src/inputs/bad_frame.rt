@@ -1,10 +1,10 @@
 //! Frames that aren't read, or aren't judged, and words that spell none.
 
-use crate::found::put_line;
 use crate::inputs::bad_file::put_kind;
 use crate::inputs::file_kind::FileKind;
 use bytes::Bytes;
 use cap_frame::FrameError;
+use hex::FromHexError;
 use past_records::NoteText;
 use report_lines::{Fault, why_sentence};
 use rpc_view::{Outside, ReadError};
@@ -51,27 +51,19 @@ fn message_sentence(fault: Fault) -> Option<&'static str> {
 /// Appends the note of why a frame isn't read, where it isn't outside of what is judged.
 pub(crate) fn put_unread_frame(text: &mut NoteText, fault: Fault) {
     if let Some(sentence) = message_sentence(fault) {
-        put_line(text, "note: the frame isn't read: ", sentence);
+        text.line("note: the frame isn't read: ", sentence);
     }
 }
 
 /// Appends the note of a word that isn't hexadecimal.
-pub(crate) fn put_hex(alloc: Global, text: &mut NoteText, hex: Option<&str>) {
-    let Some(hex) = hex else {
-        return;
-    };
-    match hex::decode(alloc, hex) {
-        Err(hex::FromHexError::InvalidHexCharacter { c, index }) => {
-            text.words("note: '");
-            text.shown(&c.escape_debug());
-            let place = [index as u64];
-            text.tell(
-                "' at place #, counted from 0, is no hexadecimal digit\n",
-                &place,
-            );
+pub(crate) fn put_hex(text: &mut NoteText, hex: Option<&str>) {
+    match hex.map(|hex| hex::decode(text.alloc(), hex)) {
+        Some(Err(FromHexError::InvalidHexCharacter { c, index })) => {
+            let sentence = "'@' at place #, counted from 0, is no hexadecimal digit";
+            text.note_of(sentence, &c.escape_debug(), &[index as u64]);
         }
-        Err(hex::FromHexError::OddLength) => {
-            text.words("note: two digits make a byte, and their count is odd\n");
+        Some(Err(FromHexError::OddLength)) => {
+            text.say("two digits make a byte, and their count is odd");
         }
         _ => {}
     }
@@ -89,19 +81,14 @@ fn outside_sentence(why: Outside) -> &'static str {
 /// Appends the note of why a frame of the command line isn't judged, or isn't read.
 pub(crate) fn put_frame(text: &mut NoteText, fault: Fault) {
     match fault {
-        Fault::Outside(why) => put_line(text, "note: not judged: ", outside_sentence(why)),
+        Fault::Outside(why) => text.line("note: not judged: ", outside_sentence(why)),
         _ => put_unread_frame(text, fault),
     }
 }
 
 /// Appends the note of what a file is that was to hold frames; else why the last of them isn't judged, or isn't read.
-pub(crate) fn put_last_frame(
-    alloc: Global,
-    text: &mut NoteText,
-    file: &(String, Bytes),
-    fault: Fault,
-) {
-    if put_kind(alloc, text, file, FileKind::Other) {
+pub(crate) fn put_last_frame(text: &mut NoteText, file: &(String, Bytes), fault: Fault) {
+    if put_kind(text, file, FileKind::Other) {
         return;
     }
     let (words, sentence) = match fault {
@@ -110,6 +97,6 @@ pub(crate) fn put_last_frame(
     };
     if let Some(sentence) = sentence {
         text.file("note: the last frame of ", file.0.as_str(), words);
-        put_line(text, sentence, "");
+        text.line(sentence, "");
     }
 }

@@ -20,7 +20,7 @@ fn last_file<'a, S: RememberingSource>(source: &'a S) -> Option<&'a (String, Byt
 }
 
 /// Appends the notes of the file that was read last and is bad: its name, and what it is or why it isn't what it was to be.
-fn put_bad<S: RememberingSource>(alloc: Global, text: &mut NoteText, source: &S, fault: Fault) {
+fn put_bad<S: RememberingSource>(text: &mut NoteText, source: &S, fault: Fault) {
     let (words, wanted) = match fault {
         Fault::Log(_) => ("note: the bad log is ", FileKind::Log),
         Fault::Order(_) => ("note: the bad order is ", FileKind::Order),
@@ -29,16 +29,14 @@ fn put_bad<S: RememberingSource>(alloc: Global, text: &mut NoteText, source: &S,
     if let Some(name) = source.last() {
         text.file(words, name, "\n");
     }
-    let Some(file) = last_file(source) else {
-        return;
-    };
-    if put_kind(alloc, text, file, wanted) {
-        return;
-    }
-    match fault {
-        Fault::Log(fault) => put_log_fault(text, fault, file.1.len()),
-        Fault::Order(fault) => put_order_fault(text, fault, file.1.len()),
-        _ => put_form(alloc, text, file.1.as_slice()),
+    if let Some(file) = last_file(source)
+        && !put_kind(text, file, wanted)
+    {
+        match fault {
+            Fault::Log(fault) => put_log_fault(text, fault, file.1.len()),
+            Fault::Order(fault) => put_order_fault(text, fault, file.1.len()),
+            _ => put_form(text, file.1.as_slice()),
+        }
     }
 }
 
@@ -53,34 +51,32 @@ pub(crate) fn put_left_out<S: RememberingSource>(
     if let Some((name, bytes)) = last_file(source) {
         let left = bytes.len().saturating_sub(end);
         text.tell("note: the last # bytes of ", &[left as u64]);
-        text.name(name.as_str());
-        text.tell(" are left out, from byte # on\n", &[end as u64]);
+        text.file("", name.as_str(), " are left out, from byte ");
+        text.tell("# on\n", &[end as u64]);
         put_log_fault(text, fault, bytes.len());
     }
 }
 
 /// Appends the notes of a fault of the input.
 pub(crate) fn put_fault<S: SearchingSource>(
-    alloc: Global,
     text: &mut NoteText,
     source: &S,
     hex: Option<&str>,
     fault: Fault,
 ) {
-    let logs = Logs {
-        files: source.kept(),
-        findings: None,
-    };
+    let files = source.kept();
+    let findings = None;
+    let logs = Logs { files, findings };
     match fault {
-        Fault::CannotRead => put_unread(alloc, text, source),
+        Fault::CannotRead => put_unread(text, source),
         Fault::OutOfMemory => {}
-        Fault::BadHex => put_hex(alloc, text, hex),
-        Fault::Log(_) | Fault::Order(_) | Fault::Form => put_bad(alloc, text, source, fault),
-        Fault::Refused(refusal) => put_refused(alloc, text, &logs, refusal),
-        Fault::Untied(fault) => put_untied(alloc, text, &logs, fault),
+        Fault::BadHex => put_hex(text, hex),
+        Fault::Log(_) | Fault::Order(_) | Fault::Form => put_bad(text, source, fault),
+        Fault::Refused(refusal) => put_refused(text, &logs, refusal),
+        Fault::Untied(fault) => put_untied(text, &logs, fault),
         Fault::Frame(_) | Fault::Read(_) | Fault::BadTag | Fault::Outside(_) => {
             match last_file(source) {
-                Some(file) => put_last_frame(alloc, text, file, fault),
+                Some(file) => put_last_frame(text, file, fault),
                 None => put_frame(text, fault),
             }
         }

@@ -18,32 +18,25 @@ pub(crate) enum FileKind {
     Other,
 }
 
-/// Whether bytes are a JSON object that has `logs`.
-fn is_case(alloc: Global, bytes: &[u8]) -> Result<bool, AllocError> {
+/// The JSON value that bytes are, if they are one.
+pub(crate) fn value_of(alloc: Global, bytes: &[u8]) -> Result<Option<Value>, AllocError> {
     match Value::from_slice(alloc, bytes) {
-        Ok(value) => Ok(value.is_object() && value.get("logs").is_some()),
+        Ok(value) => Ok(Some(value)),
         Err(error) if error.is_memory() => Err(AllocError),
-        Err(_) => Ok(false),
+        Err(_) => Ok(None),
     }
 }
 
 /// What a file with these bytes is.
-///
-/// # Errors
-///
-/// Out of memory.
 pub(crate) fn kind_of(alloc: Global, bytes: &[u8]) -> Result<FileKind, AllocError> {
     match bytes {
         [] => Ok(FileKind::Empty),
         [b'V', b'A', b'T', b'L', b'O', b'G', b'0', b'1'..=b'3', ..] => Ok(FileKind::Log),
         [b'V', b'A', b'T', b'O', b'R', b'D', b'0', b'1', ..] => Ok(FileKind::Order),
-        _ => {
-            if is_case(alloc, bytes)? {
-                Ok(FileKind::Case)
-            } else {
-                Ok(FileKind::Other)
-            }
-        }
+        _ => match value_of(alloc, bytes)? {
+            Some(value) if value.is_object() && value.get("logs").is_some() => Ok(FileKind::Case),
+            _ => Ok(FileKind::Other),
+        },
     }
 }
 

@@ -1,6 +1,5 @@
 //! Files that can't be read, and those that are there in their place.
 
-use crate::found::{found, made};
 use crate::inputs::file_kind::{FileKind, kind_of};
 use case_files::RememberingSource;
 use past_records::NoteText;
@@ -13,21 +12,16 @@ pub trait SearchingSource: RememberingSource {
     fn has(&self, name: &str) -> bool;
 }
 
-/// The name that a recorder gives to a log when it stops.
-fn stopped_name(alloc: Global, name: &str) -> Result<String, AllocError> {
-    format!(in alloc; "{name}.stopped")
-}
-
 /// Appends the note of the log of a recorder that stopped, where it is there in the place of this one: a recorder gives it another
 /// name then.
-fn put_stopped<S: SearchingSource>(alloc: Global, text: &mut NoteText, source: &S, name: &str) {
-    match made(text, stopped_name(alloc, name)) {
-        Some(stopped) if source.has(stopped.as_str()) => text.file(
-            "note: ",
-            stopped.as_str(),
-            " is there: its recorder stopped before its vat did, and said why on standard error\n",
-        ),
-        _ => {}
+fn put_stopped<S: SearchingSource>(text: &mut NoteText, source: &S, name: &str) {
+    let alloc = text.alloc();
+    if let Some(stopped) = text.granted(format!(in alloc; "{name}.stopped"))
+        && source.has(stopped.as_str())
+    {
+        let words =
+            " is there: its recorder stopped before its vat did, and said why on standard error\n";
+        text.file("note: ", stopped.as_str(), words);
     }
 }
 
@@ -45,44 +39,34 @@ fn case_folder<S: SearchingSource>(alloc: Global, source: &S) -> Result<Option<&
     }
 }
 
-/// The name of a file in a folder.
-fn name_in(alloc: Global, folder: &str, name: &str) -> Result<String, AllocError> {
-    format!(in alloc; "{folder}/{name}")
-}
-
 /// Appends the note of a file that a case file names, where it would be found from the folder of the case file.
-fn put_beside<S: SearchingSource>(alloc: Global, text: &mut NoteText, source: &S, name: &str) {
-    let Some(folder) = found(text, case_folder(alloc, source)) else {
-        return;
-    };
-    match made(text, name_in(alloc, folder, name)) {
-        Some(beside) if !name.starts_with('/') && source.has(beside.as_str()) => {
-            text.file(
-                "note: ",
-                beside.as_str(),
-                " is there: the names in a case file start in the folder in which vataudit runs, so run it in ",
-            );
-            text.file("", folder, "\n");
-        }
-        _ => {}
+fn put_beside<S: SearchingSource>(text: &mut NoteText, source: &S, name: &str) {
+    let alloc = text.alloc();
+    if let Some(folder) = text.found(case_folder(alloc, source))
+        && let Some(beside) = text.granted(format!(in alloc; "{folder}/{name}"))
+        && !name.starts_with('/')
+        && source.has(beside.as_str())
+    {
+        let words = " is there: the names in a case file start in the folder ";
+        text.file("note: ", beside.as_str(), words);
+        text.file("in which vataudit runs, so run it in ", folder, "\n");
     }
 }
 
 /// Appends the notes of the file that was asked for last and can't be read: the system's reason, where it is kept; and of one
 /// that isn't there, which file is.
-pub(crate) fn put_unread<S: SearchingSource>(alloc: Global, text: &mut NoteText, source: &S) {
+pub(crate) fn put_unread<S: SearchingSource>(text: &mut NoteText, source: &S) {
     let Some(name) = source.last() else {
         return;
     };
     let why = source.refusal();
     text.file("note: cannot read ", name, "");
     if let Some(why) = why {
-        text.words(": ");
-        text.shown(why);
+        text.tell_of(": @", why, &[]);
     }
     text.words("\n");
     if why.is_some_and(|why| why.kind() == ErrorKind::NotFound) {
-        put_stopped(alloc, text, source, name);
-        put_beside(alloc, text, source, name);
+        put_stopped(text, source, name);
+        put_beside(text, source, name);
     }
 }

@@ -1,6 +1,5 @@
 //! The messages of a file of frames.
 
-use crate::found::found;
 use bytes::Bytes;
 use cap_frame::Frame;
 use past_records::NoteText;
@@ -43,16 +42,13 @@ fn answer_of(alloc: Global, bytes: &Bytes, number: u64) -> Result<Option<Answer>
 /// Appends the note of a message: the name of its file, its number, and the message as `frame --later` prints it. Gives why it
 /// isn't read, where that is so.
 pub(super) fn put_message(
-    alloc: Global,
     text: &mut NoteText,
     file: &(String, Bytes),
     number: u64,
 ) -> Option<Fault> {
-    let answer = found(text, answer_of(alloc, &file.1, number))?;
+    let answer = text.found(answer_of(text.alloc(), &file.1, number))?;
     text.file("note: ", file.0.as_str(), ": message ");
-    text.tell("# ", &[number]);
-    text.shown(&answer);
-    text.words("\n");
+    text.tell_of("# @\n", &answer, &[number]);
     match answer {
         Answer::Fault(fault) => Some(fault),
         _ => None,

@@ -46,10 +46,6 @@ fn completed(alloc: Global, order: &[u32], logs: &[Arc<VatLog>]) -> Result<Vec<u
 
 /// The order in which the records of a case are drawn: the order that is given, or else the one in which each frame is
 /// received as soon as may be, as far as it goes; and behind it what it leaves, by rising vat number.
-///
-/// # Errors
-///
-/// Out of memory.
 pub fn arrange(alloc: Global, case: &Case, given: Option<&Order>) -> Result<Vec<u32>, AllocError>
     ensures { IfOk result
         (λ all. all.items ≡ arranged case.now (option_copied given.entry)) }

@@ -102,10 +102,7 @@ fn next_seat(seats: &[Seat]) -> Option<&Seat>
 fn next_turn(seats: &[Seat], links: &[Link]) -> Option<VatTurn>
     ensures { result ≡ option_map (turn_of_seat links.now) (next_seat seats.now) }
 {
-    match next_seat(seats) {
-        Some(seat) => Some(seat.turn(links)),
-        None => None,
-    }
+    Some(next_seat(seats)?.turn(links))
 }
 
 /// Each vat follows a turn.
@@ -129,10 +126,6 @@ fn followed(seats: Vec<Seat>, turn: VatTurn) -> Result<Vec<Seat>, AllocError>
 
 /// The vats whose records come, turn by turn: whoever receives a frame goes on first, then whoever has one under way to it.
 /// So each frame is received as soon as may be.
-///
-/// # Errors
-///
-/// Out of memory.
 pub fn flow_of(alloc: Global, case: &Case) -> Result<Vec<u32>, AllocError>
     ensures { IfOk result (λ order. order.items ≡ flow_of case.now) }
 {

@@ -10,10 +10,7 @@ use crate::record_place::Place;
 pub fn is_step_of(order: &[u32], step: usize, vat: u32) -> bool
     ensures { result ≡ passes_in (is_vat vat) (slice_get order.now step) }
 {
-    match order.get(step) {
-        Some(other) => *other == vat,
-        None => false,
-    }
+    matches!(order.get(step), Some(other) if *other == vat)
 }
 
 /// How many steps of a vat stand before a step of an order: the number of its record that comes there.
@@ -63,11 +60,7 @@ pub fn step_of(order: &[u32], place: Place) -> Option<usize>
 pub fn place_at(order: &[u32], step: usize) -> Option<Place>
     ensures { result ≡ place_at order.now step }
 {
-    match order.get(step) {
-        Some(vat) => Some(Place {
-            vat: *vat,
-            number: record_number(order, step, *vat),
-        }),
-        None => None,
-    }
+    let vat = *order.get(step)?;
+    let number = record_number(order, step, vat);
+    Some(Place { vat, number })
 }

@@ -49,10 +49,7 @@ fn first_on(coming: &[u32], connection: u32) -> Option<usize>
 fn takes_frame(coming: &[u32], passage: Option<(bool, u32)>) -> bool
     ensures { result ≡ takes_frame (is_coming coming.now) passage }
 {
-    match passage {
-        Some((false, connection)) => first_on(coming, connection).is_some(),
-        _ => false,
-    }
+    matches!(passage, Some((false, connection)) if first_on(coming, connection).is_some())
 }
 
 /// Whether a record that passes nothing, or passes so, may come.
@@ -80,10 +77,7 @@ fn sent_in(links: &[Link], vat: u32, passage: Option<(bool, u32)>) -> Option<(u3
     ensures { result ≡ frame_addressee links.now vat passage }
 {
     match passage {
-        Some((true, connection)) => match other_end(links, connection, vat) {
-            Some(to) => Some((to, connection)),
-            None => None,
-        },
+        Some((true, connection)) => Some((other_end(links, connection, vat)?, connection)),
         _ => None,
     }
 }
@@ -106,10 +100,9 @@ fn is_awaited(coming: &[u32]) -> bool
 fn take_frame(coming: &mut Vec<u32>, received: Option<u32>)
     ensures { coming.new.items ≡ taken received coming.old.items }
 {
-    let Some(connection) = received else {
-        return;
-    };
-    if let Some(at) = first_on(coming, connection) {
+    if let Some(connection) = received
+        && let Some(at) = first_on(coming, connection)
+    {
         coming.remove(at);
     }
 }
@@ -118,15 +111,12 @@ fn take_frame(coming: &mut Vec<u32>, received: Option<u32>)
 fn hear_frame(coming: &mut Vec<u32>, vat: u32, sent: Option<(u32, u32)>) -> Result<(), AllocError>
     ensures { OnOk result (coming.new.items ≡ heard vat sent coming.old.items) }
 {
-    match sent {
-        Some((to, connection)) => {
-            if to == vat {
-                coming.push(connection)?;
-            }
-            Ok(())
-        }
-        None => Ok(()),
+    if let Some((to, connection)) = sent
+        && to == vat
+    {
+        coming.push(connection)?;
     }
+    Ok(())
 }
 
 impl Seat {
@@ -149,10 +139,7 @@ impl Seat {
     fn passage(&self) -> Option<(bool, u32)>
         ensures { result ≡ option_and_then passage_of (next_of_seat self.now) }
     {
-        match body_in(&self.log, self.came) {
-            Some(body) => body.passage(),
-            None => None,
-        }
+        body_in(&self.log, self.came)?.passage()
     }
 
     /// Whether the next record receives a frame that is under way.
@@ -166,10 +153,8 @@ impl Seat {
     pub fn goes_on(&self) -> bool
         ensures { result ≡ seat_goes_on self.now }
     {
-        match body_in(&self.log, self.came) {
-            Some(body) => may_pass(&self.coming, body.passage()),
-            None => false,
-        }
+        let next = body_in(&self.log, self.came);
+        matches!(next, Some(body) if may_pass(&self.coming, body.passage()))
     }
 
     /// Whether it may, and a frame is under way to the vat.

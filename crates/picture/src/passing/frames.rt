@@ -12,10 +12,7 @@ use vat_log::VatLog;
 pub fn is_passage(log: &VatLog, number: usize, sent: bool, connection: u32) -> bool
     ensures { result ≡ passes_in (passes sent connection) (slice_get log.now.records number) }
 {
-    match body_in(log, number) {
-        Some(body) => body.passes(sent, connection),
-        None => false,
-    }
+    matches!(body_in(log, number), Some(body) if body.passes(sent, connection))
 }
 
 /// How many records of a log before this one send, or receive, a frame on a connection.
@@ -51,11 +48,7 @@ fn frame_number(log: &VatLog, frame: usize, sent: bool, connection: u32) -> Opti
 pub fn frame_at(log: &VatLog, frame: usize, sent: bool, connection: u32) -> Option<Place>
     ensures { result ≡ place_of_frame sent connection frame log.now }
 {
-    match frame_number(log, frame, sent, connection) {
-        Some(number) => Some(Place {
-            vat: log.vat(),
-            number,
-        }),
-        None => None,
-    }
+    let number = frame_number(log, frame, sent, connection)?;
+    let vat = log.vat();
+    Some(Place { vat, number })
 }

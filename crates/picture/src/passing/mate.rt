@@ -59,14 +59,12 @@ pub fn mate_of(case: &Case, place: Place, body: &Body) -> Option<Place>
 pub fn mate_at(case: &Case, place: Place) -> Option<Place>
     ensures { result ≡ mate_at case.now place }
 {
-    let body = body_at(case.logs(), place)?;
-    mate_of(case, place, body)
+    mate_of(case, place, body_at(case.logs(), place)?)
 }
 
 /// The record by which a vat received the message of this number on a connection.
 pub fn receipt(case: &Case, connection: u32, vat: u32, message: usize) -> Option<Place>
     ensures { result ≡ receipt_of_frame case.now.logs connection vat message }
 {
-    let log = log_of(case.logs(), vat)?;
-    frame_at(log, message, false, connection)
+    frame_at(log_of(case.logs(), vat)?, message, false, connection)
 }

@@ -9,8 +9,7 @@ use crate::drawing::Picture;
 use crate::svg::points::y_of;
 use case_report::Report;
 use report_lines::{ShownReport, breach_code};
-use std::fmt;
-use std::fmt::{Display, Formatter};
+use std::fmt::{self, Display, Formatter};
 
 /// The begin of a picture: its width and height.
 #[derive(Clone, Copy)]

@@ -7,8 +7,7 @@ use crate::drawing::Picture;
 use crate::svg::captions::{Above, Below, Head, OpeningTag, Sentence};
 use crate::svg::element_lists::{Arrows, Bands, Columns, Shapes};
 use crate::svg::style::Style;
-use std::fmt;
-use std::fmt::{Display, Formatter};
+use std::fmt::{self, Display, Formatter};
 
 /// A picture as an SVG, with rows that lead to those of a table, or without.
 #[derive(Clone, Copy)]

@@ -8,8 +8,7 @@ ghost use Rattle.picture.specs.Rows.{room_in};
 use crate::drawing::Picture;
 use crate::svg::shapes::{Band, RowShape};
 use crate::window::room_in;
-use std::fmt;
-use std::fmt::{Display, Formatter};
+use std::fmt::{self, Display, Formatter};
 
 /// Columns, one behind the other.
 #[derive(Clone, Copy)]

@@ -4,8 +4,7 @@ ghost use Rattle.std.specs.Prelude.{◌≡◌, ◌≤◌, Some};
 ghost use Rattle.picture.specs.Picture.{point_at, point_text, reach_point, x_of, y_of};
 
 use crate::arrow::Reach;
-use std::fmt;
-use std::fmt::{Display, Formatter};
+use std::fmt::{self, Display, Formatter};
 
 /// A point of a picture.
 #[derive(Clone, Copy)]
@@ -44,10 +43,8 @@ pub fn y_of(line: u32) -> u64
 pub fn point_at(column: u32, line: u32) -> Point
     ensures { result ≡ point_at column line }
 {
-    Point {
-        x: x_of(column),
-        y: y_of(line),
-    }
+    let (x, y) = (x_of(column), y_of(line));
+    Point { x, y }
 }
 
 /// Where the other end of an arrow is drawn, whose row is in this column and on this line.

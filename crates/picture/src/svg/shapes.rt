@@ -13,8 +13,7 @@ use crate::record_place::Place;
 use crate::row::{Row, Tone, label_of};
 use crate::svg::points::{Point, point_at, reach_point, x_of, y_of};
 use rpc_view::RpcMessage;
-use std::fmt;
-use std::fmt::{Display, Formatter};
+use std::fmt::{self, Display, Formatter};
 use vat_log::Body;
 
 impl Display for Column {
@@ -75,17 +74,12 @@ fn line_of(arrow: &Arrow) -> LineSegment
 {
     let here = point_at(arrow.column, arrow.line);
     let there = reach_point(arrow.column, arrow.line, arrow.reach);
-    if arrow.sent {
-        LineSegment {
-            from: here,
-            to: there,
-        }
+    let (from, to) = if arrow.sent {
+        (here, there)
     } else {
-        LineSegment {
-            from: there,
-            to: here,
-        }
-    }
+        (there, here)
+    };
+    LineSegment { from, to }
 }
 
 impl Display for Arrow {
@@ -195,10 +189,8 @@ impl Display for Words<'_> {
 fn words_at(row: &Row<'_>) -> Point
     ensures { result ≡ words_begin_at row.now }
 {
-    Point {
-        x: x_of(row.column) + 14,
-        y: words_y(row.body, row.line),
-    }
+    let (x, y) = (x_of(row.column) + 14, words_y(row.body, row.line));
+    Point { x, y }
 }
 
 /// A row: its mark and its words.
@@ -215,10 +207,8 @@ impl Display for PlainRow<'_> {
             mark: mark_word(&row.message),
             at: point_at(row.column, row.line),
         };
-        let words = Words {
-            at: words_at(row),
-            label: label_of(row),
-        };
+        let (at, label) = (words_at(row), label_of(row));
+        let words = Words { at, label };
         write!(f, "{circle}{words}")
     }
 }

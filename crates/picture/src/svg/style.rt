@@ -3,8 +3,7 @@
 ghost use Rattle.std.specs.Prelude.{◌≡◌, Some};
 ghost use Rattle.picture.specs.Picture.{dark, letters, marks, strokes, style, tip};
 
-use std::fmt;
-use std::fmt::{Display, Formatter};
+use std::fmt::{self, Display, Formatter};
 
 /// Letters, on a light page. A colour stands where it is used, since not every viewer knows variables.
 fn letters() -> &'static str

@@ -98,20 +98,15 @@ impl Way {
             Does::Answers | Does::Ends => Stands::Ended,
             Does::Receives | Does::SendsOn => Stands::Sent,
         };
-        let Some(question) = question else {
-            return Ok(None);
-        };
-        self.stands_at = None;
-        Ok(Some(Sent { vat, question, at }))
+        if question.is_some() {
+            self.stands_at = None;
+        }
+        Ok(question.map(|question| Sent { vat, question, at }))
     }
 
     /// What became of a call at the vat to which it was sent; and how it was sent on from there, if it was.
     fn add_hop(&mut self, case: &OpenCase<'_>, sent: Sent) -> Result<Option<Sent>, AllocError> {
-        let TableKey {
-            connection,
-            number,
-            ..
-        } = sent.question;
+        let connection = sent.question.connection;
         let Some(vat) = case.peer_of(sent.vat, connection) else {
             return Ok(None);
         };
@@ -123,7 +118,7 @@ impl Way {
             self.stands = Stands::NotReceived;
             return Ok(None);
         }
-        let Some((call, at)) = to.question_asked(connection, number) else {
+        let Some((call, at)) = to.question_asked(connection, sent.question.number) else {
             self.stands = Stands::Returned;
             return Ok(None);
         };
@@ -153,7 +148,7 @@ pub(crate) fn way_of(
     at: usize,
 ) -> Result<Way, AllocError> {
     let mut way = Way {
-        hops: Vec::new(told.alloc),
+        hops: Vec::new(told.case.alloc),
         stands: Stands::Sent,
         stands_at: None,
     };
@@ -161,7 +156,7 @@ pub(crate) fn way_of(
         let vat = told.vat();
         way.follow(told.case, Sent { vat, question, at })?;
     } else {
-        let _ = way.add_fate(told.log, call)?;
+        way.add_fate(told.log, call)?;
     }
     Ok(way)
 }

@@ -23,16 +23,10 @@ fn put_question(
 ) {
     let word = if question.ours { "sent" } else { "received" };
     let vat = u64::from(told.vat());
-    text.tell_of(
-        "note: call # of vat # has no Return: it was @",
-        &word,
-        &[call, vat],
-    );
-    text.tell_of(
-        " by record # as question @",
-        &NumberText(question),
-        &[at as u64],
-    );
+    let sentence = "note: call # of vat # has no Return: it was @";
+    text.tell_of(sentence, &word, &[call, vat]);
+    let sentence = " by record # as question @";
+    text.tell_of(sentence, &NumberText(question), &[at as u64]);
     if let Some(way) = text.granted(way_of(told, question, call, at)) {
         put_way(text, &way);
     }
@@ -48,11 +42,8 @@ fn put_left(text: &mut NoteText, told: EndedLog<'_, '_>, left: &Open) {
         Open::Loopback { number, at } => {
             let word = if number.ours { "sent" } else { "received" };
             text.tell_of("note: loopback @, ", &NumberText(*number), &[]);
-            text.tell_of(
-                "@ by record # of vat #, has no echo\n",
-                &word,
-                &[*at as u64, vat],
-            );
+            let sentence = "@ by record # of vat #, has no echo\n";
+            text.tell_of(sentence, &word, &[*at as u64, vat]);
         }
         Open::Promise { reference, at } => text.note(
             "the promise of reference #, vowed by record # of vat #, was neither kept nor broken",
@@ -66,15 +57,12 @@ fn put_left(text: &mut NoteText, told: EndedLog<'_, '_>, left: &Open) {
 fn put_kind<F: Fn(&Open) -> bool>(text: &mut NoteText, told: EndedLog<'_, '_>, kind: &str, is_of: F)
     requires { F.IsAlwaysCallable is_of }
 {
-    let mut count = 0_usize;
-    for left in told.log.list.iter() {
-        if is_of(left) && told.tells(left) {
-            if count < MOST {
-                put_left(text, told, left);
-            }
-            count = count.saturating_add(1);
-        }
+    let list = told.log.list.as_slice();
+    let is_told = |left: &Open| is_of(left) && told.tells(left);
+    for left in list.iter().filter(|left| is_told(left)).take(MOST) {
+        put_left(text, told, left);
     }
+    let count = list.iter().filter(|left| is_told(left)).count();
     put_more(text, told.vat(), count, kind)
 }
 
@@ -89,64 +77,44 @@ fn put_more(text: &mut NoteText, vat: u32, count: usize, kind: &str) {
 /// Appends the note of an abort, with its reason.
 fn put_abort(text: &mut NoteText, told: EndedLog<'_, '_>, abort: Aborted) {
     let word = if abort.sent { "sent" } else { "received" };
-    let vat = u64::from(told.vat());
-    text.tell_of(
-        "note: record # of vat # @ an abort",
-        &word,
-        &[abort.at as u64, vat],
-    );
-    text.tell(" of connection #", &[u64::from(abort.connection)]);
-    put_reason(told.alloc, text, told.log.log, abort.at, ": ");
+    let (vat, connection) = (u64::from(told.vat()), u64::from(abort.connection));
+    let sentence = "note: record # of vat # @ an abort of connection #";
+    text.tell_of(sentence, &word, &[abort.at as u64, vat, connection]);
+    put_reason(text, told.log.log, abort.at, ": ");
     text.words("\n");
 }
 
 /// Appends the notes of the aborts of a log.
 fn put_aborts(text: &mut NoteText, told: EndedLog<'_, '_>) {
-    let mut count = 0_usize;
-    for abort in told.log.aborts.iter() {
-        if told.is_told(abort.sent, abort.connection) {
-            if count < MOST {
-                put_abort(text, told, *abort);
-            }
-            count = count.saturating_add(1);
-        }
+    let aborts = told.log.aborts.as_slice();
+    let is_told = |abort: &Aborted| told.is_told(abort.sent, abort.connection);
+    for abort in aborts.iter().filter(|abort| is_told(abort)).take(MOST) {
+        put_abort(text, told, *abort);
     }
+    let count = aborts.iter().filter(|abort| is_told(abort)).count();
     put_more(text, told.vat(), count, "aborts")
 }
 
 /// Appends the notes of what is open at the end of a log, and of its aborts, which may be why.
 fn put_log(text: &mut NoteText, told: EndedLog<'_, '_>) {
     put_aborts(text, told);
-    put_kind(
-        text,
-        told,
-        "questions without a Return",
-        |left| matches!(left, Open::Question { .. }),
-    );
-    put_kind(
-        text,
-        told,
-        "loopbacks without an echo",
-        |left| matches!(left, Open::Loopback { .. }),
-    );
-    let unsettled = "promises that were neither kept nor broken";
-    put_kind(
-        text,
-        told,
-        unsettled,
-        |left| matches!(left, Open::Promise { .. }),
-    );
+    let kind = "questions without a Return";
+    put_kind(text, told, kind, |one| matches!(one, Open::Question { .. }));
+    let kind = "loopbacks without an echo";
+    put_kind(text, told, kind, |one| matches!(one, Open::Loopback { .. }));
+    let kind = "promises that were neither kept nor broken";
+    put_kind(text, told, kind, |one| matches!(one, Open::Promise { .. }));
     let counts = OpenCounts::of(told.log.list.as_slice()).held();
     if counts.is_any() {
-        let vat = u64::from(told.vat());
-        text.note_of("open at the end of vat #: @", &counts, &[vat]);
+        let vat = [u64::from(told.vat())];
+        text.note_of("open at the end of vat #: @", &counts, &vat);
     }
 }
 
 /// Appends the notes of what is open at the end of a case whose report is yes, or of a log that is good.
-pub fn put_good(alloc: Global, text: &mut NoteText, case: &OpenCase<'_>) {
-    put_under_way(alloc, text, case);
+pub fn put_good(text: &mut NoteText, case: &OpenCase<'_>) {
+    put_under_way(text, case);
     for log in case.logs.iter() {
-        put_log(text, EndedLog { alloc, case, log });
+        put_log(text, EndedLog { case, log });
     }
 }

@@ -3,162 +3,75 @@
 use crate::open::call_ways::{Hop, Way, way_of};
 use crate::open::open_case::{EndedLog, OpenCase};
 use crate::open::under_way::{UnderWay, all_under_way};
+use json_lines::JsonText;
 use left_open::Open;
-use serde_json::{Map, Value, put};
-use std::alloc::{AllocError, Global};
+use std::alloc::AllocError;
 use vat_view::TableKey;
 
-/// The members of an object, and whether memory was refused for one.
-#[derive(Drop)]
-struct ObjectMembers {
-    alloc: Global,
-    members: Map<String, Value>,
-    is_refused: bool,
-}
-
-impl ObjectMembers {
-    /// No member.
-    fn new(alloc: Global) -> ObjectMembers {
-        ObjectMembers {
-            alloc,
-            members: Map::new(alloc),
-            is_refused: false,
-        }
-    }
-
-    /// Adds a member.
-    fn add(&mut self, name: &str, member: Value) {
-        if put(&mut self.members, self.alloc, name, member).is_err() {
-            self.is_refused = true;
-        }
-    }
-
-    /// Adds a number.
-    fn number(&mut self, name: &str, number: u64) {
-        self.add(name, Value::from(number));
-    }
-
-    /// Adds a word.
-    fn word(&mut self, name: &str, word: &str) {
-        match String::from_str(self.alloc, word) {
-            Ok(word) => self.add(name, Value::String(word)),
-            Err(AllocError) => self.is_refused = true,
-        }
-    }
-
-    /// Adds a list, where memory wasn't refused for it.
-    fn list(&mut self, name: &str, items: Result<Vec<Value>, AllocError>) {
-        match items {
-            Ok(items) => self.add(name, Value::Array(items)),
-            Err(AllocError) => self.is_refused = true,
-        }
-    }
-
-    /// Adds a record of a vat.
-    fn record(&mut self, vat: u32, at: usize) {
-        self.number("vat", u64::from(vat));
-        self.number("record", at as u64);
-    }
-
-    /// Adds what a record of a vat opened, under a number of this name.
-    fn opened(&mut self, vat: u32, at: usize, key: TableKey, name: &str) {
-        self.record(vat, at);
-        self.number("connection", u64::from(key.connection));
-        self.number(name, u64::from(key.number));
-        self.add("sent", Value::Bool(key.ours));
-    }
-
-    /// Adds how far a call came, and where it stands.
-    fn way(&mut self, way: &Way) {
-        let (word, _) = way.stands.words();
-        self.list("way", hop_objects(self.alloc, way.hops.as_slice()));
-        self.word("stands", word);
-        self.add("stands_at", Value::from(way.stands_at));
-    }
-
-    /// The object.
-    fn finish(self) -> Result<Value, AllocError> {
-        let ObjectMembers {
-            alloc: _,
-            members,
-            is_refused,
-        } = self;
-        if is_refused {
-            return Err(AllocError);
-        }
-        Ok(Value::Object(members))
+/// The name of the list that something open stands in.
+fn list_of(left: &Open) -> &'static str {
+    match left {
+        Open::Loopback { .. } => "loopbacks",
+        Open::Number { .. } => "numbers",
+        Open::Promise { .. } => "promises",
+        Open::Question { .. } => "questions",
+        Open::Unfinished { .. } => "unfinished",
     }
 }
 
-/// Adds what is made to a list.
-fn push(list: &mut Vec<Value>, made: Result<Value, AllocError>) -> Result<(), AllocError> {
-    match made {
-        Ok(value) => {
-            list.push(value)?;
-            Ok(())
-        }
-        Err(AllocError) => Err(AllocError),
-    }
+/// Writes what a record opened, under a number of this name.
+fn put_opened(json: &mut JsonText<'_>, at: usize, key: TableKey, name: &str) {
+    json.member("connection", key.connection);
+    json.member(name, key.number);
+    json.member("record", at);
+    json.member("sent", key.ours);
 }
 
-/// The object of a record that brings a call further.
-fn hop_object(alloc: Global, hop: Hop) -> Result<Value, AllocError> {
-    let (word, _) = hop.does.words();
-    let mut object = ObjectMembers::new(alloc);
-    object.record(hop.vat, hop.at);
-    object.word("does", word);
-    object.finish()
-}
-
-/// The objects of the records that bring a call further.
-fn hop_objects(alloc: Global, hops: &[Hop]) -> Result<Vec<Value>, AllocError> {
-    let mut list = Vec::new(alloc);
+/// Writes the records that bring a call further.
+fn put_hops(json: &mut JsonText<'_>, hops: &[Hop]) {
+    json.begin_member("way", "[");
     for hop in hops {
-        push(&mut list, hop_object(alloc, *hop))?;
+        let (word, _) = hop.does.words();
+        json.begin("{");
+        json.text_member("does", word);
+        json.member("record", hop.at);
+        json.member("vat", hop.vat);
+        json.end("}");
     }
-    Ok(list)
+    json.end("]");
 }
 
-/// The object of frames that were sent on a connection and never received.
-fn under_way_object(alloc: Global, under_way: UnderWay) -> Result<Value, AllocError> {
-    let mut object = ObjectMembers::new(alloc);
-    object.number("connection", u64::from(under_way.connection));
-    object.record(under_way.sender, under_way.first);
-    object.number("to", u64::from(under_way.receiver));
-    object.number("messages", under_way.count as u64);
-    object.finish()
-}
-
-/// The objects of what was sent in a case and never received.
-fn under_way_objects(alloc: Global, case: &OpenCase<'_>) -> Result<Vec<Value>, AllocError> {
-    let mut list = Vec::new(alloc);
-    for under_way in all_under_way(alloc, case)?.iter() {
-        push(&mut list, under_way_object(alloc, *under_way))?;
+/// Writes where a call of this vat stands, and how far it came.
+fn put_way(json: &mut JsonText<'_>, vat: u32, way: &Way) {
+    let (word, _) = way.stands.words();
+    json.text_member("stands", word);
+    match way.stands_at {
+        Some(vat) => json.member("stands_at", vat),
+        None => json.member("stands_at", "null"),
     }
-    Ok(list)
+    json.member("vat", vat);
+    put_hops(json, way.hops.as_slice());
 }
 
-/// The object of something that is open at the end of a log.
-fn left_object(told: EndedLog<'_, '_>, left: Open) -> Result<Value, AllocError> {
-    let vat = told.vat();
-    let mut object = ObjectMembers::new(told.alloc);
+/// Writes the members of something that is open at the end of a log.
+fn put_left(json: &mut JsonText<'_>, told: EndedLog<'_, '_>, left: Open) {
     match left {
         Open::Question { question, call, at } => {
-            object.opened(vat, at, question, "question");
-            object.number("call", call);
+            json.member("call", call);
+            put_opened(json, at, question, "question");
             match way_of(told, question, call, at) {
-                Ok(way) => object.way(&way),
-                Err(AllocError) => object.is_refused = true,
+                Ok(way) => return put_way(json, told.vat(), &way),
+                Err(AllocError) => json.refuse(),
             }
         }
         Open::Unfinished { question, call, at } => {
-            object.opened(vat, at, question, "question");
-            object.number("call", call);
+            json.member("call", call);
+            put_opened(json, at, question, "question");
         }
-        Open::Loopback { number, at } => object.opened(vat, at, number, "embargo"),
+        Open::Loopback { number, at } => put_opened(json, at, number, "embargo"),
         Open::Promise { reference, at } => {
-            object.record(vat, at);
-            object.number("reference", reference);
+            json.member("record", at);
+            json.member("reference", reference);
         }
         Open::Number {
             number,
@@ -167,54 +80,58 @@ fn left_object(told: EndedLog<'_, '_>, left: Open) -> Result<Value, AllocError> 
             at,
             ..
         } => {
-            object.word("kind", if number.ours { "export" } else { "import" });
-            object.record(vat, at);
-            object.number("connection", u64::from(number.connection));
-            object.number("id", u64::from(number.number));
-            object.number("count", count);
-            object.add("unresolved", Value::Bool(unresolved));
+            json.member("connection", number.connection);
+            json.member("count", count);
+            json.member("id", number.number);
+            json.text_member("kind", if number.ours { "export" } else { "import" });
+            json.member("record", at);
+            json.member("unresolved", unresolved);
         }
     }
-    object.finish()
+    json.member("vat", told.vat());
 }
 
-/// The objects of what is open of a kind in a case, where it is told.
-fn kind_objects<F: Fn(&Open) -> bool>(
-    alloc: Global,
-    case: &OpenCase<'_>,
-    is_of: F,
-) -> Result<Vec<Value>, AllocError>
-    requires { F.IsAlwaysCallable is_of }
-{
-    let mut list = Vec::new(alloc);
+/// Writes the list of this name, of what is open in a case, where it is told.
+fn put_list(json: &mut JsonText<'_>, case: &OpenCase<'_>, name: &str) {
+    json.begin_member(name, "[");
     for log in case.logs.iter() {
-        let told = EndedLog { alloc, case, log };
+        let told = EndedLog { case, log };
         for left in log.list.iter() {
-            if is_of(left) && told.tells(left) {
-                push(&mut list, left_object(told, *left))?;
+            if list_of(left) == name && told.tells(left) {
+                json.begin("{");
+                put_left(json, told, *left);
+                json.end("}");
             }
         }
     }
-    Ok(list)
+    json.end("]");
 }
 
-/// All that is open at the end of a case whose report is yes, or of a log that is good.
-///
-/// # Errors
-///
-/// Out of memory.
-pub fn open_object(alloc: Global, case: &OpenCase<'_>) -> Result<Value, AllocError> {
-    let loopbacks = kind_objects(alloc, case, |left| matches!(left, Open::Loopback { .. }));
-    let numbers = kind_objects(alloc, case, |left| matches!(left, Open::Number { .. }));
-    let promises = kind_objects(alloc, case, |left| matches!(left, Open::Promise { .. }));
-    let questions = kind_objects(alloc, case, |left| matches!(left, Open::Question { .. }));
-    let unfinished = kind_objects(alloc, case, |left| matches!(left, Open::Unfinished { .. }));
-    let mut object = ObjectMembers::new(alloc);
-    object.list("loopbacks", loopbacks);
-    object.list("numbers", numbers);
-    object.list("promises", promises);
-    object.list("questions", questions);
-    object.list("under_way", under_way_objects(alloc, case));
-    object.list("unfinished", unfinished);
-    object.finish()
+/// Writes the list of what was sent and never received.
+fn put_under_way(json: &mut JsonText<'_>, all: &[UnderWay]) {
+    json.begin_member("under_way", "[");
+    for under_way in all {
+        json.begin("{");
+        json.member("connection", under_way.connection);
+        json.member("messages", under_way.count);
+        json.member("record", under_way.first);
+        json.member("to", under_way.receiver);
+        json.member("vat", under_way.sender);
+        json.end("}");
+    }
+    json.end("]");
+}
+
+/// The text of the object of all that is open at the end of a case whose report is yes, or of a log that is good.
+pub fn open_object(case: &OpenCase<'_>) -> Result<String, AllocError> {
+    let under_way = all_under_way(case)?;
+    let mut json = JsonText::new(case.alloc, None);
+    json.begin("{");
+    for name in ["loopbacks", "numbers", "promises", "questions"] {
+        put_list(&mut json, case, name);
+    }
+    put_under_way(&mut json, under_way.as_slice());
+    put_list(&mut json, case, "unfinished");
+    json.end("}");
+    json.into_text()
 }

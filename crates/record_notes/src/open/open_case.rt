@@ -14,6 +14,7 @@ use vat_view::DecodedRecord;
 /// The logs of a case with what is open at the end of each, by rising vat, or one log alone; and the files that they came from.
 #[derive(Drop)]
 pub struct OpenCase<'a> {
+    pub(crate) alloc: Global,
     pub(crate) logs: Vec<OpenLog<'a>>,
     pub(crate) links: &'a [Link],
     files: &'a [(String, Bytes)],
@@ -21,13 +22,8 @@ pub struct OpenCase<'a> {
 
 impl<'a> OpenCase<'a> {
     /// Adds what is open in a log that has these records, and says whether it is good.
-    fn add(
-        &mut self,
-        alloc: Global,
-        log: &'a VatLog,
-        events: &[DecodedRecord],
-    ) -> Result<bool, AllocError> {
-        match OpenLog::of(alloc, log, events)? {
+    fn add(&mut self, log: &'a VatLog, events: &[DecodedRecord]) -> Result<bool, AllocError> {
+        match OpenLog::of(self.alloc, log, events)? {
             Some(open) => {
                 self.logs.push(open)?;
                 Ok(true)
@@ -37,12 +33,12 @@ impl<'a> OpenCase<'a> {
     }
 
     /// Adds what is open in the logs of a case of which this was found, and says whether all are good.
-    fn add_found(&mut self, alloc: Global, findings: &'a Findings) -> Result<bool, AllocError> {
+    fn add_found(&mut self, findings: &'a Findings) -> Result<bool, AllocError> {
         for finding in findings.vats() {
             let Outcome::Good(story) = finding.outcome() else {
                 return Ok(false);
             };
-            if !self.add(alloc, finding.log(), story.events())? {
+            if !self.add(finding.log(), story.events())? {
                 return Ok(false);
             }
         }
@@ -50,17 +46,17 @@ impl<'a> OpenCase<'a> {
     }
 
     /// Reads the frames of a log once more and adds what is open in it, and says whether it is good.
-    fn add_read(&mut self, alloc: Global, log: &'a VatLog) -> Result<bool, AllocError> {
-        match events_of(alloc, log)? {
-            Some(events) => self.add(alloc, log, events.as_slice()),
+    fn add_read(&mut self, log: &'a VatLog) -> Result<bool, AllocError> {
+        match events_of(self.alloc, log)? {
+            Some(events) => self.add(log, events.as_slice()),
             None => Ok(false),
         }
     }
 
     /// Adds what is open in the logs of a case, and says whether all are good.
-    fn add_case(&mut self, alloc: Global, case: &'a Case) -> Result<bool, AllocError> {
+    fn add_case(&mut self, case: &'a Case) -> Result<bool, AllocError> {
         for log in case.logs() {
-            if !self.add_read(alloc, log)? {
+            if !self.add_read(log)? {
                 return Ok(false);
             }
         }
@@ -80,12 +76,9 @@ impl<'a> OpenCase<'a> {
     }
 
     /// A case that has these links and no logs yet.
-    fn without_logs(
-        alloc: Global,
-        links: &'a [Link],
-        files: &'a [(String, Bytes)],
-    ) -> OpenCase<'a> {
+    fn empty(alloc: Global, links: &'a [Link], files: &'a [(String, Bytes)]) -> OpenCase<'a> {
         OpenCase {
+            alloc,
             logs: Vec::new(alloc),
             links,
             files,
@@ -93,58 +86,43 @@ impl<'a> OpenCase<'a> {
     }
 
     /// What is open in a case of which this was found, by the records that the audit kept. None where a log isn't good.
-    ///
-    /// # Errors
-    ///
-    /// Out of memory.
     pub fn of_findings(
         alloc: Global,
         findings: &'a Findings,
         files: &'a [(String, Bytes)],
     ) -> Result<Option<OpenCase<'a>>, AllocError> {
-        let mut open = OpenCase::without_logs(alloc, findings.case().links(), files);
-        let is_good = open.add_found(alloc, findings);
+        let mut open = OpenCase::empty(alloc, findings.case().links(), files);
+        let is_good = open.add_found(findings);
         open.if_good(is_good)
     }
 
     /// What is open in a case, whose frames are read once more, log by log. None where a log isn't good.
-    ///
-    /// # Errors
-    ///
-    /// Out of memory.
     pub fn of_case(
         alloc: Global,
         case: &'a Case,
         files: &'a [(String, Bytes)],
     ) -> Result<Option<OpenCase<'a>>, AllocError> {
-        let mut open = OpenCase::without_logs(alloc, case.links(), files);
-        let is_good = open.add_case(alloc, case);
+        let mut open = OpenCase::empty(alloc, case.links(), files);
+        let is_good = open.add_case(case);
         open.if_good(is_good)
     }
 
     /// What is open in one log that has these records, of which no link is known. None where it isn't good.
-    ///
-    /// # Errors
-    ///
-    /// Out of memory.
     pub fn of_log(
         alloc: Global,
         log: &'a VatLog,
         events: &[DecodedRecord],
         files: &'a [(String, Bytes)],
     ) -> Result<Option<OpenCase<'a>>, AllocError> {
-        let mut open = OpenCase::without_logs(alloc, &[], files);
-        let is_good = open.add(alloc, log, events);
+        let mut open = OpenCase::empty(alloc, &[], files);
+        let is_good = open.add(log, events);
         open.if_good(is_good)
     }
 
     /// The log of a vat.
     pub(crate) fn log_of(&self, vat: u32) -> Option<&OpenLog<'a>> {
-        let at = self
-            .logs
-            .binary_search_by_key(&vat, |one| one.log.vat())
-            .ok()?;
-        self.logs.get(at)
+        let at = self.logs.binary_search_by_key(&vat, |one| one.log.vat());
+        self.logs.get(at.ok()?)
     }
 
     /// How many records the logs have.
@@ -160,11 +138,9 @@ impl<'a> OpenCase<'a> {
 
     /// The vat at the other end of a connection, where the case has it. Its links stand by rising connection.
     pub(crate) fn peer_of(&self, vat: u32, connection: u32) -> Option<u32> {
-        let at = self
-            .links
-            .binary_search_by_key(&connection, |link| link.connection)
-            .ok()?;
-        let link = self.links.get(at)?;
+        let links = self.links;
+        let at = links.binary_search_by_key(&connection, |link| link.connection);
+        let link = links.get(at.ok()?)?;
         if link.a == vat {
             Some(link.b)
         } else if link.b == vat {
@@ -178,7 +154,6 @@ impl<'a> OpenCase<'a> {
 /// A log of a case, to be told of.
 #[derive(Clone, Copy)]
 pub(crate) struct EndedLog<'a, 'b> {
-    pub(crate) alloc: Global,
     pub(crate) case: &'a OpenCase<'b>,
     pub(crate) log: &'a OpenLog<'b>,
 }
@@ -198,14 +173,11 @@ impl EndedLog<'_, '_> {
     /// Whether this is told of the log. A question without a Return isn't where the vat sent on what it was asked.
     pub(crate) fn tells(self, left: &Open) -> bool {
         let key = match left {
-            Open::Question { question, call, .. } => {
-                if question.ours && self.log.was_asked(*call) {
-                    return false;
-                }
-                *question
+            Open::Question { question, call, .. } if question.ours => {
+                return !self.log.was_asked(*call);
             }
-            Open::Unfinished { question, .. } => *question,
-            Open::Loopback { number, .. } => *number,
+            Open::Question { question, .. } | Open::Unfinished { question, .. } => question,
+            Open::Loopback { number, .. } => number,
             Open::Promise { .. } | Open::Number { .. } => return true,
         };
         self.is_told(key.ours, key.connection)

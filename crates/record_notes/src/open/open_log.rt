@@ -29,6 +29,7 @@ pub(crate) struct Aborted {
 /// one; and its aborts.
 #[derive(Drop)]
 pub(crate) struct OpenLog<'a> {
+    alloc: Global,
     pub(crate) log: &'a VatLog,
     pub(crate) list: Vec<Open>,
     asked: BTreeMap<TableKey, (u64, usize)>,
@@ -42,6 +43,7 @@ impl<'a> OpenLog<'a> {
     /// A log with this open at its end, of which nothing else is told yet.
     fn with(alloc: Global, log: &'a VatLog, list: Vec<Open>) -> OpenLog<'a> {
         OpenLog {
+            alloc,
             log,
             list,
             asked: BTreeMap::new(alloc),
@@ -55,46 +57,37 @@ impl<'a> OpenLog<'a> {
     /// Adds the questions without a Return that a peer asked, and their calls.
     fn add_asked(&mut self) -> Result<(), AllocError> {
         for left in self.list.iter() {
-            if let Open::Question { question, call, at } = left {
-                if !question.ours {
-                    self.asked.insert(*question, (*call, *at))?;
-                    self.fates.insert(*call, None)?;
-                }
+            if let Open::Question { question, call, at } = left
+                && !question.ours
+            {
+                self.asked.insert(*question, (*call, *at))?;
+                self.fates.insert(*call, None)?;
             }
         }
         Ok(())
     }
 
     /// A frame passes on a connection by this record.
-    fn pass(
-        &mut self,
-        alloc: Global,
-        connection: u32,
-        sent: bool,
-        at: usize,
-    ) -> Result<(), AllocError> {
+    fn pass(&mut self, connection: u32, sent: bool, at: usize) -> Result<(), AllocError> {
         if !sent {
             let count = self.received_on(connection).saturating_add(1);
             self.received.insert(connection, count)?;
         } else if let Some(sends) = self.sends.get_mut(&connection) {
             sends.push(at)?;
         } else {
-            let sends = Vec::from_slice(alloc, &[at])?;
-            self.sends.insert(connection, sends)?;
+            self.sends
+                .insert(connection, Vec::from_slice(self.alloc, &[at])?)?;
         }
         Ok(())
     }
 
     /// Adds what this record tells.
-    fn see(&mut self, alloc: Global, event: &DecodedRecord, at: usize) -> Result<(), AllocError> {
-        if let Some((call, does)) = step_of(event) {
-            if let Some(fate) = self.fates.get_mut(&call) {
-                *fate = Some(Fate {
-                    at,
-                    does,
-                    question: event.question_opened(),
-                });
-            }
+    fn see(&mut self, event: &DecodedRecord, at: usize) -> Result<(), AllocError> {
+        let question = event.question_opened();
+        if let Some((call, does)) = step_of(event)
+            && let Some(fate) = self.fates.get_mut(&call)
+        {
+            *fate = Some(Fate { at, does, question });
         }
         let DecodedRecord::Wire {
             sent,
@@ -112,14 +105,14 @@ impl<'a> OpenLog<'a> {
                 at,
             })?;
         }
-        self.pass(alloc, *connection, *sent, at)
+        self.pass(*connection, *sent, at)
     }
 
     /// Adds what its records tell.
-    fn add(&mut self, alloc: Global, events: &[DecodedRecord]) -> Result<(), AllocError> {
+    fn add(&mut self, events: &[DecodedRecord]) -> Result<(), AllocError> {
         self.add_asked()?;
         for (at, event) in events.iter().enumerate() {
-            self.see(alloc, event, at)?;
+            self.see(event, at)?;
         }
         Ok(())
     }
@@ -134,7 +127,7 @@ impl<'a> OpenLog<'a> {
             return Ok(None);
         };
         let mut open = OpenLog::with(alloc, log, list);
-        match open.add(alloc, events) {
+        match open.add(events) {
             Ok(()) => Ok(Some(open)),
             Err(AllocError) => Err(AllocError),
         }
@@ -163,10 +156,8 @@ impl<'a> OpenLog<'a> {
 
     /// The records that send a frame on a connection.
     pub(crate) fn sends_on(&self, connection: u32) -> &[usize] {
-        match self.sends.get(&connection) {
-            Some(sends) => sends.as_slice(),
-            None => &[],
-        }
+        let sends = self.sends.get(&connection);
+        sends.map(|sends| sends.as_slice()).unwrap_or(&[])
     }
 
     /// How many frames the records before this one send on a connection.

@@ -58,10 +58,10 @@ fn fails(event: &DecodedRecord, question: TableKey) -> bool {
 /// The record that answered a received call with an exception or as canceled.
 fn failed_by(past: &Past<'_>, call: u64) -> Option<usize> {
     let came = brought_by(past, call)?;
-    let question = past.get(came)?.question_opened()?;
-    if question.ours {
-        return None;
-    }
+    let question = past
+        .get(came)?
+        .question_opened()
+        .filter(|question| !question.ours)?;
     past.find(came, |event| fails(event, question))
 }
 
@@ -129,10 +129,10 @@ fn repeated_path(results: &[(u64, Path)]) -> Option<&Path> {
 
 /// Notes the path that stands twice in an answer.
 fn put_repeated(text: &mut NoteText, event: &DecodedRecord) {
-    if let DecodedRecord::Answer { results, .. } = event {
-        if let Some(path) = repeated_path(results.as_slice()) {
-            text.note_of("path @ stands there twice", &Shown(path), &[]);
-        }
+    if let DecodedRecord::Answer { results, .. } = event
+        && let Some(path) = repeated_path(results.as_slice())
+    {
+        text.note_of("path @ stands there twice", &Shown(path), &[]);
     }
 }
 

@@ -24,7 +24,7 @@ fn put_abort(past: &Past<'_>, text: &mut NoteText, over: u32, out: bool) -> bool
     };
     let word = if out { "sent" } else { "received" };
     text.tell_of("note: record # @ an abort there", &word, &[at as u64]);
-    put_reason(past.alloc, text, past.log, at, ": ");
+    put_reason(text, past.log, at, ": ");
     text.words("\n");
     true
 }

@@ -1,13 +1,11 @@
 //! Capability tables that don't say what the references beside them stand for.
 
 use crate::rules::number_changes::put_changed;
-use crate::rules::view_text::ViewText;
-use crate::rules::view_turns::put_reference;
+use crate::rules::view_turns::{ViewText, put_reference};
 use past_records::{NoteText, Past, put_life, put_opening};
 use report_lines::Shown;
 use rpc_view::{Descriptor, Edition};
-use std::fmt;
-use std::fmt::{Display, Formatter};
+use std::fmt::{self, Display, Formatter};
 use vat_view::{BorrowedView, DecodedRecord, View};
 
 /// The entry of a record's table at a place, as people are told of it. A Resolve has one capability and no table.
@@ -19,8 +17,7 @@ impl Display for EntryText<'_> {
         if is_resolve(self.0) {
             return write!(f, "the Resolve's capability");
         }
-        let place = self.1;
-        write!(f, "entry {place} of its table")
+        write!(f, "entry {} of its table", self.1)
     }
 }
 
@@ -38,7 +35,7 @@ fn is_resolve(event: &DecodedRecord) -> bool {
 }
 
 /// Notes that there are more or fewer references than capabilities, where it is so; and says whether it is.
-fn put_unpaired(past: &Past<'_>, text: &mut NoteText) -> bool {
+pub(crate) fn put_unpaired(past: &Past<'_>, text: &mut NoteText) -> bool {
     if past.state.notes_each(&past.event) {
         return false;
     }
@@ -57,18 +54,13 @@ fn put_unpaired(past: &Past<'_>, text: &mut NoteText) -> bool {
     true
 }
 
-/// The same of a record that was received.
-pub(crate) fn put_references(past: &Past<'_>, text: &mut NoteText) {
-    let _ = put_unpaired(past, text);
-}
-
 /// Notes the record since which an entry stands for what it does.
 fn put_since(past: &Past<'_>, text: &mut NoteText, descriptor: &Descriptor) {
     if let Some(life) = past.life_of(descriptor).filter(|life| life.held > 0) {
         put_life(past, text, life);
     }
     if let Some(key) = past.event.question_described(descriptor) {
-        let _ = put_opening(past, text, key);
+        put_opening(past, text, key);
     }
 }
 
@@ -99,15 +91,14 @@ fn open_end<'a>(past: &'a Past<'_>, place: usize, view: &'a View) -> Option<Borr
         return None;
     }
     let end = past.state.end(view)?;
-    let is_open = match end {
-        BorrowedView::Object(_) => false,
-        BorrowedView::Import(at, brought) => match past.get(at) {
-            Some(event) => !is_hosted(event, brought),
-            None => true,
-        },
-        _ => true,
+    let is_settled = match end {
+        BorrowedView::Object(_) => true,
+        BorrowedView::Import(at, brought) => {
+            past.get(at).is_some_and(|event| is_hosted(event, brought))
+        }
+        _ => false,
     };
-    if is_open { Some(end) } else { None }
+    if is_settled { None } else { Some(end) }
 }
 
 /// Notes of an entry that says senderHosted of what is still open, and says whether it does.
@@ -144,11 +135,8 @@ pub(crate) fn put_apart(
 ) {
     if past.edition() == Edition::Later && !past.state.are_one(known, stands) {
         text.tell_of("note: @ and ", &ViewText::of(known), &[]);
-        text.tell_of(
-            "@ lead to nothing in common\n",
-            &EntryText(&past.event, place),
-            &[],
-        );
+        let sentence = "@ lead to nothing in common\n";
+        text.tell_of(sentence, &EntryText(&past.event, place), &[]);
     }
 }
 
@@ -157,10 +145,10 @@ fn put_if_amiss(past: &Past<'_>, text: &mut NoteText, entry: NotedEntry<'_>) -> 
     let Some(view) = text.granted(past.state.view_of_reference(entry.reference)) else {
         return true;
     };
-    if let (Some(view), Some(stands)) = (&view, entry.stands) {
-        if goes_for(past, view, stands) {
-            return put_open(past, text, entry, view);
-        }
+    if let (Some(view), Some(stands)) = (&view, entry.stands)
+        && goes_for(past, view, stands)
+    {
+        return put_open(past, text, entry, view);
     }
     let shown = EntryText(&past.event, entry.place);
     text.note_of("@ has reference # beside it", &shown, &[entry.reference]);
@@ -202,10 +190,9 @@ fn put_light(past: &Past<'_>, text: &mut NoteText) -> bool {
     let noted = past.event.references().len();
     let is_light = past.event.question_returned_lightly().is_some() && noted > 0;
     if is_light {
-        text.note(
-            "it says noFinishNeeded, so no capability was expected in its table, and references noted are #",
-            &[noted as u64],
-        );
+        let sentence =
+            "it says noFinishNeeded, so no capability was expected in its table, and references noted are #";
+        text.note(sentence, &[noted as u64]);
     }
     is_light
 }

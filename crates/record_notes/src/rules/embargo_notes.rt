@@ -1,7 +1,6 @@
 //! What is wrong with an embargo: an echo that is asked for, or sent, where it may not be.
 
-use crate::rules::view_text::ViewText;
-use crate::rules::view_turns::put_turns;
+use crate::rules::view_turns::{ViewText, put_way};
 use past_records::{NoteText, Past};
 use rpc_view::{Edition, RpcMessage};
 use std::alloc::AllocError;
@@ -20,7 +19,7 @@ fn put_target(past: &Past<'_>, text: &mut NoteText) {
     match text.granted(past.state.view_of_target(&past.event)) {
         Some(Some(view)) => {
             text.note_of("its target stands for @", &ViewText::of(&view), &[]);
-            put_turns(past, text, view);
+            put_way(past, text, view);
         }
         Some(None) => text.say("its target stands for nothing"),
         None => {}
@@ -93,10 +92,10 @@ fn held_by(
     asked: usize,
 ) -> Result<Option<(usize, u64)>, AllocError> {
     for (at, event) in past.events.iter().enumerate().take(asked) {
-        if let Some(call) = call_received(event, echoed.connection) {
-            if holds(past, call, echoed)? {
-                return Ok(Some((at, call)));
-            }
+        if let Some(call) = call_received(event, echoed.connection)
+            && holds(past, call, echoed)?
+        {
+            return Ok(Some((at, call)));
         }
     }
     Ok(None)
@@ -105,11 +104,8 @@ fn held_by(
 /// Notes that an echo goes elsewhere than its senderLoopback was meant for.
 fn put_elsewhere(past: &Past<'_>, text: &mut NoteText, echoed: TableKey, asked: usize) {
     if let Some(view) = past.state.embargoed_view(echoed) {
-        text.note_of(
-            "record # received its senderLoopback, whose target stood for @",
-            &ViewText::of(view),
-            &[asked as u64],
-        );
+        let sentence = "record # received its senderLoopback, whose target stood for @";
+        text.note_of(sentence, &ViewText::of(view), &[asked as u64]);
         if let Some(end) = past.state.end(view) {
             text.note_of("that leads to @", &ViewText(end), &[]);
         }

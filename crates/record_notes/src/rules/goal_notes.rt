@@ -1,13 +1,11 @@
 //! Calls that go elsewhere than where they were meant to.
 
 use crate::rules::call_notes::put_origin;
-use crate::rules::view_text::ViewText;
-use crate::rules::view_turns::{Way, put_way};
+use crate::rules::view_turns::{ViewText, Way, put_way};
 use past_records::{NoteText, Past, put_life, put_opening};
 use rpc_view::{CallHead, Edition, RpcMessage};
 use std::alloc::AllocError;
-use std::fmt;
-use std::fmt::{Display, Formatter};
+use std::fmt::{self, Display, Formatter};
 use vat_view::{BorrowedView, DecodedRecord};
 
 /// Notes the record by which the vat hosts an object.
@@ -27,7 +25,7 @@ fn put_goal(past: &Past<'_>, text: &mut NoteText, call: u64) -> Option<Way> {
     if !past.state.is_at_vat(call) {
         return None;
     }
-    let _ = put_origin(past, text, call);
+    put_origin(past, text, call);
     let goal = text.granted(past.state.goal_of(call))??;
     text.note_of("call # is meant for @", &ViewText::of(&goal), &[call]);
     put_way(past, text, goal)
@@ -64,8 +62,7 @@ struct Method {
 impl Display for Method {
     fn fmt<W: fmt::Write>(&self, f: &mut Formatter<W>) -> fmt::Result {
         let interface = self.interface;
-        let method = self.method;
-        write!(f, "interface {interface:016x} method {method}")
+        write!(f, "interface {interface:016x} method {}", self.method)
     }
 }
 
@@ -86,7 +83,7 @@ fn method_asked(past: &Past<'_>, call: u64) -> Result<Option<Method>, AllocError
 fn put_method(past: &Past<'_>, text: &mut NoteText, call: u64, sent: Method) -> bool {
     match text.granted(method_asked(past, call)) {
         Some(Some(asked)) if asked != sent => {
-            let _ = put_origin(past, text, call);
+            put_origin(past, text, call);
             text.tell_of("note: it asked for @", &asked, &[]);
             text.tell_of(", and is sent for @\n", &sent, &[]);
             true
@@ -98,7 +95,7 @@ fn put_method(past: &Past<'_>, text: &mut NoteText, call: u64, sent: Method) -> 
 
 /// Notes what the target of the record's call stands for, and the record since which it does.
 fn put_target(past: &Past<'_>, text: &mut NoteText) {
-    let Some(Some(target)) = text.granted(past.state.view_of_target(&past.event)) else {
+    let Some(target) = text.found(past.state.view_of_target(&past.event)) else {
         return;
     };
     text.note_of("its target stands for @", &ViewText::of(&target), &[]);
@@ -107,7 +104,7 @@ fn put_target(past: &Past<'_>, text: &mut NoteText) {
         put_life(past, text, life);
     }
     if let Some(key) = past.event.question_targeted() {
-        let _ = put_opening(past, text, key);
+        put_opening(past, text, key);
     }
 }
 

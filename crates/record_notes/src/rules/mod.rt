@@ -10,5 +10,4 @@ mod promise_notes;
 mod reference_notes;
 mod result_notes;
 pub(crate) mod rule_cause;
-mod view_text;
 mod view_turns;

@@ -2,8 +2,7 @@
 
 use crate::rules::desc_notes::put_entry;
 use crate::rules::number_changes::resolved_by;
-use crate::rules::view_text::ViewText;
-use crate::rules::view_turns::{binder_of, promise_settled_by, put_bound, put_turns};
+use crate::rules::view_turns::{ViewText, binder_of, promise_settled_by, put_bound, put_way};
 use past_records::{NoteText, NumberLife, Past, put_life};
 use vat_view::{DecodedRecord, View};
 
@@ -13,7 +12,7 @@ pub(crate) fn put_unvowed(past: &Past<'_>, text: &mut NoteText) {
     else {
         return;
     };
-    let Some(Some(view)) = text.granted(past.state.view_of_reference(*reference)) else {
+    let Some(view) = text.found(past.state.view_of_reference(*reference)) else {
         return;
     };
     if let Some(at) = binder_of(past, *reference) {
@@ -22,7 +21,7 @@ pub(crate) fn put_unvowed(past: &Past<'_>, text: &mut NoteText) {
     let View::Promise(_) = view else {
         return;
     };
-    if let Some(Some((at, word))) = text.granted(promise_settled_by(past, &view)) {
+    if let Some((at, word)) = text.found(promise_settled_by(past, &view)) {
         text.note_of("it was @ by record #", &word, &[at as u64]);
     }
 }
@@ -46,22 +45,22 @@ fn put_if_settled(past: &Past<'_>, text: &mut NoteText, life: NumberLife, began:
 
 /// Notes what the capability of a Resolve stands for.
 fn put_cap(past: &Past<'_>, text: &mut NoteText) {
-    if let Some(stands) = text.granted(past.state.views_of_descriptors(&past.event)) {
-        if let Some(view) = stands.first() {
-            put_entry(past, text, 0, view.as_ref());
-        }
+    if let Some(stands) = text.granted(past.state.views_of_descriptors(&past.event))
+        && let Some(view) = stands.first()
+    {
+        put_entry(past, text, 0, view.as_ref());
     }
 }
 
 /// Notes what a promise stands for and where that leads, of a Resolve that says something else.
 fn put_unturned(past: &Past<'_>, text: &mut NoteText, life: NumberLife) {
     put_life(past, text, life);
-    let Some(Some(promise)) = text.granted(past.state.view_of_number(life.key)) else {
+    let Some(promise) = text.found(past.state.view_of_number(life.key)) else {
         return;
     };
     text.note_of("it stands for @", &ViewText::of(&promise), &[]);
     let stays = past.state.stays(&promise);
-    put_turns(past, text, promise);
+    put_way(past, text, promise);
     if stays {
         text.say("no record before says what that turned out to be");
     }

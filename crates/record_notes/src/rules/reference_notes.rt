@@ -115,12 +115,8 @@ fn put_named(past: &Past<'_>, text: &mut NoteText) {
                 put_if_unbound(past, text, *reference);
             }
         }
-        DecodedRecord::Wire {
-            sent: true,
-            references,
-            ..
-        } => {
-            for reference in references.as_slice().iter().take(MOST) {
+        DecodedRecord::Wire { sent: true, .. } => {
+            for reference in past.event.references().iter().take(MOST) {
                 put_if_unbound(past, text, *reference);
             }
         }
@@ -132,10 +128,8 @@ fn put_named(past: &Past<'_>, text: &mut NoteText) {
 pub(crate) fn put_unbound(past: &Past<'_>, text: &mut NoteText) {
     for reference in past.event.new_references().iter().take(MOST) {
         if let Some(at) = binder_of(past, *reference) {
-            text.note(
-                "reference # was bound by record #",
-                &[*reference, at as u64],
-            );
+            let sentence = "reference # was bound by record #";
+            text.note(sentence, &[*reference, at as u64]);
         }
     }
     put_named(past, text);

@@ -2,7 +2,7 @@
 
 use crate::rules::call_notes::{put_left, put_origin, settled_by};
 use crate::rules::desc_notes::{put_apart, put_entry};
-use crate::rules::view_turns::put_turns;
+use crate::rules::view_turns::put_way;
 use past_records::{NoteText, Past, QuestionOpening, opening_of};
 use rpc_view::{Descriptor, Edition, Outcome, Payload, RpcMessage};
 use std::alloc::AllocError;
@@ -19,7 +19,7 @@ fn answers(body: &Body, sought: u64) -> bool {
 
 /// Notes of a Return of results that aren't known.
 fn put_unknown(past: &Past<'_>, text: &mut NoteText, call: u64) {
-    let _ = put_origin(past, text, call);
+    put_origin(past, text, call);
     put_left(past, text, call);
     match settled_by(past, call) {
         Some(at) => text.note("record # ended it without results", &[at as u64]),
@@ -74,7 +74,7 @@ fn put_other(past: &Past<'_>, text: &mut NoteText, payload: &Payload, call: u64)
         return;
     };
     let other = first_other(past, payload, stands.as_slice(), call);
-    let Some(Some((known, place))) = text.granted(other) else {
+    let Some((known, place)) = text.found(other) else {
         return;
     };
     if let Some(at) = settled_by(past, call) {
@@ -83,7 +83,7 @@ fn put_other(past: &Past<'_>, text: &mut NoteText, payload: &Payload, call: u64)
     let Some(shown) = text.granted(known.copy()) else {
         return;
     };
-    put_turns(past, text, shown);
+    put_way(past, text, shown);
     if let Some(view) = stands.get(place) {
         if let Some(view) = view {
             put_apart(past, text, &known, place, view);
@@ -95,11 +95,8 @@ fn put_other(past: &Past<'_>, text: &mut NoteText, payload: &Payload, call: u64)
 /// Notes that the question was or wasn't asked so that its results stay with their answerer.
 fn put_asked(text: &mut NoteText, opening: QuestionOpening) {
     let how = if opening.yourself { "with" } else { "without" };
-    text.note_of(
-        "record # asked @ sendResultsTo yourself",
-        &how,
-        &[opening.at as u64],
-    );
+    let sentence = "record # asked @ sendResultsTo yourself";
+    text.note_of(sentence, &how, &[opening.at as u64]);
 }
 
 /// Notes of results that are sent.
@@ -123,10 +120,8 @@ fn put_taken(past: &Past<'_>, text: &mut NoteText, call: u64, taken: TableKey) {
         _ => text.note("no record before answers call # by another", &[call]),
     }
     if let (Some(other), Some(asked)) = (past.state.call_of(taken), opening_of(past, taken)) {
-        text.note(
-            "question # stands for call #, since record #",
-            &[u64::from(taken.number), other, asked.at as u64],
-        );
+        let sentence = "question # stands for call #, since record #";
+        text.note(sentence, &[u64::from(taken.number), other, asked.at as u64]);
     }
 }
 

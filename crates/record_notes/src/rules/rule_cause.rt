@@ -2,7 +2,7 @@
 
 use crate::rules::call_notes::{put_absent, put_answered};
 use crate::rules::connection_notes::put_closed;
-use crate::rules::desc_notes::{put_misdescribed, put_references};
+use crate::rules::desc_notes::{put_misdescribed, put_unpaired};
 use crate::rules::embargo_notes::put_embargo;
 use crate::rules::goal_notes::put_astray;
 use crate::rules::promise_notes::{put_misresolved, put_unvowed};
@@ -15,8 +15,8 @@ use vat_rules::Rule;
 
 /// Notes of the records that lead to a broken rule, where they are found. The log is walked up to the record; for a number
 /// that a Return or a Finish gives back too often, twice.
-pub fn put_rule_cause(alloc: Global, text: &mut NoteText, log: &VatLog, at: usize, rule: Rule) {
-    if let Some(Some(past)) = text.granted(Past::of(alloc, log, at)) {
+pub fn put_rule_cause(text: &mut NoteText, log: &VatLog, at: usize, rule: Rule) {
+    if let Some(past) = text.found(Past::of(text.alloc(), log, at)) {
         put_past_cause(&past, text, rule);
     }
 }
@@ -37,7 +37,9 @@ pub fn put_past_cause(past: &Past<'_>, text: &mut NoteText, rule: Rule) {
         Rule::Count => put_miscounted(past, text),
         Rule::Result => put_misreturned(past, text),
         Rule::Resolve => put_misresolved(past, text),
-        Rule::RecvRef => put_references(past, text),
+        Rule::RecvRef => {
+            put_unpaired(past, text);
+        }
         Rule::Emb => put_embargo(past, text),
     }
 }

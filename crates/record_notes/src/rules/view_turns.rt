@@ -1,13 +1,41 @@
-//! Where views turn, with the records that turned them.
+//! What references stand for, as people are told of it, and where that turns, with the records that turned it.
 
 use crate::call_steps::{Does, step_of};
-use crate::rules::view_text::ViewText;
 use past_records::{NoteText, Past};
+use report_lines::Shown;
 use std::alloc::AllocError;
-use vat_view::{DecodedRecord, View};
+use std::fmt::{self, Display, Formatter};
+use vat_view::{BorrowedView, DecodedRecord, View};
 
 /// How many turns are told of one after another, at most.
 const MOST: usize = 12;
+
+/// What a reference or a number stands for.
+#[derive(Clone, Copy)]
+pub(crate) struct ViewText<'a>(pub(crate) BorrowedView<'a>);
+
+impl<'a> ViewText<'a> {
+    /// This view.
+    pub(crate) fn of(view: &'a View) -> ViewText<'a> {
+        ViewText(BorrowedView::of(view))
+    }
+}
+
+impl Display for ViewText<'_> {
+    fn fmt<W: fmt::Write>(&self, f: &mut Formatter<W>) -> fmt::Result {
+        match self.0 {
+            BorrowedView::Object(object) => write!(f, "object {object}"),
+            BorrowedView::Promise(reference) => write!(f, "the promise of reference {reference}"),
+            BorrowedView::Field(call, path) => {
+                let path = Shown(path);
+                write!(f, "result [{path}] of call {call}")
+            }
+            BorrowedView::Import(at, place) => {
+                write!(f, "what record {at} brought as capability {place}")
+            }
+        }
+    }
+}
 
 /// A turn of a view: the record, and to what.
 #[derive(Drop)]
@@ -135,11 +163,8 @@ impl Way {
         let mut from = &self.first;
         for turn in self.turns.iter() {
             text.tell_of("note: @ is ", &ViewText::of(from), &[]);
-            text.tell_of(
-                "@, by record #\n",
-                &ViewText::of(&turn.to),
-                &[turn.at as u64],
-            );
+            let sentence = "@, by record #\n";
+            text.tell_of(sentence, &ViewText::of(&turn.to), &[turn.at as u64]);
             from = &turn.to;
         }
     }
@@ -174,26 +199,18 @@ pub(crate) fn put_bound(text: &mut NoteText, reference: u64, view: &View, binder
     let view = ViewText::of(view);
     match binder {
         Some(at) => {
-            text.note_of(
-                "reference # is @, bound by record #",
-                &view,
-                &[reference, at as u64],
-            );
+            let sentence = "reference # is @, bound by record #";
+            text.note_of(sentence, &view, &[reference, at as u64]);
         }
         None => text.note_of("reference # is @", &view, &[reference]),
     }
 }
 
-/// Appends a note of each turn from a view on.
-pub(crate) fn put_turns(past: &Past<'_>, text: &mut NoteText, view: View) {
-    let _ = put_way(past, text, view);
-}
-
 /// Appends the note of the record that bound a reference, and what it stands for; and one of each turn from there on.
 pub(crate) fn put_reference(past: &Past<'_>, text: &mut NoteText, reference: u64) {
-    if let Some(Some(view)) = text.granted(past.state.view_of_reference(reference)) {
+    if let Some(view) = text.found(past.state.view_of_reference(reference)) {
         put_bound(text, reference, &view, binder_of(past, reference));
-        put_turns(past, text, view);
+        put_way(past, text, view);
     }
 }
 

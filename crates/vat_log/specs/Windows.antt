@@ -79,6 +79,6 @@ StopFrom begin e (stop.Fault told) = FaultFrom begin e told × (IsCut e → ⊥)
 
 -- Why a window gives no record: all that came was given, or there is a fault if nothing more comes, or whatever comes.
 abbrev pub StopsHere : Stop → StreamSoFar → Type 0
-StopsHere stop.Ends read = (log_of read.bytes ≡ Ok read.log) × IsLongestRun read.bytes read.log
+StopsHere stop.Ends read = (log_of read.came.bytes ≡ Ok read.log) × IsLongestRun read.came.bytes read.log
 StopsHere (stop.Cut told) read = StreamStopsBy told (record read { came = record read.came { is_over = true } })
 StopsHere (stop.Fault told) read = StreamStopsBy told read

@@ -10,8 +10,8 @@ use Rattle.vat_log.proofs.log_stream.LogStream.next.Goals as goal
 pub overflow_add-self : goal.overflow_add-self
 overflow_add-self g c =
     let kept = c.self.inside in
-    let few : length (reverse kept.given.items) ≤ record_limit = c.self.invariant.1.1.fits.counted in
-    omega (arith, c.self.invariant.1.0, length-reverse kept.given.items, few, limit_is)
+    let few : length (reverse kept.given.items) ≤ record_limit = c.self.invariant.2.fits.counted in
+    omega (arith, c.self.invariant.1, length-reverse kept.given.items, few, limit_is)
 
 pub invariant_of-self : goal.invariant_of-self
 invariant_of-self g c =
@@ -22,8 +22,8 @@ invariant_of-self g c =
     let room : kept.count < record_limit = omega (arith, few, limit_is) in
     let kind = subst (λ (bytes : List ℕ). kind_at bytes kept.at ≡ Ok c.in-Ok.kind) c.as_slice.ensures c.in-Ok.ensures in
     let found = record_found kept.version kept.count kept.window kept.at c.in-Ok.kind (c.in-Ok-read.entry, c.in-Ok-read.after) lt room kind c.in-Ok-read.ensures.gives in
-    rw (c.with-self-inside.ensures, c.body.ensures.value)
-    (c.self.invariant.0, taken_on came kept.window kept.version kept.vat kept.given.items kept.count kept.begin kept.at c.in-Ok-read.entry c.in-Ok-read.after c.self.invariant.1 found)
+    let more = taken_on came kept.window kept.version kept.vat kept.given.items kept.count kept.begin kept.at c.in-Ok-read.entry c.in-Ok-read.after (c.self.invariant.1, c.self.invariant.2) found in
+    rw (c.with-self-inside.ensures, c.body.ensures.value) (c.self.invariant.0, more.0, more.1)
 
 pub returns-in-Ok-read-clause-begun : goal.returns-in-Ok-read-clause-begun
 returns-in-Ok-read-clause-begun g c =
@@ -34,5 +34,5 @@ returns-in-Ok-read-clause-begun g c =
     let room : kept.count < record_limit = omega (arith, few, limit_is) in
     let kind = subst (λ (bytes : List ℕ). kind_at bytes kept.at ≡ Ok c.in-Ok.kind) c.as_slice.ensures c.in-Ok.ensures in
     let found = record_found kept.version kept.count kept.window kept.at c.in-Ok.kind (c.in-Ok-read.entry, c.in-Ok-read.after) lt room kind c.in-Ok-read.ensures.gives in
-    let more = taken_on came kept.window kept.version kept.vat kept.given.items kept.count kept.begin kept.at c.in-Ok-read.entry c.in-Ok-read.after c.self.invariant.1 found in
+    let more = taken_on came kept.window kept.version kept.vat kept.given.items kept.count kept.begin kept.at c.in-Ok-read.entry c.in-Ok-read.after (c.self.invariant.1, c.self.invariant.2) found in
     rw (c.with-self-inside.ensures, c.body.ensures.value) (begins_with came kept.window _ kept.begin c.in-Ok-read.after more.1)

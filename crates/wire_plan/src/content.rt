@@ -95,7 +95,7 @@ impl Pointed {
 /// A digest that is being made, what is still to be taken in, and how many words may be.
 #[derive(Drop)]
 struct Walk<'a> {
-    frame: &'a Frame,
+    frame: &'a Frame<'a>,
     digest: u64,
     spots: Vec<Spot>,
     words: u64,

@@ -24,7 +24,7 @@ use Rattle.call_trace.specs.Running.{steps_by, IsNamedRow, MayRun}
 use Rattle.call_trace.specs.Said.{call_answered, message_of_record}
 use Rattle.call_trace.specs.Taking.{row_of}
 use Rattle.call_trace.specs.Tells.{Tells}
-use Rattle.call_trace.specs.Types.{Results, Exception, Canceled, Elsewhere, TakeFrom, RpcMessage, Bootstrap, Call, Return, Finish, Resolve, Release, Disembargo, Abort, DecodedRecord, Host, Field, Wire, View, Name, Cap, Message, Step}
+use Rattle.call_trace.specs.Types.{Results, Exception, Canceled, Elsewhere, TakeFrom, RpcMessage, Bootstrap, Call, Return, Finish, Resolve, Release, Disembargo, Abort, DecodedRecord, Host, Wire, View, Name, Cap, Message, Step}
 use Rattle.call_trace.specs.Within.{IsWithin, HasNameAfter}
 use Rattle.call_trace.proofs.Carrying.{named_next, passed, says_alike}
 use Rattle.call_trace.proofs.Firsts.{IsFirstNext, firsts_good}

@@ -22,8 +22,7 @@ use record_notes::{Logs, put_place, put_rule_cause};
 use report_lines::Fault;
 use std::alloc::{AllocError, Global};
 
-/// Appends the notes of what led to a record that breaks a rule, and of what else was found; behind an overtaken call there is
-/// nothing else.
+/// Appends the notes of what led to a record that breaks a rule, and of what else was found, but for a call that overtakes.
 fn put_cause(text: &mut NoteText, logs: &Logs<'_>, vat: u32, at: usize, breach: Breach) {
     match breach {
         Breach::Order => put_order_cause(text, logs, vat, at),
@@ -96,8 +95,7 @@ pub(crate) fn case_of(
     }
 }
 
-/// What is found of each log and each link of the case that the files make, of which the line alone was found: that is found once
-/// more.
+/// What is found of each log and link of the case that the files make: found once more, where only its line was.
 fn findings_again(
     alloc: Global,
     files: &[(String, Bytes)],

@@ -56,8 +56,7 @@ pub(crate) fn passage_at(log: &VatLog, at: usize) -> Option<(bool, u32)> {
     log.get(at)?.body().passage()
 }
 
-/// The first record by which a log sent an abort, and its connection. Nothing is sent there behind it, so only the last frames of
-/// connections are read.
+/// The first record by which a log sent an abort, and its connection. Only the last frame that a connection sends can be one.
 fn abort_in(alloc: Global, log: &VatLog) -> Result<Option<(usize, u32)>, AllocError> {
     let mut seen = BTreeSet::new(alloc);
     let mut first = None;

@@ -42,8 +42,7 @@ pub(crate) enum HeardAnswer {
     Wire,
     /// What was found of logs whose connections are joined.
     Join,
-    /// A log was salvaged, and a part of it is left out: the fault of its bytes, and how many its whole records have, with the
-    /// header.
+    /// A log was salvaged, and a part of it is left out: the fault of its bytes, and how many its header and whole records have.
     Cut {
         fault: LogError,
         end: usize,

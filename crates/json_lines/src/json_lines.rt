@@ -31,8 +31,7 @@ impl From<io::Error> for JsonFault {
     }
 }
 
-/// A writer of lines as JSON objects, one a line. The last object is held back until the lines end, so that notes can be
-/// added to it.
+/// A writer of lines as JSON objects. The last one is held back until the lines end, so that notes can be added to it.
 #[derive(Drop)]
 pub struct JsonLines<'a, W: Write> {
     alloc: Global,

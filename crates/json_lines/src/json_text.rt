@@ -59,8 +59,7 @@ impl<'a> JsonText<'a> {
         self.text.as_str()
     }
 
-    /// The parts of an object that has ended: before where `notes` stands or would stand, between that and the place of `open`,
-    /// and behind.
+    /// The parts of an object that has ended: before the place of `notes`, between that and the place of `open`, and behind.
     pub(crate) fn parts(&self) -> (&str, &str, &str) {
         let text = self.text.as_str();
         let end = text.len().saturating_sub(1);
@@ -107,8 +106,7 @@ impl<'a> JsonText<'a> {
         self.depth = self.depth.saturating_sub(1);
     }
 
-    /// Remembers which members of the outermost object have to stand behind the notes, and which behind what is open, at the
-    /// first one of them.
+    /// Remembers the first members of the outermost object that have to stand behind the notes, and behind what is open.
     fn note_place(&mut self, name: &str) {
         let here = self.text.len();
         self.notes_at = self.notes_at.or((name > NOTES).then_some(here));

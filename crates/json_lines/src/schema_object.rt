@@ -4,8 +4,7 @@ use crate::json_lines::put_notes;
 use crate::json_text::{JsonText, NOTES};
 use std::alloc::{AllocError, Global};
 
-/// The text of the object that says that a file is no schema. It has the notes, each a line behind the word `note`, where
-/// there are any.
+/// The text of the object that says that a file is no schema, with its notes, each a line behind the word `note`.
 pub fn bad_schema_object(alloc: Global, file: &str, notes: &str) -> Result<String, AllocError> {
     let mut json = JsonText::new(alloc, None);
     json.begin("{");

@@ -106,8 +106,7 @@ fn watching_introduced<'a>(past: &Past<'a>, source: usize) -> Result<Option<Past
     }
 }
 
-/// Notes of the numbers that a Return or a Finish gives back: the log is walked once more, since these numbers stand in
-/// another record.
+/// Notes of the numbers that a Return or a Finish gives back: they stand in another record, so the log is walked once more.
 fn put_given_back(past: &Past<'_>, text: &mut NoteText) {
     if let Some(source) = source_of(past)
         && let Some(again) = text.found(watching_introduced(past, source))

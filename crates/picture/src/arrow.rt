@@ -12,7 +12,7 @@ use crate::row::{Row, Tone};
 use crate::scene::Scene;
 use crate::vat_logs::column_of;
 use crate::window::{line_of, lines_of, row_of};
-use rpc_view::{CallHead, Outcome, RpcMessage};
+use rpc_view::{Outcome, RpcMessage};
 use std::alloc::{AllocError, Global};
 use std::sync::Arc;
 use vat_log::VatLog;
@@ -89,25 +89,9 @@ fn stroke_of(late: bool, message: &Option<RpcMessage>) -> Stroke
     ensures { result ≡ stroke_of late message.now }
 {
     match message {
-        Some(RpcMessage::Return { outcome, .. }) => {
-            if late {
-                Stroke::Late
-            } else {
-                outcome_stroke(outcome)
-            }
-        }
-        Some(
-            RpcMessage::Call {
-                head: CallHead { yourself, .. },
-                ..
-            },
-        ) => {
-            if *yourself {
-                Stroke::Tail
-            } else {
-                Stroke::Plain
-            }
-        }
+        Some(RpcMessage::Return { .. }) if late => Stroke::Late,
+        Some(RpcMessage::Return { outcome, .. }) => outcome_stroke(outcome),
+        Some(RpcMessage::Call { head, .. }) if head.yourself => Stroke::Tail,
         _ => Stroke::Plain,
     }
 }

@@ -47,8 +47,7 @@ impl Display for Quoted<'_> {
     }
 }
 
-/// What a row of a picture has of a reason, if there is one: at most its first 80 bytes, and two dots behind them where it
-/// has more.
+/// What a row of a picture has of a reason, if there is one: its first 80 bytes, and two dots behind them where it has more.
 #[derive(Clone, Copy)]
 pub struct ShortReason<'a>(pub &'a Option<Reason>);
 

@@ -68,8 +68,7 @@ fn row_named(order: &[u32], window: Window, place: Option<Place>) -> Option<u16>
     row_of(order, window, place?)
 }
 
-/// What is drawn of a case in this order, for its report: the window that is asked for, or the one around what the report
-/// names.
+/// What is drawn of a case in this order, for its report: the window that is asked for, or the one around what it names.
 pub fn scene_of<'a>(
     case: &'a Case,
     order: &'a [u32],

@@ -27,8 +27,7 @@ fn shown_record<'a>(
     })
 }
 
-/// Appends the note of a record with its number, read by an edition: the name of its log, the record as `records` prints it, and
-/// the reason of its exception.
+/// Appends the note of a record, read by an edition: the name of its log, its line of `records`, and the reason of its exception.
 pub fn put_stored(text: &mut NoteText, name: &str, at: usize, stored: &Record, edition: Edition) {
     if let Some(shown) = text.granted(shown_record(text.alloc(), at, stored, edition)) {
         text.file("note: ", name, ": record ");
@@ -38,8 +37,7 @@ pub fn put_stored(text: &mut NoteText, name: &str, at: usize, stored: &Record, e
     text.words("\n");
 }
 
-/// Appends the note of the record of this number: the name of its log, the record as `records` prints it, and the reason of
-/// its exception.
+/// Appends the note of the record of this number, read as its log is judged.
 pub fn put_record(text: &mut NoteText, name: &str, log: &VatLog, at: usize) {
     if let Some(stored) = log.get(at) {
         put_stored(text, name, at, stored, edition_of(log));

@@ -154,8 +154,7 @@ fn yourself_text(yourself: bool) -> &'static str
     if yourself { " yourself" } else { "" }
 }
 
-/// Writes a Call: its question, where it goes, the interface and the method that it calls there, its parameters, and
-/// whether its results stay with their answerer.
+/// Writes a Call: its question, target, interface, method and parameters, and whether its results stay with their answerer.
 fn put_call<W: fmt::Write>(
     f: &mut Formatter<W>,
     head: CallHead,
@@ -188,8 +187,7 @@ fn light_text(light: bool) -> &'static str
     if light { " noFinishNeeded" } else { "" }
 }
 
-/// Writes a Return: its answer, whether it gives back the parameters' capabilities, what came of the call, and whether a
-/// Finish is needed.
+/// Writes a Return: its answer, whether it gives back parameters' capabilities, what came of the call, and if it needs a Finish.
 fn put_return<W: fmt::Write>(
     f: &mut Formatter<W>,
     head: ReturnHead,

@@ -119,8 +119,7 @@ impl<W: Write> Output for ToldLines<'_, W> {
 /// What came of telling lines.
 type LinesTold = Result<u8, Failed<JsonFault, io::Error>>;
 
-/// The notes beside what was told of a source: that of a write that failed, or those of what was heard, with names; none
-/// where none are wanted.
+/// The notes beside what was told: that of a write that failed, or those of what was heard, with names; none where it is quiet.
 fn notes_beside<S: SearchingSource>(
     alloc: Global,
     command: &Command<'_>,

@@ -30,24 +30,6 @@ fn frame_on(body: &Body, sent: bool, connection: u32) -> Option<&Bytes> {
     }
 }
 
-/// The frames that a log sent on a connection, or received there.
-fn frames_on<'a>(
-    alloc: Global,
-    log: &'a VatLog,
-    sent: bool,
-    connection: u32,
-) -> Result<Vec<PassedFrame<'a>>, AllocError> {
-    let mut frames = Vec::new(alloc);
-    for at in 0..log.len() {
-        if let Some(record) = log.get(at)
-            && let Some(frame) = frame_on(record.body(), sent, connection)
-        {
-            frames.push(PassedFrame { at, frame })?;
-        }
-    }
-    Ok(frames)
-}
-
 impl<'a> Stream<'a> {
     /// What a log sent on a connection, or received there.
     pub(crate) fn of(
@@ -56,7 +38,14 @@ impl<'a> Stream<'a> {
         sent: bool,
         connection: u32,
     ) -> Result<Stream<'a>, AllocError> {
-        let frames = frames_on(alloc, log, sent, connection)?;
+        let mut frames = Vec::new(alloc);
+        for at in 0..log.len() {
+            if let Some(record) = log.get(at)
+                && let Some(frame) = frame_on(record.body(), sent, connection)
+            {
+                frames.push(PassedFrame { at, frame })?;
+            }
+        }
         Ok(Stream {
             log,
             connection,
@@ -64,8 +53,7 @@ impl<'a> Stream<'a> {
         })
     }
 
-    /// The message of the same bytes as this one of another stream, which has another number, and its record: if there is just
-    /// one and it isn't short.
+    /// The message of the same bytes as this one of another stream, by another number, and its record: the only one, and not short.
     pub(crate) fn same_as(&self, other: &Stream<'_>, number: usize) -> Option<(usize, usize)> {
         let bytes = other.frames.get(number)?.frame.as_slice();
         let mut same = None;

@@ -99,8 +99,7 @@ fn put_end(text: &mut NoteText, logs: &Logs<'_>, sent: &Stream<'_>) {
     }
 }
 
-/// Appends the note of where the same bytes stand in one stream that passed under this number in the other: those of a frame that
-/// is not short, where they stand just once.
+/// Appends the note of where a frame stands in one stream that passed under this number in the other, if it is there just once.
 fn put_same(
     text: &mut NoteText,
     stream: &Stream<'_>,

@@ -172,8 +172,7 @@ fn put_overtaken(text: &mut NoteText, logs: &Logs<'_>, steps: &[Placed<'_>], vat
     }
 }
 
-/// Appends the notes of the call that the record of this number overtakes, whose vat this is: both MAKEs, where the earlier
-/// call is delivered, and the way of each.
+/// Appends the notes of the call that this record of a vat overtakes: both MAKEs, the delivery of the earlier, and the way of each.
 pub(crate) fn put_order_cause(text: &mut NoteText, logs: &Logs<'_>, vat: u32, at: usize) {
     if let Some(findings) = logs.findings
         && let Some(run) = text.found(run_of_findings(text.alloc(), findings))

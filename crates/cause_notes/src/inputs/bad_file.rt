@@ -37,8 +37,7 @@ pub(crate) fn put_order_fault(text: &mut NoteText, fault: OrderError, bytes: usi
     }
 }
 
-/// Appends the note of what a file is that was to be of another kind; and says whether there is such a note, or memory was
-/// refused.
+/// Appends the note of what a file is that was to be of another kind, and says whether it is one, or memory was refused.
 pub(crate) fn put_kind(text: &mut NoteText, file: &(String, Bytes), wanted: FileKind) -> bool {
     let Some(kind) = text.granted(kind_of(text.alloc(), file.1.as_slice())) else {
         return true;

@@ -40,8 +40,7 @@ fn put_bad<S: RememberingSource>(text: &mut NoteText, source: &S, fault: Fault) 
     }
 }
 
-/// Appends the notes of what is left out of the log that was read last, behind its whole records, which have so many bytes; and
-/// why.
+/// Appends the notes of what is left out of the log that was read last, behind so many bytes of whole records, and why.
 pub(crate) fn put_left_out<S: RememberingSource>(
     text: &mut NoteText,
     source: &S,

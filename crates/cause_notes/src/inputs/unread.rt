@@ -12,8 +12,7 @@ pub trait SearchingSource: RememberingSource {
     fn has(&self, name: &str) -> bool;
 }
 
-/// Appends the note of the log of a recorder that stopped, where it is there in the place of this one: a recorder gives it another
-/// name then.
+/// Appends the note of the log of a recorder that stopped, where it is there in the place of this one, under another name.
 fn put_stopped<S: SearchingSource>(text: &mut NoteText, source: &S, name: &str) {
     let alloc = text.alloc();
     if let Some(stopped) = text.granted(format!(in alloc; "{name}.stopped"))
@@ -53,8 +52,7 @@ fn put_beside<S: SearchingSource>(text: &mut NoteText, source: &S, name: &str) {
     }
 }
 
-/// Appends the notes of the file that was asked for last and can't be read: the system's reason, where it is kept; and of one
-/// that isn't there, which file is.
+/// Appends the notes of the file that was asked for last and can't be read: the system's reason, and which file is there instead.
 pub(crate) fn put_unread<S: SearchingSource>(text: &mut NoteText, source: &S) {
     let Some(name) = source.last() else {
         return;

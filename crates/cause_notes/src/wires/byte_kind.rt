@@ -52,8 +52,7 @@ impl Unpacking<'_> {
         Ok(true)
     }
 
-    /// Gives what belongs to the next tag, by the packing of the Cap'n Proto encoding specification, and says whether it is
-    /// there.
+    /// Gives what belongs to the next tag, as the Cap'n Proto encoding specification packs it, and says whether it is there.
     fn give_next(&mut self) -> Result<bool, AllocError> {
         let Some(tag) = self.take() else {
             return Ok(false);

@@ -39,8 +39,7 @@ fn answer_of(alloc: Global, bytes: &Bytes, number: u64) -> Result<Option<Answer>
     }
 }
 
-/// Appends the note of a message: the name of its file, its number, and the message as `frame --later` prints it. Gives why it
-/// isn't read, where that is so.
+/// Appends the note of a message: its file, its number, and its line of `frame --later`. Gives why it isn't read, if it isn't.
 pub(super) fn put_message(
     text: &mut NoteText,
     file: &(String, Bytes),

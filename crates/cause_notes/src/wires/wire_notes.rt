@@ -65,8 +65,7 @@ fn put_cut(text: &mut NoteText, files: WireFiles<'_>, end: End, message: u64) {
     }
 }
 
-/// Appends the notes of a message for which no run was found: it, what the rule asks that is broken, if one is named, and what
-/// it lacks.
+/// Appends the notes of a message for which no run was found: it, what the broken rule asks, if one is named, and what it lacks.
 fn put_no(
     text: &mut NoteText,
     files: WireFiles<'_>,

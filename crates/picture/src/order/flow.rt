@@ -84,8 +84,7 @@ fn first_going_on(seats: &[Seat]) -> Option<&Seat>
     None
 }
 
-/// The vat that goes on: the first that receives a frame, or else the first to which one is under way, or else the first that
-/// may.
+/// The vat that goes on: the first that receives a frame, else the first to which one is under way, else the first that may.
 fn next_seat(seats: &[Seat]) -> Option<&Seat>
     ensures { option_copied result ≡ next_seat seats.now }
 {

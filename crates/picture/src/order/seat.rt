@@ -14,8 +14,7 @@ use std::marker::Model;
 use std::sync::Arc;
 use vat_log::VatLog;
 
-/// A vat: its log, how many records of it came, and the connections of the frames that are under way to it, the one that was
-/// sent first in front.
+/// A vat: its log, how many records of it came, and the connections of the frames that are under way to it, in their order.
 #[derive(Drop)]
 pub struct Seat {
     log: Arc<VatLog>,

@@ -10,7 +10,7 @@ ghost use Rattle.picture.specs.Glue.{turn_in};
 use crate::passing::record_messages::message_of;
 use crate::record_place::Place;
 use crate::vat_logs::{body_in, log_of};
-use rpc_view::{CallHead, Edition, ReturnHead, RpcMessage};
+use rpc_view::{Edition, RpcMessage};
 use std::alloc::{AllocError, Global};
 use std::sync::Arc;
 use vat_log::{Body, VatLog};
@@ -32,30 +32,12 @@ fn turn_of(message: &RpcMessage, question: u32) -> Option<bool>
     ensures { result ≡ question_turn_of question message.now }
 {
     match message {
-        RpcMessage::Bootstrap { question: opened }
-        | RpcMessage::Call {
-            head: CallHead {
-                question: opened,
-                ..
-            },
-            ..
-        } => {
-            if *opened == question {
-                Some(false)
-            } else {
-                None
-            }
-        }
+        RpcMessage::Bootstrap { question: opened } if *opened == question => Some(false),
+        RpcMessage::Call { head, .. } if head.question == question => Some(false),
         RpcMessage::Finish {
             question: finished,
             release_result_caps: true,
-        } => {
-            if *finished == question {
-                Some(true)
-            } else {
-                None
-            }
-        }
+        } if *finished == question => Some(true),
         _ => None,
     }
 }
@@ -96,8 +78,7 @@ fn turn_at(
     }
 }
 
-/// Whether the last turn of a question in the records before this one gives its results back. It is sought from there
-/// backwards, since it is seldom far.
+/// Whether the last turn of a question before this record gives its results back. It is seldom far, so it is sought backwards.
 fn is_released(
     alloc: Global,
     log: &VatLog,
@@ -132,19 +113,11 @@ pub fn is_late(
         ≡ is_late_return (edition_of log.now) passage message.now (take number log.now.records)) }
 {
     match (passage, message) {
-        (
-            Some((sent, connection)),
-            Some(
-                RpcMessage::Return {
-                    head: ReturnHead { answer, .. },
-                    ..
-                },
-            ),
-        ) => {
+        (Some((sent, connection)), Some(RpcMessage::Return { head, .. })) => {
             let question = LoggedQuestion {
                 asks: !sent,
                 connection,
-                number: *answer,
+                number: head.answer,
             };
             is_released(alloc, log, number, question)
         }

@@ -33,8 +33,7 @@ fn put_question(
     text.words("\n");
 }
 
-/// Appends the note of what is open at the end of a log: of a question without a Return, a loopback without an echo, or a promise
-/// that the vat vowed and neither kept nor broke.
+/// Appends the note of a question without a Return, a loopback without an echo, or a promise neither kept nor broken.
 fn put_left(text: &mut NoteText, told: EndedLog<'_, '_>, left: &Open) {
     let vat = u64::from(told.vat());
     match left {

@@ -164,8 +164,7 @@ impl EndedLog<'_, '_> {
         self.log.log.vat()
     }
 
-    /// Whether what was begun on a connection is told of this log: what the vat began itself, and what a peer began whose log
-    /// isn't there.
+    /// Whether what was begun on a connection is told of this log: by the vat itself, or by a peer whose log isn't there.
     pub(crate) fn is_told(self, ours: bool, connection: u32) -> bool {
         ours || self.case.peer_of(self.vat(), connection).is_none()
     }

@@ -61,8 +61,7 @@ fn put_direction(text: &mut NoteText, case: &OpenCase<'_>, under_way: UnderWay) 
     }
 }
 
-/// Appends the notes of what was sent and never received, by link: of at most so many directions, and then how many more there
-/// are.
+/// Appends the notes of what was sent and never received, by link: of the first directions, and how many more there are.
 pub(crate) fn put_under_way(text: &mut NoteText, case: &OpenCase<'_>) {
     let Some(all) = text.granted(all_under_way(case)) else {
         return;

@@ -116,8 +116,7 @@ fn put_open(past: &Past<'_>, text: &mut NoteText, entry: NotedEntry<'_>, view: &
     true
 }
 
-/// Whether a reference's view goes for what the entry stands for beside which it is noted: it leads there, or in a log of version
-/// 3 is one with it.
+/// Whether a reference's view goes for what the entry beside it stands for: it leads there, or in version 3 is one with it.
 fn goes_for(past: &Past<'_>, view: &View, stands: &View) -> bool {
     match past.edition() {
         Edition::First => past.state.leads(view, stands),

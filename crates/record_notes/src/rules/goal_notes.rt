@@ -3,7 +3,7 @@
 use crate::rules::call_notes::put_origin;
 use crate::rules::view_turns::{ViewText, Way, put_way};
 use past_records::{NoteText, Past, put_life, put_opening};
-use rpc_view::{CallHead, Edition, RpcMessage};
+use rpc_view::{Edition, RpcMessage};
 use std::alloc::AllocError;
 use std::fmt::{self, Display, Formatter};
 use vat_view::{BorrowedView, DecodedRecord};
@@ -19,8 +19,7 @@ fn put_host(past: &Past<'_>, text: &mut NoteText, sought: u64) {
     }
 }
 
-/// Notes what a call at the vat was meant for and where that leads, and gives the way there. None of a call that isn't there, and
-/// where memory was refused.
+/// Notes what a call at the vat was meant for and where that leads, and gives the way there; none where it isn't at the vat.
 fn put_goal(past: &Past<'_>, text: &mut NoteText, call: u64) -> Option<Way> {
     if !past.state.is_at_vat(call) {
         return None;
@@ -132,19 +131,12 @@ pub(crate) fn put_astray(past: &Past<'_>, text: &mut NoteText) {
         DecodedRecord::Wire {
             sent: true,
             call,
-            message: RpcMessage::Call {
-                head: CallHead {
-                    interface,
-                    method,
-                    ..
-                },
-                ..
-            },
+            message: RpcMessage::Call { head, .. },
             ..
         } => {
             let sent = Method {
-                interface: *interface,
-                method: *method,
+                interface: head.interface,
+                method: head.method,
             };
             if !put_method(past, text, *call, sent) {
                 put_sent(past, text, *call);

@@ -10,8 +10,7 @@ pub(crate) fn resolved_by(past: &Past<'_>, key: TableKey, since: usize) -> Optio
     past.find(behind, |event| event.promise_resolved() == Some(key))
 }
 
-/// Notes what is otherwise of a number in life since this record, which is introduced again as a promise or not; and says whether
-/// anything is.
+/// Notes what is otherwise of a number in life since this record, which is introduced again, and says whether anything is.
 fn put_change(
     past: &Past<'_>,
     text: &mut NoteText,

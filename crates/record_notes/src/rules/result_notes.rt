@@ -30,8 +30,7 @@ fn put_unknown(past: &Past<'_>, text: &mut NoteText, call: u64) {
     }
 }
 
-/// Whether what was known went on to what a descriptor stands for: by turns, or in a log of version 3 it became what a number of
-/// the sender's own stands for.
+/// Whether what was known went on to what a descriptor stands for: by turns, or in a log of version 3 it became a sender's own.
 fn went_on(past: &Past<'_>, known: &View, descriptor: &Descriptor, stands: &View) -> bool {
     match (past.edition(), descriptor) {
         (Edition::Later, Descriptor::SenderHosted(_) | Descriptor::SenderPromise(_)) => {
@@ -67,8 +66,7 @@ fn first_other(
     Ok(None)
 }
 
-/// Notes of results that are others than those that were known: which record tells of them, where that leads that was known of the
-/// first of them, and what stands there.
+/// Notes of results that are others than were known: the record that tells of them, where the first leads, and what stands there.
 fn put_other(past: &Past<'_>, text: &mut NoteText, payload: &Payload, call: u64) {
     let Some(stands) = text.granted(past.state.views_of_descriptors(&past.event)) else {
         return;

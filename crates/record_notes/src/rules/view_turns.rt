@@ -175,8 +175,7 @@ impl Way {
     }
 }
 
-/// Appends a note of each turn from a view on, and gives them. Where that leads nowhere a note says so. None where memory was
-/// refused.
+/// Appends a note of each turn from a view on, and gives them; where that leads nowhere a note says so.
 pub(crate) fn put_way(past: &Past<'_>, text: &mut NoteText, view: View) -> Option<Way> {
     let mut way = Way {
         first: view,

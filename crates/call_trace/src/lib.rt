@@ -1,5 +1,6 @@
 //! From good logs to one run of the machine: [`name_run`] makes it. That good logs have a run is a law
-//! ([`good_findings_have_a_run`]). [`order_fault`] finds where a run breaks the order of calls.
+//! ([`good_findings_have_a_run`]); of logs that are all of versions 1 and 2 the run sends only what is led to
+//! ([`first_editions_lead`]). [`order_fault`] finds where a run breaks the order of calls.
 //!
 //! It stands on `vat_rules`, which says when a log is good, on `vat_view` for what the numbers of a log stand for, on
 //! `agree` for what passed on a connection, on `merge_order` and `link_check`, and on `run_model` for runs. How a log

@@ -17,7 +17,7 @@ use Rattle.vat_rules.specs.OfCaps.{NotesView}
 use Rattle.vat_rules.specs.OfPromises.{KeepsVow}
 use Rattle.vat_rules.specs.Rules.{Meets, rules}
 use Rattle.vat_rules.specs.Judged.{IsGoodBy, BreaksFirst}
-use Rattle.vat_rules.specs.Glue.Asked.{is_own, is_finish, is_release, own_may_break, bare_may_break, is_of_caps, is_of_own, carrying_may_break, IsBare, Suffice}
+use Rattle.vat_rules.specs.Glue.Asked.{is_own, own_may_break, bare_may_break, is_of_caps, is_of_own, carrying_may_break, IsBare, Suffice}
 use Rattle.vat_rules.proofs.Judging.{all_met}
 use Rattle.vat_rules.proofs.Owning.{own_open, own_opens, own_uses, own_numbers, own_describes, own_gives, own_returns, own_resolves, own_binds, own_embargo}
 
@@ -342,21 +342,3 @@ bare_suffice e {sent} {k} {c} {rs} {m} {some} whole bare is =
 pub carrying_suffice : (e : DecodedRecord) {sent : Bool} {k c : ℕ} {rs : List ℕ} {m : RpcMessage} {some : List Rule} → e ≡ Wire sent k c rs m → some ≡ filter (carrying_may_break m) rules → Suffice e some
 carrying_suffice e {sent} {k} {c} {rs} {m} {some} whole is =
     (carrying_may_break m, is, λ each h edition before. subst (λ x. Meets edition each before x) (sym whole) (unasked_carrying sent k c rs m each h edition before))
-
--- ---- records that are good by few rules
-
--- where REF alone may be broken, a record that refers as it should is good
-pub own_good : (edition : Edition) (before : Past) (e : DecodedRecord) → is_own e ≡ true → filter (own_may_break e) rules ≡ rule.Ref ∷ [] → Refers before e → IsGoodBy edition before e
-own_good edition before e own alone refers = suffice_good edition before e (rule.Ref ∷ []) (own_may_break e, sym alone, unasked_own e own) (refers, tt)
-
-pub finish_good : (edition : Edition) (before : Past) (e : DecodedRecord) → is_finish e ≡ true → IsBare e → Meets edition rule.Closed before e → Meets edition rule.Ref before e →
-    Meets edition rule.QUse before e → Meets edition rule.Count before e → IsGoodBy edition before e
-finish_good edition before (Wire sent k c rs (Finish q release)) is bare open refers uses gives =
-    suffice_good edition before _ _ (bare_suffice _ refl bare refl) (open, (refers, (uses, (gives, tt))))
-finish_good edition before e is bare open refers uses gives = absurd (false≢true is)
-
-pub release_good : (edition : Edition) (before : Past) (e : DecodedRecord) → is_release e ≡ true → IsBare e → Meets edition rule.Closed before e → Meets edition rule.Ref before e →
-    Meets edition rule.XUse before e → Meets edition rule.Count before e → IsGoodBy edition before e
-release_good edition before (Wire sent k c rs (Release n count)) is bare open refers uses gives =
-    suffice_good edition before _ _ (bare_suffice _ refl bare refl) (open, (refers, (uses, (gives, tt))))
-release_good edition before e is bare open refers uses gives = absurd (false≢true is)

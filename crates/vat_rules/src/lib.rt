@@ -17,7 +17,6 @@ mod finding;
 mod judge;
 mod laws;
 mod outcome;
-mod plain_kinds;
 mod rule;
 mod rules;
 mod slim;

@@ -14,7 +14,6 @@ use crate::facts::lookup::{facts_before, views_of_references};
 use crate::facts::plain_facts::PlainFacts;
 use crate::judge::rule_broken;
 use crate::outcome::Why;
-use crate::plain_kinds::is_good_plainly;
 use crate::rule::Rule;
 use rpc_view::Edition;
 use std::alloc::{AllocError, Global};
@@ -39,8 +38,9 @@ pub(crate) fn apply_good(state: &mut VatState, event: &DecodedRecord) -> Result<
     state.apply(event)
 }
 
-/// As [`apply_if_good`], by what the numbers of the record stand for.
-fn apply_if_good_by_facts(
+/// Judges a record by an edition, and applies it if it is good; else the first rule that it breaks, and the state is as it
+/// was. So it is where memory runs out.
+pub(crate) fn apply_if_good(
     alloc: Global,
     edition: Edition,
     state: &mut VatState,
@@ -61,29 +61,7 @@ fn apply_if_good_by_facts(
     }
 }
 
-/// Judges a record by an edition, and applies it if it is good; else the first rule that it breaks, and the state is as it
-/// was. So it is where memory runs out.
-#[inline]
-pub(crate) fn apply_if_good(
-    alloc: Global,
-    edition: Edition,
-    state: &mut VatState,
-    event: &DecodedRecord,
-) -> Result<Option<Rule>, AllocError>
-    ensures ok { IfOk result (λ r. MatchOption r
-        (IsGoodBy edition state.old event.now × (state.new ≡ event.now ∷ state.old))
-        (λ rule. BreaksFirst edition rules state.old event.now rule × (state.new ≡ state.old))) }
-    ensures err { OnErr result (state.new ≡ state.old) }
-{
-    if is_good_plainly(edition, state, event)? {
-        apply_good(state, event)?;
-        return Ok(None);
-    }
-    apply_if_good_by_facts(alloc, edition, state, event)
-}
-
 /// The facts of a record, by the state that it was applied to last and what its numbers stood for before.
-#[inline]
 fn facts_of(
     alloc: Global,
     state: &VatState,

@@ -20,15 +20,6 @@ pub record IsBare (e : DecodedRecord) : Type 0 where
   pub unnoted : references e ≡ []
   pub uncarried : descriptors e ≡ []
 
--- a record is a Finish, or a Release
-abbrev pub is_finish : DecodedRecord → Bool
-is_finish (Wire sent k c rs (Finish q release)) = true
-is_finish _ = false
-
-abbrev pub is_release : DecodedRecord → Bool
-is_release (Wire sent k c rs (Release n count)) = true
-is_release _ = false
-
 -- a record without a message may break a rule
 abbrev pub own_may_break : DecodedRecord → Rule → Bool
 own_may_break (Wire sent k c rs m) each = false

@@ -3,7 +3,7 @@ use Rattle.std.proofs.Common.{◌≡◌, ℕ, List, Option, Some, None, Ok, Err,
 use Rattle.std.specs.Prelude.{IfSome}
 use Rattle.byte_pieces.specs.Coming.{CameSoFar, ComesOn, IsPart, MayBeAll}
 use Rattle.case_files.specs.CaseReading.{Read}
-use Rattle.case_files.specs.Opening.{GivesNothing, GivesOf, IsOf}
+use Rattle.case_files.specs.Opening.{GivesNothing, IsOf}
 
 -- where nothing can be read, it stays so
 nothing_still : (old new : CameSoFar) → ComesOn old new → GivesNothing old → GivesNothing new

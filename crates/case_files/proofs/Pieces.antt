@@ -1,9 +1,11 @@
 -- The bytes of a file in a list, piece by piece.
-use Rattle.std.proofs.Common.{◌≡◌, ℕ, zero, suc, ◌+◌, ◌<◌, ◌≤◌, Bool, true, false, List, [], ◌∷◌, ◌++◌, length, take, drop, nat_eq, refl, sym, ap, ◌∙◌, arith}
-use Rattle.std.specs.Prelude.{◌&&◌}
+use Rattle.std.proofs.Common.{◌≡◌, ℕ, zero, suc, ◌+◌, ◌<◌, ◌≤◌, Bool, true, false, List, [], ◌∷◌, ◌++◌, length, take, drop, nat_eq, Option, None, Some, refl, sym, ap, ◌∙◌, arith}
+use Rattle.std.specs.Prelude.{◌&&◌, is_some}
 use Rattle.std.specs.List.{starts_with}
 use Rattle.std.proofs.lemmas.Bool.{eqb-true}
-use Rattle.byte_pieces.specs.Coming.{Brings, MayBeAll}
+use Rattle.std.proofs.lemmas.List.{drop_all, take-append-drop}
+use Rattle.byte_pieces.specs.Coming.{Brings, ComesOn, MayBeAll}
+use Rattle.byte_pieces.specs.declared.fault.PieceFault.{PieceFault}
 
 both : (p q : Bool) → p && q ≡ true → (p ≡ true) × (q ≡ true)
 both true q is = (refl, is)
@@ -68,3 +70,25 @@ same_length n m is = eqb-true n m is
 pub some_left : (n : ℕ) → nat_eq n 0 ≡ false → 0 < n
 some_left zero is = absurd (let no : ⊥ = cc in no)
 some_left (suc n) is = omega arith
+
+-- what came is of the bytes, and all of them where it is over
+pub part_of : (bytes : List ℕ) (n : ℕ) (is_over : Bool) → (is_over ≡ true → length bytes ≤ n) → MayBeAll (take n bytes) is_over bytes
+part_of bytes n is_over all = record { more = drop n bytes; parts = sym (take-append-drop n bytes); over = λ over. drop_all n bytes (all over) }
+
+-- more of them came, where more can be read
+pub listed_on : (bytes : List ℕ) (given count : ℕ) (is_over : Bool) (fault : Option PieceFault) → fault ≡ None → (is_over ≡ true → length bytes ≤ given)
+    → ComesOn (record { bytes = take given bytes; is_over = is_over; fault = fault; whole = Some bytes }) (record { bytes = take (given + count) bytes; is_over = is_over; fault = fault; whole = Some bytes })
+listed_on bytes given count is_over fault none all = record {
+  first = record {
+    more = take count (drop given bytes);
+    parts = take_both bytes given count;
+    over = λ over. ap (take count) (drop_all given bytes (all over)) ∙ taken_none count;
+  };
+  over = λ over. over;
+  whole = refl;
+  fault = λ some. absurd (no_fault fault some none);
+}
+  where
+    no_fault : (o : Option PieceFault) → is_some o ≡ true → o ≡ None → ⊥
+    no_fault None some none = cc
+    no_fault (Some f) some none = cc

@@ -6,6 +6,7 @@ use Rattle.std.proofs.lemmas.List.{append_assoc, take-append-drop}
 use Rattle.vat_log.specs.Streams.{StreamSoFar}
 use Rattle.vat_log.specs.declared.body.Body.{Body}
 use Rattle.vat_rules.specs.Audited.{Audited}
+use Rattle.byte_pieces.proofs.Coming.{comes_then}
 use Rattle.turn_taking.specs.Lanes.{LaneSoFar, GoesOn, HasNext}
 use Rattle.log_lane.specs.Glue.{AreOfOne}
 use Rattle.log_lane.specs.Lanes.{ReadAhead, as_lane}
@@ -36,6 +37,7 @@ has_next_still lane longer goes (inr ended) = inr (goes.over ended).1
 
 pub goes_on_both : (one two three : LaneSoFar) → GoesOn one two → GoesOn two three → GoesOn one three
 goes_on_both one two three first second = record {
+  on = comes_then one.came two.came three.came first.on second.on;
   vat = second.vat ∙ first.vat;
   more = first.more ++ second.more;
   records = second.records ∙ ap (λ (l : List Body). l ++ second.more) first.records ∙ append_assoc one.log.records first.more second.more;

@@ -16,7 +16,7 @@ pub record ReadAhead : Type 0 where
 
 -- as a lane of a case
 abbrev pub as_lane : ReadAhead → LaneSoFar
-as_lane lane = record { log = lane.read.log; ahead = lane.ahead; has_ended = is_some lane.ending }
+as_lane lane = record { came = lane.read.came; log = lane.read.log; ahead = lane.ahead; has_ended = is_some lane.ending }
 
 -- what an ending says of the log
 abbrev pub EndsSo : Option Ending → StreamSoFar → Type 0

@@ -1,6 +1,7 @@
 //! A log that is read ahead.
 
 ghost use Rattle.std.specs.Prelude.{◌≡◌, ◌≢◌, true, false, [], ◌∷◌, ◌++◌, Some, None, Ok, IfOk, IfErr, IfSome, MatchOption, OnOk};
+ghost use Rattle.byte_pieces.specs.Coming.{ComesOn};
 ghost use Rattle.cap_reader.specs.Defaults.{default_limits};
 ghost use Rattle.vat_log.specs.Reading.{log_of};
 ghost use Rattle.vat_log.specs.Runs.{with_record};
@@ -36,6 +37,7 @@ fn next_of<P: Pieces>(
     stream: &mut LogStream<P>,
     waits: bool,
 ) -> Result<Option<Record>, Ending>
+    ensures on { ComesOn stream.old.came stream.new.came }
     ensures given { IfOk result (λ next. MatchOption next ((stream.new.log ≡ stream.old.log) × (waits ≡ false))
         (λ entry. stream.new.log ≡ with_record entry stream.old.log)) }
     ensures ended { IfErr result (λ ending. (stream.new.log ≡ stream.old.log) × EndsSo (Some ending) stream.new) }

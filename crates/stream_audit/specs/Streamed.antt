@@ -1,10 +1,12 @@
 -- The audit of a case whose logs come in streams: what came of each, and what is answered of them.
-use Rattle.std.specs.Prelude.{◌≡◌, ◌<◌, ℕ, ⊤, true, List, [], ◌∷◌, take, Option, Some, None, Ok, IsSomeAnd, slice_get}
+use Rattle.std.specs.Prelude.{◌≡◌, ◌<◌, ℕ, ⊤, true, List, [], ◌∷◌, map, take, Option, Some, None, Ok, IsSomeAnd, slice_get}
+use Rattle.std.specs.Option.{option_map}
 use Rattle.vat_log.specs.Log.{Log}
 use Rattle.vat_log.specs.Reading.{log_of}
 use Rattle.vat_log.specs.Streams.{StreamStopsBy}
 use Rattle.vat_log.specs.declared.read_fault.ReadFault.{ReadFault}
-use Rattle.log_lane.specs.Lanes.{ReadAhead}
+use Rattle.log_lane.specs.Lanes.{ReadAhead, as_lane}
+use Rattle.turn_taking.specs.Pass.{AreFurther}
 use Rattle.case_book.specs.Case.{Contents, HoldsJust, IsCase, case_refusal_of}
 use Rattle.case_book.specs.Ties.{tie_fault_of}
 use Rattle.case_book.specs.declared.link.Link.{Link}
@@ -26,6 +28,10 @@ pub record IsFreshLane (o : Option ReadAhead) : Type 0 where
 
 abbrev pub AreFresh : List (Option ReadAhead) → Type 0
 AreFresh lanes = HoldsOfEach IsFreshLane lanes
+
+-- each lane is one that was there at its place before, and what came of its log, and was read of it, goes on
+abbrev pub AreReadOn : List (Option ReadAhead) → List (Option ReadAhead) → Type 0
+AreReadOn lanes longer = AreFurther (map (option_map as_lane) lanes) (map (option_map as_lane) longer)
 
 -- a log came whole: all its bytes came, and they spell it
 pub record CameWhole (lane : Option ReadAhead) (log : Log) : Type 0 where

@@ -1,6 +1,6 @@
 //! The audit of a case whose logs come in streams.
 
-ghost use Rattle.std.specs.Prelude.{◌≡◌, ◌<◌, ℕ, Some, None, Err, [], false, List, Option, IfOk, IfErr};
+ghost use Rattle.std.specs.Prelude.{◌≡◌, ◌<◌, ℕ, Some, None, Err, [], false, List, Option, IfOk, IfErr, OnOk};
 ghost use Rattle.case_book.specs.Case.{HoldsJust, IsCase, case_refusal_of};
 ghost use Rattle.case_book.specs.Ties.{tie_fault_of};
 ghost use Rattle.audit_core.specs.Lines.{IsLineOf};
@@ -13,7 +13,7 @@ ghost use Rattle.turn_taking.specs.Lanes.{LaneSoFar};
 ghost use Rattle.turn_taking.specs.Pass.{logs_of as case_logs};
 ghost use Rattle.log_lane.specs.Slim.{logs_audited};
 ghost use Rattle.stream_audit.specs.Glue.{IsTakenSo, IsYesBy};
-ghost use Rattle.stream_audit.specs.Streamed.{AreFresh, AreReadWhole, IsLineOfStreams, IsRefusalOf};
+ghost use Rattle.stream_audit.specs.Streamed.{AreFresh, AreReadOn, AreReadWhole, IsLineOfStreams, IsRefusalOf};
 ghost use Rattle.stream_audit.specs.declared.error.StreamError.{StreamError};
 ghost use Rattle.stream_audit.specs.declared.error.StreamError.TheVariants.{NoWorkers, TooManyWorkers};
 
@@ -117,6 +117,7 @@ fn check_by_turns<R: Threads + Sync, P: Pieces + Send>(
     requires begun { turns.old ≡ Some (record { links = links.items; in_order = []; all = []; is_stuck = false }) }
     ensures err { IfErr result (IsRefusalOf lanes.new links.items workers) }
     ensures line { IfOk result (IsLineOfStreams lanes.new links.items order.now) }
+    ensures lanes { OnOk result (AreReadOn lanes.old lanes.new) }
 {
     if !are_apart(lanes) {
         read_alone(rt, alloc, lanes, workers)?;
@@ -153,6 +154,8 @@ pub fn check_streams<R: Threads + Sync, P: Pieces + Send>(
     ensures err { IfErr result (IsRefusalOf lanes.new links.items workers) }
     // What it answers, and what a yes means.
     ensures line { IfOk result (IsLineOfStreams lanes.new links.items order) }
+    // Of which logs: each lane goes on with its own.
+    ensures lanes { OnOk result (AreReadOn lanes.old lanes.new) }
 {
     if workers == 0 {
         return Err(StreamError::NoWorkers);

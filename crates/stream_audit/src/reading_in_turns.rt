@@ -6,7 +6,7 @@ ghost use Rattle.log_lane.specs.Lanes.{ReadAhead};
 ghost use Rattle.turn_taking.specs.Pass.{IsPass};
 ghost use Rattle.lock_step.specs.Taking.{Taken, turned};
 ghost use Rattle.stream_audit.specs.Glue.{AreApart, AreFoundIn, IsTakenSo, so_far};
-ghost use Rattle.stream_audit.specs.Streamed.{AreFresh, IsRefusalOf};
+ghost use Rattle.stream_audit.specs.Streamed.{AreFresh, AreReadOn, IsRefusalOf};
 
 use crate::error::StreamError;
 use crate::nothing::NothingKept;
@@ -68,7 +68,8 @@ pub(crate) fn read_in_turns<R: Threads + Sync, P: Pieces + Send>(
     requires { 0 < workers }
     ensures { IfOk result (λ found. (taken : Taken) → turns.old ≡ Some taken → taken.is_stuck ≡ false → taken.in_order ≡ []
         → IsPass (so_far lanes.old) (turned taken)
-        → (more : Taken) × (turns.new ≡ Some more) × IsTakenSo (so_far lanes.new) (turned more) order.now found) }
+        → (more : Taken) × (turns.new ≡ Some more) × IsTakenSo (so_far lanes.new) (turned more) order.now found
+        × AreReadOn lanes.old lanes.new) }
 {
     let Some(order) = order else {
         if take_all(rt, alloc, lanes, turns, workers)? {

@@ -20,7 +20,7 @@ rounds_begin lanes taken there = record {
     phase = refl;
     kept = λ stuck. refl;
     alike = λ free same. same;
-    reads = λ i lane is. (lane, is, refl, refl);
+    reads = λ i lane is. (lane, is, refl, refl, refl);
     same = λ no. absurd cc;
     still = λ no. absurd cc;
   };
@@ -40,7 +40,7 @@ module _ (lanes now after : List (Option LaneSoFar)) (taken more next : Taken) (
     reads = λ i lane is. (
         let second = round.reads i lane is in
         let first = so.round.reads i second.0 second.1 in
-        (first.0, first.1, second.2 ∙ first.2, second.3 ∙ first.3)
+        (first.0, first.1, second.2 ∙ first.2, second.3 ∙ first.3, second.4 ∙ first.4)
         );
     same = λ nothing i lane is. (
         let no = none nothing in

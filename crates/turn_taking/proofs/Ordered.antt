@@ -12,6 +12,8 @@ use Rattle.turn_taking.specs.Lanes.{LaneSoFar, GoesOn, HasNext, without_first}
 use Rattle.turn_taking.specs.Turned.{Taken, may_be_next, with_turn}
 use Rattle.turn_taking.specs.Pass.{lane_vat, turns_with, AreFurther, AreThere, IsLaneHeldUp, IsLaneAt, IsPass}
 use Rattle.turn_taking.proofs.Sided.{set_there, set_other, within, RoundSoFar, goes_on, length_set}
+use Rattle.byte_pieces.specs.Coming.{ComesOn}
+use Rattle.byte_pieces.proofs.Coming.{comes_same}
 use Rattle.turn_taking.proofs.Turned.{took_none, took_more}
 use Rattle.turn_taking.proofs.Stepping.{AreGrown, grown_in_step, joined}
 
@@ -19,7 +21,7 @@ lane_is : (one other : LaneSoFar) → ◌≡◌ {A = Option (Option LaneSoFar)} 
 lane_is one other e = cc
 
 goes_on_itself : (lane : LaneSoFar) → GoesOn lane lane
-goes_on_itself lane = record { vat = refl; more = []; records = sym (append-nil lane.log.records); ahead = sym (append-nil lane.ahead); over = λ ended. (refl, ended) }
+goes_on_itself lane = record { on = comes_same lane.came; vat = refl; more = []; records = sym (append-nil lane.log.records); ahead = sym (append-nil lane.ahead); over = λ ended. (refl, ended) }
 
 -- ---- one lane is read ahead
 
@@ -70,7 +72,7 @@ begins_at lanes taken place there = record {
   phase = refl;
   kept = λ stuck. refl;
   alike = λ free same. same;
-  reads = λ i lane is. (lane, is, refl, refl);
+  reads = λ i lane is. (lane, is, refl, refl, refl);
   same = λ none. absurd (no_true none);
   still = λ none. absurd (no_true none);
 }
@@ -132,6 +134,7 @@ module _ (lanes : List (Option LaneSoFar)) (place : ℕ) (lane : LaneSoFar) (the
         old.0,
         old.1,
         record {
+          on = subst (ComesOn old.0.came) (sym from.4) old.2.on;
           vat = ap (λ (r : Log). r.vat) from.2 ∙ old.2.vat;
           more = old.2.more;
           records = ap (λ (r : Log). r.records) from.2 ∙ old.2.records;

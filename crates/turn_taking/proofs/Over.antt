@@ -126,7 +126,7 @@ filled_pass lanes longer taken pass grown there = record {
 pub filled_further : (lanes longer : List (Option LaneSoFar)) (taken : Taken) → IsPass lanes taken → AreFilled lanes longer → AreThere longer → AreFurther lanes longer
 filled_further lanes longer taken pass grown there i one is =
     let b = (are_grown lanes longer grown pass.there taken.all pass.in_step there).before i one is in
-    (b.0, b.1, record { vat = b.2.vat; more = b.2.more; records = b.2.records; over = b.2.over })
+    (b.0, b.1, record { on = b.2.on; vat = b.2.vat; more = b.2.more; records = b.2.records; over = b.2.over })
 
 module _ (lanes now longer : List (Option LaneSoFar)) (taken more : Taken) (order : List ℕ) (count : ℕ) (free : taken.is_stuck ≡ false) (none : taken.in_order ≡ []) (ended : AreFollowedToTheEnd lanes now taken more order count)
     (grown : AreFilled now longer) (there : AreThere longer) where

@@ -7,6 +7,7 @@ use Rattle.std.proofs.lemmas.List.{reverse-append, append_assoc, reverse-reverse
 use Rattle.std.proofs.lemmas.Option.{slice_get-map, slice_get-get_or}
 use Rattle.std.proofs.lemmas.List.Elements.{filter_map-append, Contains-append_cases}
 use Rattle.merge_order.proofs.Greedy.{eqb_apart}
+use Rattle.byte_pieces.specs.Coming.{CameSoFar}
 use Rattle.vat_log.specs.Log.{Log}
 use Rattle.vat_log.specs.declared.body.Body.{Body}
 use Rattle.turn_taking.specs.Turns.{Turns, records_taken, of_vat, AreInOrder}
@@ -96,11 +97,11 @@ module _ (lanes : List (Option LaneSoFar)) (i : ℕ) (lane after : LaneSoFar) (t
         | inr apart ↦ inr (apart, sym (set_other lanes i j (Some after) apart) ∙ is)
       ]
 
-  before_at : (j : ℕ) (one : LaneSoFar) → IsLaneAt later j one → (before : LaneSoFar) × IsLaneAt lanes j before × (one.log ≡ before.log) × (one.has_ended ≡ before.has_ended)
+  before_at : (j : ℕ) (one : LaneSoFar) → IsLaneAt later j one → (before : LaneSoFar) × IsLaneAt lanes j before × (one.log ≡ before.log) × (one.has_ended ≡ before.has_ended) × (one.came ≡ before.came)
   before_at j one is =
       elim (at_place j one is) [
-        | inl own ↦ (lane, sym (ap (slice_get lanes) own.0) ∙ there, ap (λ (l : LaneSoFar). l.log) (sym own.1) ∙ took.log, ap (λ (l : LaneSoFar). l.has_ended) (sym own.1) ∙ took.ended)
-        | inr other ↦ (one, other.1, refl, refl)
+        | inl own ↦ (lane, sym (ap (slice_get lanes) own.0) ∙ there, ap (λ (l : LaneSoFar). l.log) (sym own.1) ∙ took.log, ap (λ (l : LaneSoFar). l.has_ended) (sym own.1) ∙ took.ended, ap (λ (l : LaneSoFar). l.came) (sym own.1) ∙ took.came)
+        | inr other ↦ (one, other.1, refl, refl, refl)
       ]
 
   later_at : (j : ℕ) (one : LaneSoFar) → IsLaneAt lanes j one → (now : LaneSoFar) × IsLaneAt later j now × (lane_vat now ≡ lane_vat one)
@@ -160,7 +161,7 @@ pub record RoundSoFar (lanes now : List (Option LaneSoFar)) (taken more : Taken)
   pub phase : more.is_stuck ≡ taken.is_stuck
   pub kept : taken.is_stuck ≡ true → more.in_order ≡ taken.in_order
   pub alike : taken.is_stuck ≡ false → taken.all ≡ taken.in_order → more.all ≡ more.in_order
-  pub reads : (i : ℕ) (lane : LaneSoFar) → IsLaneAt now i lane → (before : LaneSoFar) × IsLaneAt lanes i before × (lane.log ≡ before.log) × (lane.has_ended ≡ before.has_ended)
+  pub reads : (i : ℕ) (lane : LaneSoFar) → IsLaneAt now i lane → (before : LaneSoFar) × IsLaneAt lanes i before × (lane.log ≡ before.log) × (lane.has_ended ≡ before.has_ended) × (lane.came ≡ before.came)
   pub same : some ≡ false → (i : ℕ) (lane : LaneSoFar) → IsLaneAt now i lane → IsLaneAt lanes i lane
   pub still : some ≡ false → (i : ℕ) (lane : LaneSoFar) → i < place → IsLaneAt now i lane → IsLaneHeldUp more lane
 
@@ -172,7 +173,7 @@ round_begins lanes taken there = record {
   phase = refl;
   kept = λ stuck. refl;
   alike = λ free same. same;
-  reads = λ i lane is. (lane, is, refl, refl);
+  reads = λ i lane is. (lane, is, refl, refl, refl);
   same = λ none i lane is. is;
   still = λ none i lane lt. absurd (omega arith);
 }
@@ -186,11 +187,12 @@ none_taken : (records ahead : List Body) → length records ≡ 0 → records ++
 none_taken [] ahead none = refl
 none_taken (b ∷ records) ahead none = absurd (omega (arith, none))
 
-same_lane : (a b : LaneSoFar) → b.log ≡ a.log → b.has_ended ≡ a.has_ended → a.ahead ≡ b.ahead → a ≡ b
-same_lane a b log ended ahead =
-    ap (λ (x : Log). let l : LaneSoFar = record { log = x; ahead = a.ahead; has_ended = a.has_ended } in l) (sym log)
-    ∙ ap (λ (x : List Body). let l : LaneSoFar = record { log = b.log; ahead = x; has_ended = a.has_ended } in l) ahead
-    ∙ ap (λ (x : Bool). let l : LaneSoFar = record { log = b.log; ahead = b.ahead; has_ended = x } in l) (sym ended)
+same_lane : (a b : LaneSoFar) → b.came ≡ a.came → b.log ≡ a.log → b.has_ended ≡ a.has_ended → a.ahead ≡ b.ahead → a ≡ b
+same_lane a b came log ended ahead =
+    ap (λ (x : CameSoFar). let l : LaneSoFar = record { came = x; log = a.log; ahead = a.ahead; has_ended = a.has_ended } in l) (sym came)
+    ∙ ap (λ (x : Log). let l : LaneSoFar = record { came = b.came; log = x; ahead = a.ahead; has_ended = a.has_ended } in l) (sym log)
+    ∙ ap (λ (x : List Body). let l : LaneSoFar = record { came = b.came; log = b.log; ahead = x; has_ended = a.has_ended } in l) ahead
+    ∙ ap (λ (x : Bool). let l : LaneSoFar = record { came = b.came; log = b.log; ahead = b.ahead; has_ended = x } in l) (sym ended)
 
 no_turns_taken : (v : ℕ) (records : List Body) (turns : Turns) → length records ≡ 0 → turns_with v records ++ turns ≡ turns
 no_turns_taken v [] turns none = refl
@@ -223,11 +225,11 @@ module _ (lanes now : List (Option LaneSoFar)) (taken more : Taken) (some : Bool
       let found = later_at now place lane after at more next took turned i old.0 old.1 in
       (found.0, found.1)
 
-  reads_now : (i : ℕ) (one : LaneSoFar) → IsLaneAt here i one → (before : LaneSoFar) × IsLaneAt lanes i before × (one.log ≡ before.log) × (one.has_ended ≡ before.has_ended)
+  reads_now : (i : ℕ) (one : LaneSoFar) → IsLaneAt here i one → (before : LaneSoFar) × IsLaneAt lanes i before × (one.log ≡ before.log) × (one.has_ended ≡ before.has_ended) × (one.came ≡ before.came)
   reads_now i one is =
       let b = before_at now place lane after at more next took turned i one is in
       let first = so.reads i b.0 b.1 in
-      (first.0, first.1, b.2 ∙ first.2, b.3 ∙ first.3)
+      (first.0, first.1, b.2 ∙ first.2, b.3 ∙ first.3, b.4 ∙ first.4)
 
   pub goes_on : (now_some : Bool) → (now_some ≡ false → (some ≡ false) × (took ≡ 0)) → (took ≡ 0 → IsLaneHeldUp next after) → RoundSoFar lanes here taken next now_some (place + 1)
   goes_on now_some none held = record {
@@ -243,7 +245,7 @@ module _ (lanes now : List (Option LaneSoFar)) (taken more : Taken) (some : Bool
         let both = none nothing in
         elim (at_place now place lane after at more next took turned i one is) [
           | inl own ↦
-              let unchanged : lane ≡ after = same_lane lane after turned.log turned.ended (turned.ahead ∙ none_taken turned.records after.ahead (turned.counted ∙ both.1)) in
+              let unchanged : lane ≡ after = same_lane lane after turned.came turned.log turned.ended (turned.ahead ∙ none_taken turned.records after.ahead (turned.counted ∙ both.1)) in
               sym (ap (slice_get lanes) own.0) ∙ so.same both.0 place lane at ∙ ap (λ (l : LaneSoFar). Some (Some l)) (unchanged ∙ own.1)
           | inr other ↦ so.same both.0 i one other.1
         ]

@@ -6,6 +6,8 @@ use Rattle.std.proofs.lemmas.List.{append_assoc, append-nil, length-map}
 use Rattle.vat_log.specs.Log.{Log}
 use Rattle.vat_log.specs.declared.body.Body.{Body}
 use Rattle.turn_taking.specs.Turns.{Turns, records_taken}
+use Rattle.byte_pieces.specs.Coming.{ComesOn}
+use Rattle.byte_pieces.proofs.Coming.{comes_same, comes_then}
 use Rattle.turn_taking.specs.Lanes.{LaneSoFar, GoesOn, HasNext}
 use Rattle.turn_taking.specs.Turned.{Taken}
 use Rattle.turn_taking.specs.Pass.{lane_vat, IsLaneAt, AreThere, AreInStep, AreFilled, AreHeldUp, IsPass, IsRound, IsFurther, AreFurther}
@@ -123,10 +125,11 @@ round_held lanes longer after taken more some so grown round none i lane is =
 -- ---- lanes go on
 
 pub as_far : (lanes : List (Option LaneSoFar)) → AreFurther lanes lanes
-as_far lanes i one is = (one, is, record { vat = refl; more = []; records = sym (append-nil one.log.records); over = λ ended. (refl, ended) })
+as_far lanes i one is = (one, is, record { on = comes_same one.came; vat = refl; more = []; records = sym (append-nil one.log.records); over = λ ended. (refl, ended) })
 
 pub joined : (one two three : LaneSoFar) → IsFurther one two → IsFurther two three → IsFurther one three
 joined one two three first then = record {
+  on = comes_then one.came two.came three.came first.on then.on;
   vat = then.vat ∙ first.vat;
   more = first.more ++ then.more;
   records = then.records ∙ ap (λ (l : List Body). l ++ then.more) first.records ∙ append_assoc one.log.records first.more then.more;
@@ -144,6 +147,7 @@ round_further first lanes longer after taken more some so pass grown round i one
     let b = before lanes longer grown pass.there taken.all pass.in_step i read.0 read.1 in
     let old = so i b.0 b.1 in
     let further : IsFurther b.0 one = record {
+      on = subst (ComesOn b.0.came) (sym read.4) b.2.on;
       vat = ap (λ (r : Log). r.vat) read.2 ∙ b.2.vat;
       more = b.2.more;
       records = ap (λ (r : Log). r.records) read.2 ∙ b.2.records;

@@ -30,6 +30,7 @@ order_more false v body turns may fits = (may, fits)
 
 pub took_none : (lane : LaneSoFar) (taken : Taken) → TookTurns lane lane taken taken 0
 took_none lane taken = record {
+  came = refl;
   log = refl;
   ended = refl;
   records = [];
@@ -47,6 +48,7 @@ pub took_more : (before lane : LaneSoFar) (taken more : Taken) (count : ℕ) →
 took_more before lane taken more count so body first follows =
     let v = lane_vat before in
     record {
+      came = so.came;
       log = so.log;
       ended = so.ended;
       records = so.records ++ body ∷ [];

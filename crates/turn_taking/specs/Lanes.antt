@@ -1,10 +1,13 @@
 -- A log that is read some records ahead of what is taken of it.
 use Rattle.std.specs.Prelude.{◌≡◌, ◌≢◌, ◌⊎◌, Bool, true, List, [], ◌++◌, drop}
+use Rattle.byte_pieces.specs.Coming.{CameSoFar, ComesOn}
 use Rattle.vat_log.specs.Log.{Log}
 use Rattle.vat_log.specs.declared.body.Body.{Body}
 
--- the log as far as it was read, the last of its records, which aren't taken yet, and whether no more is read
+-- what came of the log, the log as far as it was read, the last of its records, which aren't taken yet, and whether no more is
+-- read
 pub record LaneSoFar : Type 0 where
+  pub came : CameSoFar
   pub log : Log
   pub ahead : List Body
   pub has_ended : Bool
@@ -15,6 +18,7 @@ without_first lane = record lane { ahead = drop 1 lane.ahead }
 
 -- more of the log was read, and nothing once it had ended
 pub record GoesOn (lane longer : LaneSoFar) : Type 0 where
+  pub on : ComesOn lane.came longer.came
   pub vat : longer.log.vat ≡ lane.log.vat
   pub more : List Body
   pub records : longer.log.records ≡ lane.log.records ++ more

@@ -1,6 +1,7 @@
 -- The lanes of a case that are read side by side, and the turns that their vats took.
 use Rattle.std.specs.Prelude.{◌≡◌, ℕ, ◌<◌, Bool, true, false, List, [], ◌++◌, length, map, reverse, Option, Some, Contains, option_map, slice_get}
 use Rattle.std.specs.List.{filter_map}
+use Rattle.byte_pieces.specs.Coming.{ComesOn}
 use Rattle.vat_log.specs.Log.{Log}
 use Rattle.vat_log.specs.declared.body.Body.{Body}
 use Rattle.turn_taking.specs.Turns.{Turns, records_taken, AreInOrder}
@@ -36,6 +37,7 @@ turns_with v records = map (λ body. (v, body)) (reverse records)
 
 -- a vat took its turns with records that were ahead in its lane, each in order, and as many as these
 pub record TookTurns (lane after : LaneSoFar) (taken more : Taken) (count : ℕ) : Type 0 where
+  pub came : after.came ≡ lane.came
   pub log : after.log ≡ lane.log
   pub ended : after.has_ended ≡ lane.has_ended
   pub records : List Body
@@ -54,7 +56,7 @@ pub record IsRound (lanes after : List (Option LaneSoFar)) (taken more : Taken) 
   pub phase : more.is_stuck ≡ taken.is_stuck
   pub kept : taken.is_stuck ≡ true → more.in_order ≡ taken.in_order
   pub alike : taken.is_stuck ≡ false → taken.all ≡ taken.in_order → more.all ≡ more.in_order
-  pub reads : (i : ℕ) (lane : LaneSoFar) → IsLaneAt after i lane → (before : LaneSoFar) × IsLaneAt lanes i before × (lane.log ≡ before.log) × (lane.has_ended ≡ before.has_ended)
+  pub reads : (i : ℕ) (lane : LaneSoFar) → IsLaneAt after i lane → (before : LaneSoFar) × IsLaneAt lanes i before × (lane.log ≡ before.log) × (lane.has_ended ≡ before.has_ended) × (lane.came ≡ before.came)
   pub same : some ≡ false → (i : ℕ) (lane : LaneSoFar) → IsLaneAt after i lane → IsLaneAt lanes i lane
   pub still : some ≡ false → (i : ℕ) (lane : LaneSoFar) → IsLaneAt after i lane → IsLaneHeldUp more lane
 
@@ -76,6 +78,7 @@ AreHeldUp lanes taken = (i : ℕ) (lane : LaneSoFar) → IsLaneAt lanes i lane �
 
 -- a lane is as far as another, or further: its log goes on, unless it had ended
 pub record IsFurther (lane longer : LaneSoFar) : Type 0 where
+  pub on : ComesOn lane.came longer.came
   pub vat : longer.log.vat ≡ lane.log.vat
   pub more : List Body
   pub records : longer.log.records ≡ lane.log.records ++ more

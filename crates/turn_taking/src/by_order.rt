@@ -3,7 +3,7 @@
 ghost use Rattle.std.specs.Prelude.{◌≡◌, ◌≢◌, ◌<◌, ◌≤◌, ℕ, [], Some, IfOk, IfSome, IfNone, false, length, map};
 ghost use Rattle.turn_taking.specs.Followed.{AreFollowedToTheEnd, IsStep};
 ghost use Rattle.turn_taking.specs.Lanes.{LaneSoFar};
-ghost use Rattle.turn_taking.specs.Pass.{IsLaneAt, IsPass, lane_vat};
+ghost use Rattle.turn_taking.specs.Pass.{AreFurther, IsLaneAt, IsPass, lane_vat};
 ghost use Rattle.turn_taking.specs.Turned.{Taken};
 ghost use Rattle.turn_taking.specs.WholeCase.{AreTakenBy};
 
@@ -141,7 +141,8 @@ pub fn take_by_order<R: Threads + Sync, L: CaseLane + Send, T: Turns>(
     ensures { IfOk result (λ finding. (taken : Taken) → T.taken turns.old ≡ Some taken → taken.is_stuck ≡ false
         → taken.in_order ≡ [] → IsPass (map L.so_far lanes.old) taken
         → (more : Taken) × (T.taken turns.new ≡ Some more)
-        × AreTakenBy (map L.so_far lanes.new) more order.now finding) }
+        × AreTakenBy (map L.so_far lanes.new) more order.now finding
+        × AreFurther (map L.so_far lanes.old) (map L.so_far lanes.new)) }
 {
     let count = follow(rt, alloc, lanes, turns, order, workers)?;
     fill_round(rt, alloc, lanes, 1, workers);

@@ -3,7 +3,7 @@
 ghost use Rattle.std.specs.Prelude.{◌≡◌, ◌≢◌, ◌<◌, ℕ, [], Some, IfOk, true, false, map};
 ghost use Rattle.turn_taking.specs.Lanes.{LaneSoFar};
 ghost use Rattle.turn_taking.specs.Turned.{Taken};
-ghost use Rattle.turn_taking.specs.Pass.{AreEmpty, AreThere, IsLaneAt, IsPass};
+ghost use Rattle.turn_taking.specs.Pass.{AreEmpty, AreFurther, AreThere, IsLaneAt, IsPass};
 ghost use Rattle.turn_taking.specs.WholeCase.{AreTaken};
 
 use crate::case_lane::{CaseLane, Turns};
@@ -43,7 +43,8 @@ pub fn take_all<R: Threads + Sync, L: CaseLane + Send, T: Turns>(
     requires { 0 < workers }
     ensures { IfOk result (λ fits. (taken : Taken) → T.taken turns.old ≡ Some taken → taken.is_stuck ≡ false
         → IsPass (map L.so_far lanes.old) taken
-        → (more : Taken) × (T.taken turns.new ≡ Some more) × AreTaken (map L.so_far lanes.new) more fits) }
+        → (more : Taken) × (T.taken turns.new ≡ Some more) × AreTaken (map L.so_far lanes.new) more fits
+        × AreFurther (map L.so_far lanes.old) (map L.so_far lanes.new)) }
 {
     take_in_step(rt, alloc, lanes, turns, workers)?;
     let fits = !are_left(lanes);

@@ -1,11 +1,11 @@
-use Rattle.std.proofs.Common.{List, Option, [], false, refl, ap, ◌∙◌}
+use Rattle.std.proofs.Common.{List, Option, [], false, refl, sym, ap, subst, ◌∙◌}
 use Rattle.std.proofs.lemmas.Result.{err_from_is_err_and}
 use Rattle.log_lane.specs.Lanes.{ReadAhead}
 use Rattle.turn_taking.specs.Pass.{logs_of as case_logs}
 use Rattle.lock_step.specs.Taking.{Taken, turned}
 use Rattle.log_lane.specs.Slim.{logs_audited}
 use Rattle.stream_audit.specs.Glue.{so_far}
-use Rattle.stream_audit.specs.Streamed.{IsRefusalOf}
+use Rattle.stream_audit.specs.Streamed.{AreReadOn, IsRefusalOf}
 use Rattle.stream_audit.specs.declared.error.StreamError.TheVariants.{OutOfMemory}
 use Rattle.stream_audit.proofs.Fresh.{begun}
 use Rattle.stream_audit.proofs.Streaming.{err_of, line_of_streams}
@@ -39,6 +39,13 @@ pub returns-in_err-line_of-clause-err : goal.returns-in_err-line_of-clause-err
 returns-in_err-line_of-clause-err g c =
     let p = err_from_is_err_and c.from_residual-in_err-line_of.result c.from_residual-in_err-line_of.ensures.1 in
     err_of (IsRefusalOf c.take_logs-2.new.lanes c.args.links.items c.args.workers) c.from_residual-in_err-line_of.result OutOfMemory p.0 p.1 p.2 tt
+
+pub returns-clause-lanes : goal.returns-clause-lanes
+returns-clause-lanes g c =
+    let begins : Taken = record { links = c.args.links.items; in_order = []; all = []; is_stuck = false } in
+    let apart = c.are_apart.ensures c.if-not-are_apart.false in
+    let step = c.in_ok-found.ensures begins c.requires.begun refl refl (begun c.args.lanes.now (turned begins) c.requires.fresh apart refl refl) in
+    subst (AreReadOn c.args.lanes.now) (sym c.in_ok-take_logs-2.ensures.lanes) step.3
 
 pub returns-clause-line : goal.returns-clause-line
 returns-clause-line g c =

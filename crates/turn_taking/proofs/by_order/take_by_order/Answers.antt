@@ -2,7 +2,8 @@ use Rattle.std.proofs.Common.{◌≡◌, length, map, refl, sym, ap, ◌∙◌, 
 use Rattle.std.specs.Prelude.{option_map}
 use Rattle.std.proofs.lemmas.List.{length-map}
 use Rattle.turn_taking.specs.Turned.{given_up}
-use Rattle.turn_taking.proofs.Over.{order_fits, order_ends, order_stops, pass_given_up, read_on}
+use Rattle.turn_taking.proofs.Ordered.{further_on}
+use Rattle.turn_taking.proofs.Over.{filled_further, order_fits, order_ends, order_stops, pass_given_up, read_on}
 use Rattle.turn_taking.proofs.Stepping.{none_refused, filled}
 use Rattle.turn_taking.proofs.by_order.take_by_order.Goals.{else-count-as_slice-via-then-count-as_slice+else-not-are_left, else-count-as_slice-via-else-count-as_slice}
 use Rattle.turn_taking.proofs.by_order.take_by_order.Goals as goal
@@ -17,6 +18,8 @@ returns-then-not-are_left g c = λ taken kept free none pass.
       ended.1,
       order_fits (map f c.args.lanes.now) (map f c.follow.new.lanes) (map f c.fill_round.new.lanes) taken ended.0 c.args.order.now c.in_ok-count.count free none ended.2 grown there
           (c.if-count-as_slice.true ∙ ap length c.as_slice.ensures) (c.are_left.ensures.none there c.if-not-are_left.true),
+      further_on (map f c.args.lanes.now) (map f c.follow.new.lanes) (map f c.fill_round.new.lanes) ended.2.followed.further
+          (filled_further (map f c.follow.new.lanes) (map f c.fill_round.new.lanes) ended.0 ended.2.followed.pass grown there),
     )
 
 pub returns : goal.returns
@@ -47,4 +50,5 @@ returns g c = λ taken kept free none pass.
             order_stops lanes now longer taken ended.0 order count free none ended.2 grown there later rest.0 long long_too rest.4 rest.5 rest.2 (rest.3 refl) rest.6
             (λ e. w.if-count-as_slice.false (e ∙ sym (ap length c.as_slice.ensures)))
       ],
+      further_on lanes longer later (further_on lanes now longer ended.2.followed.further (filled_further now longer ended.0 ended.2.followed.pass grown there)) rest.4,
     )

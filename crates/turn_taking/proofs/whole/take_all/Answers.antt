@@ -3,6 +3,7 @@ use Rattle.std.specs.Prelude.{not, option_map}
 use Rattle.std.proofs.lemmas.List.{length-map}
 use Rattle.turn_taking.specs.Turned.{given_up}
 use Rattle.turn_taking.specs.WholeCase.{AreTaken}
+use Rattle.turn_taking.proofs.Ordered.{further_on}
 use Rattle.turn_taking.proofs.Over.{all_in_order, pass_given_up, rest_is_left}
 use Rattle.turn_taking.proofs.whole.take_all.Goals as goal
 
@@ -21,6 +22,7 @@ returns-in_ok-take_in_step-2 g c = λ taken kept free pass.
       rest.1,
       subst (λ (b : Bool). AreTaken later rest.0 (not b)) (sym left)
           (rest_is_left lanes later first.0 rest.0 (first.2 ∙ free) first.5 first.6 long rest.4 rest.5 rest.2 (rest.3 refl) rest.6 found.0 found.1 found.2 found.3),
+      further_on (map f c.args.lanes.now) lanes later first.4 rest.4,
     )
 
 pub returns-else-not-fits : goal.returns-else-not-fits
@@ -32,4 +34,5 @@ returns-else-not-fits g c = λ taken kept free pass.
       first.0,
       first.1,
       subst (λ (b : Bool). AreTaken lanes first.0 (not b)) (sym left) (all_in_order lanes first.0 (first.2 ∙ free) first.5 first.6 (c.are_left-fits.ensures.none first.5.there left)),
+      first.4,
     )

@@ -6,6 +6,6 @@ returns-else-is_late c = rw c.moved.ensures (rw c.opening_call.ensures (rw c.of_
 
 pub returns-else-is_none : goal.returns-else-is_none
 returns-else-is_none c =
-    rw c.moved-in-Return-default-default-TakeFrom-default.ensures
-    (rw c.opening_call-in-Return-default-default-TakeFrom-default.ensures
-    (rw c.of_receiver-question-in-Return-default-default-TakeFrom-default.ensures (search rules)))
+    rw c.moved-in-Return-default-TakeFrom.ensures
+    (rw c.opening_call-in-Return-default-TakeFrom.ensures
+    (rw c.of_receiver-question-in-Return-default-TakeFrom.ensures (search rules)))

@@ -79,25 +79,34 @@ impl Overtakers {
         Ok(())
     }
 
-    /// Puts a step behind the others. A call that overtakes another is made through a new reference, a promise that became the
-    /// first one.
+    /// Where a call is made that overtakes another, makes it through a new reference, a promise that became the first one.
+    fn remake(&self, body: &mut Body, into: &mut EndSteps) -> Result<(), AllocError> {
+        let Body::Make {
+            call,
+            reference,
+            ..
+        } = body
+        else {
+            return Ok(());
+        };
+        if self.calls.has(*call) {
+            into.references = into.references.saturating_add(1);
+            let (second, to) = (into.references, *reference);
+            into.steps
+                .push(EndStep::Note(Body::Vow { reference: second }))?;
+            into.steps.push(EndStep::Note(Body::Fulfil {
+                reference: second,
+                to,
+            }))?;
+            *reference = second;
+        }
+        Ok(())
+    }
+
+    /// Puts a step behind the others.
     fn put(&self, mut step: EndStep, into: &mut EndSteps) -> Result<(), AllocError> {
-        if let EndStep::Note(
-            Body::Make {
-                call,
-                reference: to,
-                ..
-            },
-        ) = &mut step
-        {
-            if self.calls.has(*call) {
-                into.references = into.references.saturating_add(1);
-                let reference = into.references;
-                into.steps.push(EndStep::Note(Body::Vow { reference }))?;
-                into.steps
-                    .push(EndStep::Note(Body::Fulfil { reference, to: *to }))?;
-                *to = reference;
-            }
+        if let EndStep::Note(body) = &mut step {
+            self.remake(body, into)?;
         }
         into.steps.push(step)?;
         Ok(())

@@ -142,7 +142,8 @@ impl EndTurns {
             if !self.is_over(walk.view) {
                 return true;
             }
-            if !walk.goes_on(self.turn_of(walk.view)) {
+            let turn = self.turn_of(walk.view);
+            if !walk.goes_on(turn) {
                 break;
             }
         }

@@ -182,7 +182,8 @@ impl<'a> Vat<'a> {
             if self.turns.turn_of(walk.view) == NextView::Stays && !self.tell(walk.view, true)? {
                 break;
             }
-            if !walk.goes_on(self.turns.turn_of(walk.view)) {
+            let turn = self.turns.turn_of(walk.view);
+            if !walk.goes_on(turn) {
                 break;
             }
         }

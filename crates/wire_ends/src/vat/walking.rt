@@ -67,7 +67,8 @@ impl LookAhead<'_> {
             if walk.view == to {
                 return true;
             }
-            if !walk.goes_on(self.turn_ahead(walk.view)) {
+            let turn = self.turn_ahead(walk.view);
+            if !walk.goes_on(turn) {
                 break;
             }
         }

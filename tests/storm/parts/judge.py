@@ -6,7 +6,7 @@ import os
 import re
 
 from .lives import passed_before_a_loss
-from .trees import body_of, came_to, is_received, numbered_calls, trees
+from .trees import body_of, came_to, is_received, numbered_calls, trees, without_numbers
 
 
 # An address of this run, which an assertion of the runtime prints, into its exception's text too.
@@ -110,11 +110,13 @@ def is_lost_alike(trace, twin):
 
 def are_said_alike(frames, twin, before):
     """Whether two runs said the same, wherever their contents lie. So many frames of each file passed before a connection
-    was lost, and what comes behind them may come in another order; of none, if no connection was lost."""
+    was lost, and what comes behind them may come in another order, and under other numbers; of none, if no connection was
+    lost."""
     for name in frames.keys() | twin.keys():
-        one, other = [list(map(repr, trees(each.get(name, b"")))) for each in (frames, twin)]
+        one, other = [trees(each.get(name, b"")) for each in (frames, twin)]
         kept = len(one) if before is None else before.get(name, 0)
-        if one[:kept] != other[:kept] or collections.Counter(one) != collections.Counter(other):
+        behind = [collections.Counter(map(without_numbers, each[kept:])) for each in (one, other)]
+        if repr(one[:kept]) != repr(other[:kept]) or behind[0] != behind[1]:
             return False
     return True
 

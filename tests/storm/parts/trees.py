@@ -96,6 +96,14 @@ def descriptors(kind, body):
     return [(number(one, 0, 2), number(one, 4, 4)) for one in table[1]] if table else []
 
 
+def without_numbers(tree):
+    """Which message it is, and the contents of a Call or a Return, without the numbers of questions and capabilities."""
+    kind, body = body_of(tree)
+    at = {2: 1, 3: 0}.get(kind)
+    payload = body[2][at] if at is not None and len(body[2]) > at else None
+    return kind, repr(payload[2][:1] if payload else None if kind is not None else tree)
+
+
 METHODS = ("mute", "ping", "self", "get", "make", "echo", "hold", "slow", "slowecho", "fail", "tail", "callback", "stream",
            "slowget")
 

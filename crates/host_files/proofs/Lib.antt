@@ -1,1 +1,2 @@
 mod ClosedReaders
+mod Limited

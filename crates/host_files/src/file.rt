@@ -1,13 +1,13 @@
 //! Files and standard input.
 
-ghost use Rattle.std.specs.Prelude.{◌≡◌, ◌<◌, ◌≤◌, ◌∷◌, [], Some, false, length, IfErr, IfOk, IfSome, IsOkAnd, List, OnOk, Option, ℕ};
+ghost use Rattle.std.specs.Prelude.{◌≡◌, ◌<◌, ◌≤◌, ◌∷◌, [], Some, true, false, length, IfErr, IfOk, IfSome, IsOkAnd, List, OnOk, Option, ℕ};
 ghost use Rattle.std.specs.Str.{bytes_eq};
 ghost use Rattle.byte_pieces.specs.Coming.{IsFresh};
 ghost use Rattle.case_files.specs.Opening.{IsOf};
-ghost use Rattle.host_files.specs.Holding.{IsAsHeld, as_read, held_under, left_of};
+ghost use Rattle.host_files.specs.Holding.{as_read, held_under, left_of};
 
-use crate::folder_reader::{FolderReader, Opened, OpenedOf};
-use crate::host::LogHost;
+use crate::folder_reader::{FolderReader, Opened};
+use crate::host::{HostFile, HostInput, LogHost};
 use bytes::{Buf as _, Bytes};
 use case_files::{Source, SourceError};
 use std::alloc::Global;
@@ -141,7 +141,7 @@ impl Openings {
     }
 
     /// All bytes of standard input, which are there once. Where they can't be read the reason is told.
-    fn read_input<I: Read + Drop>(
+    pub(crate) fn read_input<I: Read + Drop>(
         &mut self,
         alloc: Global,
         input: I,
@@ -173,14 +173,19 @@ impl Openings {
         whole(alloc, file)
     }
 
-    /// What hands out the file of a name.
-    pub(crate) fn of_file<R: LogHost>(&mut self, rt: &R, name: &str) -> FolderReader<R>
-        requires { bytes_eq name.now (45 ∷ []) ≡ false }
+    /// What hands out the file of a name, which was opened.
+    pub(crate) fn of_file<F: HostFile + Drop, I: HostInput>(
+        &mut self,
+        alloc: Global,
+        name: &str,
+        opened: io::Result<F>,
+    ) -> FolderReader<F, I>
+        requires named { bytes_eq name.now (45 ∷ []) ≡ false }
+        requires opened { IfOk opened (λ file. IfSome (F.in_file name.now) (λ all. F.remaining file ≡ Some all)) }
         ensures fresh { IsFresh result.came }
-        ensures of { IsOf (as_read (held_under R.in_file R.in_input name.now)) result.came }
+        ensures of { IsOf (as_read (held_under F.in_file I.in_input name.now)) result.came }
     {
-        let alloc = rt.alloc();
-        match rt.open_log(name) {
+        match opened {
             Ok(file) => {
                 let lasts = lasts(&file);
                 let kept = self.room_to_keep(alloc, lasts);
@@ -194,45 +199,23 @@ impl Openings {
     }
 
     /// What hands out standard input, once.
-    pub(crate) fn of_input<R: LogHost>(&mut self, rt: &R, name: &str) -> FolderReader<R>
-        requires { bytes_eq name.now (45 ∷ []) ≡ true }
+    pub(crate) fn of_input<F: HostFile, I: HostInput + Drop>(
+        &mut self,
+        alloc: Global,
+        name: &str,
+        input: I,
+    ) -> FolderReader<F, I>
+        requires named { bytes_eq name.now (45 ∷ []) ≡ true }
+        requires input { IfSome I.in_input (λ all. I.remaining input ≡ Some all) }
         ensures fresh { IsFresh result.came }
-        ensures of { IsOf (as_read (held_under R.in_file R.in_input name.now)) result.came }
+        ensures of { IsOf (as_read (held_under F.in_file I.in_input name.now)) result.came }
     {
-        let alloc = rt.alloc();
         if self.input_was_read {
             return FolderReader::refused(alloc, name, read_before(), false);
         }
         self.input_was_read = true;
         let kept = self.room_to_keep(alloc, false);
-        FolderReader::new(alloc, name, Opened::Input(rt.log_input()), false, kept)
-    }
-
-    /// What hands out what stands under a name.
-    pub(crate) fn open<R: LogHost>(&mut self, rt: &R, name: &str) -> FolderReader<R>
-        ensures fresh { IsFresh result.came }
-        ensures of { IsOf (as_read (held_under R.in_file R.in_input name.now)) result.came }
-    {
-        if name == "-" {
-            return self.of_input(rt, name);
-        }
-        self.of_file(rt, name)
-    }
-
-    /// All bytes that stand under a name. Where they can't be read the reason is told.
-    pub(crate) fn read<R: LogHost>(
-        &mut self,
-        rt: &R,
-        name: &str,
-        why: &mut Option<io::Error>,
-    ) -> Result<Bytes, SourceError>
-        ensures { IsAsHeld (held_under R.in_file R.in_input name.now) result }
-    {
-        let alloc = rt.alloc();
-        if name == "-" {
-            return self.read_input(alloc, rt.log_input(), why);
-        }
-        read_file(alloc, rt.open_log(name), why)
+        FolderReader::new(alloc, name, Opened::Input(input), false, kept)
     }
 }
 
@@ -265,24 +248,34 @@ impl<'a, R> Folder<'a, R> {
 impl<R: LogHost> Source for Folder<'_, R> {
     ghost use Rattle.host_files.specs.Holding.{IsAsHeld, as_read, held_under};
 
-    type Reader = FolderReader<R>;
+    type Reader = FolderReader<R::LogFile, R::LogInput>;
 
-    ghost read_gives = { λ _ name read _. IsAsHeld (held_under R.in_file R.in_input name) read };
+    ghost read_gives = { λ _ name read _. IsAsHeld (held_under R.LogFile.in_file R.LogInput.in_input name) read };
 
-    ghost holds = { λ _ name. as_read (held_under R.in_file R.in_input name) };
+    ghost holds = { λ _ name. as_read (held_under R.LogFile.in_file R.LogInput.in_input name) };
 
     fn read(&mut self, name: &str) -> Result<Bytes, SourceError> {
-        self.openings.read(self.rt, name, &mut None)
+        let alloc = self.rt.alloc();
+        if name == "-" {
+            let input = self.rt.log_input();
+            return self.openings.read_input(alloc, input, &mut None);
+        }
+        read_file(alloc, self.rt.open_log(name), &mut None)
     }
 
-    fn open(&mut self, name: &str) -> FolderReader<R> {
-        self.openings.open(self.rt, name)
+    fn open(&mut self, name: &str) -> FolderReader<R::LogFile, R::LogInput> {
+        let alloc = self.rt.alloc();
+        if name == "-" {
+            let input = self.rt.log_input();
+            return self.openings.of_input(alloc, name, input);
+        }
+        self.openings.of_file(alloc, name, self.rt.open_log(name))
     }
 
     fn close(
         &mut self,
         name: &str,
-        reader: &FolderReader<R>,
+        reader: &FolderReader<R::LogFile, R::LogInput>,
         failed: bool,
     ) -> Result<(), SourceError> {
         closed(name, reader, failed)
@@ -290,13 +283,13 @@ impl<R: LogHost> Source for Folder<'_, R> {
 }
 
 /// What closing a reader under a name answers. One of another name isn't taken.
-pub(crate) fn closed<R: LogHost>(
+pub(crate) fn closed<F: HostFile, I: HostInput>(
     name: &str,
-    reader: &FolderReader<R>,
+    reader: &FolderReader<F, I>,
     failed: bool,
 ) -> Result<(), SourceError>
     ensures { OnOk result ((failed ≡ false)
-        × IsOf (as_read (held_under R.in_file R.in_input name.now)) reader.now.came) }
+        × IsOf (as_read (held_under F.in_file I.in_input name.now)) reader.now.came) }
 {
     if failed {
         return Err(SourceError::CannotRead);

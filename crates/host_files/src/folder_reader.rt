@@ -4,7 +4,7 @@ ghost use Rattle.std.specs.Prelude.{◌≡◌, true, None, Some, IfSome, string_
 ghost use Rattle.byte_pieces.specs.Coming.{IsFresh};
 ghost use Rattle.case_files.specs.Opening.{IsOf};
 
-use crate::host::LogHost;
+use crate::host::{HostFile, HostInput};
 use byte_pieces::{PieceFault, Pieces, ReadPieces};
 use bytes::Bytes;
 use bytes::buf::Reader;
@@ -46,14 +46,12 @@ impl<F: Read, I: Read> Read for Opened<F, I> {
     }
 }
 
-/// What is opened of a host.
-pub(crate) type OpenedOf<R> = Opened<<R as LogHost>::LogFile, <R as LogHost>::LogInput>;
-
 /// What hands out a file or standard input piece by piece, and counts its bytes. Of what can't be read once more it keeps them
 /// where it is asked to, unless there are too many. To a contract it is the name under which it was opened, and what came, which is
 /// of what stands under that name.
-pub struct FolderReader<R: LogHost> {
-    pieces: ReadPieces<OpenedOf<R>>,
+#[derive(Drop)]
+pub struct FolderReader<F: HostFile, I: HostInput> {
+    pieces: ReadPieces<Opened<F, I>>,
     name: Option<String>,
     lasts: bool,
     count: u64,
@@ -61,20 +59,7 @@ pub struct FolderReader<R: LogHost> {
     too_long: Option<io::Error>,
 }
 
-impl<R: LogHost> Drop for FolderReader<R> {
-    fn drop(self) {
-        let Self {
-            pieces: _,
-            name: _,
-            lasts: _,
-            count: _,
-            kept: _,
-            too_long: _,
-        } = self;
-    }
-}
-
-impl<R: LogHost> Model for FolderReader<R> {
+impl<F: HostFile, I: HostInput> Model for FolderReader<F, I> {
     ghost use Rattle.std.specs.Prelude.{IfSome, option_map, string_bytes};
     ghost use Rattle.case_files.specs.Opening.{IsOf};
     ghost use Rattle.host_files.specs.declared.folder_reader.TheConstants.{LIMIT};
@@ -88,24 +73,24 @@ impl<R: LogHost> Model for FolderReader<R> {
     } };
 
     ghost invariant = { λ reader. IfSome (option_map string_bytes reader.name)
-        (λ name. IsOf (as_read (held_under R.in_file R.in_input name)) reader.pieces) };
+        (λ name. IsOf (as_read (held_under F.in_file I.in_input name)) reader.pieces) };
 }
 
-impl<R: LogHost> FolderReader<R> {
+impl<F: HostFile, I: HostInput> FolderReader<F, I> {
     ghost use Rattle.host_files.specs.Holding.{as_read, held_under, left_of};
 
     /// What hands out what was opened under a name, which can be read once more or can't; and where its bytes are kept, if they are.
     pub(crate) fn new(
         alloc: Global,
         name: &str,
-        opened: OpenedOf<R>,
+        opened: Opened<F, I>,
         lasts: bool,
         kept: Option<Vec<u8>>,
-    ) -> FolderReader<R>
-        requires { IfSome (held_under R.in_file R.in_input name.now)
-            (λ all. left_of R.LogFile.remaining R.LogInput.remaining opened ≡ Some all) }
+    ) -> FolderReader<F, I>
+        requires { IfSome (held_under F.in_file I.in_input name.now)
+            (λ all. left_of F.remaining I.remaining opened ≡ Some all) }
         ensures fresh { IsFresh result.came }
-        ensures of { IsOf (as_read (held_under R.in_file R.in_input name.now)) result.came }
+        ensures of { IsOf (as_read (held_under F.in_file I.in_input name.now)) result.came }
     {
         FolderReader {
             pieces: ReadPieces::new(opened),
@@ -118,9 +103,14 @@ impl<R: LogHost> FolderReader<R> {
     }
 
     /// What gives nothing, since what stands under a name can't be read, for this reason; whether it can be tried once more.
-    pub(crate) fn refused(alloc: Global, name: &str, why: io::Error, lasts: bool) -> FolderReader<R>
+    pub(crate) fn refused(
+        alloc: Global,
+        name: &str,
+        why: io::Error,
+        lasts: bool,
+    ) -> FolderReader<F, I>
         ensures fresh { IsFresh result.came }
-        ensures of { IsOf (as_read (held_under R.in_file R.in_input name.now)) result.came }
+        ensures of { IsOf (as_read (held_under F.in_file I.in_input name.now)) result.came }
     {
         FolderReader {
             pieces: ReadPieces::refused(Opened::Nothing, why),
@@ -133,7 +123,7 @@ impl<R: LogHost> FolderReader<R> {
     }
 
     /// What hands out a file once more, for people.
-    pub(crate) fn again(file: R::LogFile) -> FolderReader<R>
+    pub(crate) fn again(file: F) -> FolderReader<F, I>
         ensures { IsFresh result.came }
     {
         FolderReader {
@@ -148,7 +138,7 @@ impl<R: LogHost> FolderReader<R> {
 
     /// Whether it was opened under this name. Where memory was refused for its name, that isn't known.
     pub(crate) fn is_of(&self, name: &str) -> bool
-        ensures { result ≡ true → IsOf (as_read (held_under R.in_file R.in_input name.now)) self.now.came }
+        ensures { result ≡ true → IsOf (as_read (held_under F.in_file I.in_input name.now)) self.now.came }
     {
         match &self.name {
             Some(own) => own.as_str() == name,
@@ -191,7 +181,7 @@ fn keep(kept: &mut Option<Vec<u8>>, piece: &[u8]) {
     }
 }
 
-impl<R: LogHost> Pieces for FolderReader<R> {
+impl<F: HostFile, I: HostInput> Pieces for FolderReader<F, I> {
     ghost so_far = { λ reader. reader.came };
 
     fn more(

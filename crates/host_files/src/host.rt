@@ -6,18 +6,29 @@ use std::fs::{self, File, OpenFile};
 use std::io::{self, Read, StdinLock};
 use std::rt::Files;
 
+/// A host's open file.
+pub trait HostFile: Read + OpenFile {
+    // What stands in the file of a name, where that is known: of what the system holds it isn't.
+    ghost in_file: { List ℕ → Option (List ℕ) } = { λ _. None };
+}
+
+/// A host's standard input.
+pub trait HostInput: Read {
+    // What stands in it, where that is known.
+    ghost in_input: { Option (List ℕ) } = { None };
+}
+
+impl HostFile for File {}
+
+impl HostInput for StdinLock<'static> {}
+
 /// A host whose files and standard input can be handed to another thread.
 pub trait LogHost: Files + Input + AllocGlobal {
-    // What stands in the file of a name, and in standard input, where that is known: of what the system holds it isn't.
-    ghost in_file: { List ℕ → Option (List ℕ) } = { λ _. None };
-
-    ghost in_input: { Option (List ℕ) } = { None };
-
     /// An open file.
-    type LogFile: Read + OpenFile + Send + Drop;
+    type LogFile: HostFile + Send + Drop;
 
     /// Standard input.
-    type LogInput: Read + Send + Drop;
+    type LogInput: HostInput + Send + Drop;
 
     /// The file of this name, open to be read.
     ///
@@ -25,12 +36,12 @@ pub trait LogHost: Files + Input + AllocGlobal {
     ///
     /// What the system says.
     fn open_log(&self, name: &str) -> io::Result<Self::LogFile>
-        ensures { IfOk result
-            (λ file. IfSome (in_file name.now) (λ all. Self.LogFile.remaining file ≡ Some all)) };
+        ensures { IfOk result (λ file. IfSome (Self.LogFile.in_file name.now)
+            (λ all. Self.LogFile.remaining file ≡ Some all)) };
 
     /// Standard input, of which nothing was read ahead.
     fn log_input(&self) -> Self::LogInput
-        ensures { IfSome in_input (λ all. Self.LogInput.remaining result ≡ Some all) };
+        ensures { IfSome Self.LogInput.in_input (λ all. Self.LogInput.remaining result ≡ Some all) };
 }
 
 impl LogHost for HostRuntime {

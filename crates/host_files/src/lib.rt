@@ -16,6 +16,6 @@ mod remembered_files;
 
 pub use file::Folder;
 pub use folder_reader::FolderReader;
-pub use host::LogHost;
+pub use host::{HostFile, HostInput, LogHost};
 pub use made::Made;
 pub use remembered_files::RememberingFolder;

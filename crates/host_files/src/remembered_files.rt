@@ -2,7 +2,7 @@
 
 use crate::file::{LIMIT, Openings, closed, read_file};
 use crate::folder_reader::{FolderReader, copy_of};
-use crate::host::LogHost;
+use crate::host::{HostFile, HostInput, LogHost};
 use bytes::Bytes;
 use case_files::{RememberingSource, Source, SourceError};
 use cause_notes::SearchingSource;
@@ -32,10 +32,10 @@ enum Again {
 
 impl ClosedFile {
     /// The file of this name, and what its reader has of it.
-    fn of<R: LogHost>(
+    fn of<F: HostFile, I: HostInput>(
         alloc: Global,
         name: &str,
-        reader: &FolderReader<R>,
+        reader: &FolderReader<F, I>,
     ) -> Result<ClosedFile, AllocError> {
         let again = match reader.kept() {
             Some(bytes) => Again::Kept(Bytes::copy_from_slice(alloc, bytes)?),
@@ -104,7 +104,7 @@ impl<'a, R: AllocGlobal> RememberingFolder<'a, R> {
     }
 }
 
-impl<R: LogHost> RememberingFolder<'_, R> {
+impl<R: Files + AllocGlobal> RememberingFolder<'_, R> {
     /// How many bytes may still be read once more.
     fn room(&self) -> usize {
         let lengths = self.kept.iter().map(|file| file.1.len());
@@ -112,7 +112,11 @@ impl<R: LogHost> RememberingFolder<'_, R> {
     }
 
     /// Keeps the name whose reading ends, and what its reader has. Where memory is refused less is kept.
-    fn keep_closed(&mut self, name: &str, reader: &FolderReader<R>) -> Result<(), AllocError> {
+    fn keep_closed<F: HostFile, I: HostInput>(
+        &mut self,
+        name: &str,
+        reader: &FolderReader<F, I>,
+    ) -> Result<(), AllocError> {
         self.keep_name(name)?;
         let file = ClosedFile::of(self.rt.alloc(), name, reader)?;
         Ok(self.closed.push(file)?)
@@ -160,27 +164,38 @@ impl<R: LogHost> RememberingFolder<'_, R> {
 impl<R: LogHost> Source for RememberingFolder<'_, R> {
     ghost use Rattle.host_files.specs.Holding.{IsAsHeld, as_read, held_under};
 
-    type Reader = FolderReader<R>;
+    type Reader = FolderReader<R::LogFile, R::LogInput>;
 
-    ghost read_gives = { λ _ name read _. IsAsHeld (held_under R.in_file R.in_input name) read };
+    ghost read_gives = { λ _ name read _. IsAsHeld (held_under R.LogFile.in_file R.LogInput.in_input name) read };
 
-    ghost holds = { λ _ name. as_read (held_under R.in_file R.in_input name) };
+    ghost holds = { λ _ name. as_read (held_under R.LogFile.in_file R.LogInput.in_input name) };
 
     fn read(&mut self, name: &str) -> Result<Bytes, SourceError> {
         self.refusal = None;
-        let read = self.openings.read(self.rt, name, &mut self.refusal);
+        let alloc = self.rt.alloc();
+        let read = if name == "-" {
+            let input = self.rt.log_input();
+            self.openings.read_input(alloc, input, &mut self.refusal)
+        } else {
+            read_file(alloc, self.rt.open_log(name), &mut self.refusal)
+        };
         let _ = self.keep(name, &read);
         read
     }
 
-    fn open(&mut self, name: &str) -> FolderReader<R> {
-        self.openings.open(self.rt, name)
+    fn open(&mut self, name: &str) -> FolderReader<R::LogFile, R::LogInput> {
+        let alloc = self.rt.alloc();
+        if name == "-" {
+            let input = self.rt.log_input();
+            return self.openings.of_input(alloc, name, input);
+        }
+        self.openings.of_file(alloc, name, self.rt.open_log(name))
     }
 
     fn close(
         &mut self,
         name: &str,
-        reader: &FolderReader<R>,
+        reader: &FolderReader<R::LogFile, R::LogInput>,
         failed: bool,
     ) -> Result<(), SourceError> {
         let alloc = self.rt.alloc();
@@ -215,7 +230,7 @@ impl<R: LogHost> RememberingSource for RememberingFolder<'_, R> {
         &self.left_out
     }
 
-    fn open_again(&self, name: &str) -> Option<FolderReader<R>> {
+    fn open_again(&self, name: &str) -> Option<FolderReader<R::LogFile, R::LogInput>> {
         if !self.lasting.iter().any(|lasting| lasting.as_str() == name) {
             return None;
         }

@@ -1,5 +1,6 @@
+use Rattle.host_files.specs.Holding.{held_under}
 use Rattle.host_files.proofs.ClosedReaders.{closes_so}
 use Rattle.host_files.proofs.file.FolderSource.close.Goals as goal
 
 pub returns : goal.returns
-returns g c = closes_so c.args.self.now c.args.self.now c.args._name.now c.args._reader.now.pieces.bytes c.args._reader.now.pieces.is_over c.args.failed c.closed.result c.closed.ensures
+returns g c = closes_so (held_under g.R.LogFile.HostFile.in_file g.R.LogInput.HostInput.in_input) c.args.self.now c.args.self.now c.args.name.now c.args.reader.now.came c.args.failed c.closed.result c.closed.ensures

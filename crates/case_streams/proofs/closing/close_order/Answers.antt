@@ -1,4 +1,4 @@
-use Rattle.std.proofs.Common.{Some, [], false, ap, ◌∙◌, string_bytes}
+use Rattle.std.proofs.Common.{Some, false, ap, ◌∙◌, string_bytes}
 use Rattle.std.proofs.lemmas.Result.{err_from_is_err_and}
 use Rattle.case_streams.proofs.Closed.{bad_order, fault_of_file, order_of_file, read_order, unread_order}
 use Rattle.case_streams.specs.declared.opening.OrderFault.TheVariants.{Bad}
@@ -8,7 +8,7 @@ pub returns-in_err-close-clause-comes : goal.returns-in_err-close-clause-comes
 returns-in_err-close-clause-comes g c = λ given so.
     let p = err_from_is_err_and c.from_residual.result c.from_residual.ensures.1 in
     let none = rw c.as_str.ensures.value at c.in_err-close.ensures in
-    rw c.in-Some-Some.is-0 (rw (p.1, p.2) (unread_order g.S.Source.read_gives c.args.source.now c.close.new.self (string_bytes c.in-Some-Some.name) [] false c.in_err-close.field-0.0 none))
+    rw c.in-Some-Some.is-0 (rw (p.1, p.2) (unread_order g.S.Source.read_gives c.args.source.now c.close.new.self (string_bytes c.in-Some-Some.name) (g.S.Reader.Pieces.so_far c.in-Some-Some.order.reader) c.in_err-close.field-0.0 none))
 
 pub returns-in_default-fault-clause-comes : goal.returns-in_default-fault-clause-comes
 returns-in_default-fault-clause-comes g c = λ given so.
@@ -23,13 +23,13 @@ pub returns-in_err-close-in-CannotRead-clause-comes : goal.returns-in_err-close-
 returns-in_err-close-in-CannotRead-clause-comes g c = λ given so.
     let p = err_from_is_err_and c.from_residual-in_err-close-in-CannotRead.result c.from_residual-in_err-close-in-CannotRead.ensures.1 in
     let none = rw c.as_str-in-CannotRead.ensures.value at c.in_err-close-in-CannotRead.ensures in
-    rw c.in-Some-Some.is-0 (rw (p.1, p.2) (unread_order g.S.Source.read_gives c.args.source.now c.close-in-CannotRead.new.self (string_bytes c.in-Some-Some.name) [] false c.in_err-close-in-CannotRead.field-0.0 none))
+    rw c.in-Some-Some.is-0 (rw (p.1, p.2) (unread_order g.S.Source.read_gives c.args.source.now c.close-in-CannotRead.new.self (string_bytes c.in-Some-Some.name) (g.S.Reader.Pieces.so_far c.in-Some-Some.order.reader) c.in_err-close-in-CannotRead.field-0.0 none))
 
 pub returns-in_err-close-in-Bad-clause-comes : goal.returns-in_err-close-in-Bad-clause-comes
 returns-in_err-close-in-Bad-clause-comes g c = λ given so.
     let p = err_from_is_err_and c.from_residual-in_err-close-in-Bad.result c.from_residual-in_err-close-in-Bad.ensures.1 in
     let none = rw c.as_str-in-Bad.ensures.value at c.in_err-close-in-Bad.ensures in
-    rw c.in-Some-Some.is-0 (rw (p.1, p.2) (unread_order g.S.Source.read_gives c.args.source.now c.close-in-Bad.new.self (string_bytes c.in-Some-Some.name) [] false c.in_err-close-in-Bad.field-0.0 none))
+    rw c.in-Some-Some.is-0 (rw (p.1, p.2) (unread_order g.S.Source.read_gives c.args.source.now c.close-in-Bad.new.self (string_bytes c.in-Some-Some.name) (g.S.Reader.Pieces.so_far c.in-Some-Some.order.reader) c.in_err-close-in-Bad.field-0.0 none))
 
 pub returns-in_ok-close-in-Bad-clause-comes : goal.returns-in_ok-close-in-Bad-clause-comes
 returns-in_ok-close-in-Bad-clause-comes g c = λ given so.

@@ -13,7 +13,6 @@ use Rattle.vat_log.specs.declared.read_fault.ReadFault.{ReadFault}
 use Rattle.vat_log.specs.declared.read_fault.ReadFault.TheVariants as read_fault
 use Rattle.vat_log.specs.Log.{Log}
 use Rattle.vat_log.specs.declared.version.LogVersion.{LogVersion}
-use Rattle.vat_log.specs.declared.version.LogVersion.TheVariants.{Two}
 use Rattle.vat_log.specs.Reading.{◌>>=◌, header_of, log_of, number_at, version_at}
 use Rattle.vat_log.specs.Runs.{BeginsWith, IsLongestRun, with_record}
 use Rattle.vat_log.specs.Spelling.{log_bytes}

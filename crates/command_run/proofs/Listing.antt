@@ -252,10 +252,10 @@ stops_by X fault = Err fault
 listed_some : (X : Type 0) (first many : Option ℕ) (came : CameSoFar) (log : Log) → BeginsWith came.bytes log
     → IsListedTo first many (listing first many log) (stopped X) came
 listed_some X first many came log begins =
-    (inr (log, (begins, refl)), λ all may. inl (some_listed first many all log (begins_all came.bytes all came.is_over log begins may)))
+    (inr (log, begins, refl), λ all may. inl (some_listed first many all log (begins_all came.bytes all came.is_over log begins may)))
 
 -- so where more bytes came since
-listed_before : (X : Type 0) (first many : Option ℕ) (came later : CameSoFar) (log : Log) → BeginsWith came.bytes log → ComesOn came later
+pub listed_before : (X : Type 0) (first many : Option ℕ) (came later : CameSoFar) (log : Log) → BeginsWith came.bytes log → ComesOn came later
     → IsListedTo first many (listing first many log) (stopped X) later
 listed_before X first many came later log begins on = listed_some X first many later log (begins_all came.bytes later.bytes came.is_over log begins on.first)
 
@@ -263,7 +263,7 @@ listed_before X first many came later log begins on = listed_some X first many l
 pub listed_whole : {X : Type 0} (done : X) (first many : Option ℕ) (came : CameSoFar) (log : Log) → came.is_over ≡ true → log_of came.bytes ≡ Ok log → IsLongestRun came.bytes log
     → IsListedTo first many (listing first many log) (ends_at X done) came
 listed_whole done first many came log over is longest = (
-  inr (log, (longest.begins, refl)),
+  inr (log, longest.begins, refl),
   λ all may.
       subst (λ (b : List ℕ). AnswersRecords first many b (listing first many log) 0) (sym (all_came came.bytes all came.is_over over may)) (all_listed first many came.bytes log is longest),
 )
@@ -272,11 +272,11 @@ listed_whole done first many came log over is longest = (
 pub listed_until : (X : Type 0) (first many : Option ℕ) (fault : ReadFault) (log : Log) (read : StreamSoFar) → read.log ≡ log → BeginsWith read.came.bytes read.log → StreamStopsBy fault read
     → IsListedTo first many (listing first many log) (stops_by X fault) read.came
 listed_until X first many (read_fault.Bad e) log read same begins stops = (
-  inr (log, (subst (λ (l : Log). BeginsWith read.came.bytes l) same begins, refl)),
+  inr (log, subst (λ (l : Log). BeginsWith read.came.bytes l) same begins, refl),
   λ all may.
       fault_listed first many all log e (subst (λ (l : Log). (log_of all ≡ Err e) × IsLongestRun all l) same (stops all may)),
 )
-listed_until X first many read_fault.CannotRead log read same begins stops = (inr (log, (subst (λ (l : Log). BeginsWith read.came.bytes l) same begins, refl)), λ all may. tt)
+listed_until X first many read_fault.CannotRead log read same begins stops = (inr (log, subst (λ (l : Log). BeginsWith read.came.bytes l) same begins, refl), λ all may. tt)
 listed_until X first many read_fault.OutOfMemory log read same begins stops =
     listed_some X first many read.came log (subst (λ (l : Log). BeginsWith read.came.bytes l) same begins)
 
@@ -310,7 +310,7 @@ pub closed_answers : {X : Type 0} (known : Option Read) (first many : Option ℕ
     → AnswersLogRecords known first many read (lines ++ text_behind ended) (status_behind ended)
 closed_answers {X = X} known first many lines listed came (Err fault) ended of to is =
     subst (λ (r : Result X FaultOf). AnswersLogRecords known first many (Err fault) (lines ++ text_behind r) (status_behind r)) (sym is)
-    (came, (lines, (text_of (of_source fault), (of, to.0, (refl, refl), refl))))
+    (came, (lines, (text_of (of_source fault), of, to.0, (refl, refl), refl)))
 closed_answers {X = X} known first many lines (Ok done) came (Ok all) ended of to is =
     subst (λ (r : Result X FaultOf). AnswersLogRecords known first many (Ok all) (lines ++ text_behind r) (status_behind r)) (sym is.1)
     (inl (subst (λ (t : List ℕ). AnswersRecords first many all t 0) (sym (append-nil lines)) (to.1 all is.0)))
@@ -349,4 +349,4 @@ torn_closed X gives old new name known first many lines came reader failed (Ok y
     (Ok closes.1.0, closes.1.1.1, (lines ++ text_of OutOfMemory, (3, out_of_memory known first many lines closes.1.0 (to.1 closes.1.0 may))))
 torn_closed X gives old new name known first many lines came reader failed (Err fault) of to same closes =
     let said = text_of (of_source fault) in
-    (Err fault, closes, (lines ++ said, (status_by (of_source fault), (came, (lines, (said, (of, to.0, (refl, refl), refl)))))))
+    (Err fault, closes, (lines ++ said, (status_by (of_source fault), (came, (lines, (said, of, to.0, (refl, refl), refl))))))

@@ -3,7 +3,7 @@ use Rattle.byte_pieces.proofs.Coming.{comes_same, comes_then}
 use Rattle.vat_log.specs.Runs.{with_record}
 use Rattle.vat_rules.specs.Audit.{edition_of_version}
 use Rattle.command_run.specs.RecordAnswers.{listing}
-use Rattle.command_run.proofs.Listing.{at_some, listed_until, none_listed, one_listed, one_passed, torn_listing}
+use Rattle.command_run.proofs.Listing.{at_some, listed_before, listed_until, none_listed, one_listed, one_passed, torn_listing}
 use Rattle.command_run.proofs.commands.log_records.list_stream.Goals.{then-has+in-Ok+in_ok-put_numbered-in-Ok-Some, else-has}
 use Rattle.command_run.proofs.commands.log_records.list_stream.Goals as goal
 
@@ -55,4 +55,12 @@ returns-in-Err-clause-lines g c =
       listing c.args.range.from c.args.range.count log,
       c.loop-event.invariant.0.wrote,
       listed_until (Unit {0}) c.args.range.from c.args.range.count c.in-Err.fault log c.next.new.self c.in-Err.ensures.err.0 c.next.ensures.begun c.in-Err.ensures.err.1,
+    )
+
+pub returns-in_default-clause-lines : goal.returns-in_default-clause-lines
+returns-in_default-clause-lines g c =
+    let read = c.loop-event.stream in (
+      listing c.args.range.from c.args.range.count read.log,
+      c.loop-event.invariant.0.wrote,
+      listed_before (Unit {0}) c.args.range.from c.args.range.count read.came c.next.new.self.came read.log c.loop-event.invariant.0.begins c.next.ensures.on,
     )

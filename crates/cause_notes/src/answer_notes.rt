@@ -106,16 +106,25 @@ fn findings_again(
     }
 }
 
-/// Appends the notes of a no or of an outside, beside what was heard to be found of logs and links, or else is found again.
-fn put_found<S: SearchingSource>(text: &mut NoteText, heard: &Heard, source: &S) {
+/// Appends the notes of a no or of an outside, beside what was found of logs and links, if anything was.
+fn put_beside<S: SearchingSource>(
+    text: &mut NoteText,
+    source: &S,
+    findings: Option<&Findings>,
+    told: HeardAnswer,
+) {
     let files = source.kept();
-    let again = if heard.is_of_case && heard.told.is_of_finding() {
-        text.found(findings_again(text.alloc(), files))
-    } else {
-        None
-    };
-    let findings = again.as_ref().or(heard.findings.as_ref());
-    put_told(text, &Logs { files, findings }, heard.told);
+    put_told(text, &Logs { files, findings }, told);
+}
+
+/// The same beside what was heard to be found, or else is found again.
+fn put_found<S: SearchingSource>(text: &mut NoteText, heard: &Heard, source: &S) {
+    if heard.is_of_case && heard.told.is_of_finding() {
+        if let Some(again) = text.found(findings_again(text.alloc(), source.kept())) {
+            return put_beside(text, source, Some(&again), heard.told);
+        }
+    }
+    put_beside(text, source, heard.findings.as_ref(), heard.told);
 }
 
 /// Appends the notes beside an answer that isn't good and no fault, a line each.

@@ -78,29 +78,39 @@ fn put_bad_vats(text: &mut NoteText, logs: &Logs<'_>, findings: &Findings, told:
     }
 }
 
-/// The number of the vat of a log that is good by itself.
-fn good_vat(finding: &VatFinding) -> Option<u32> {
-    is_good(finding).then_some(finding.log().vat())
-}
-
-/// The number of a connection on which all that was received was sent so.
-fn good_link(link: &LinkFinding) -> Option<u32> {
-    let is_good = matches!(link.outcome(), LinkOutcome::Good { .. });
-    is_good.then_some(link.connection())
-}
-
-/// Appends a note of the numbers of those of these that are good, if any are.
-fn put_good<T, F: Fn(&T) -> Option<u32>>(text: &mut NoteText, words: [&str; 2], all: &[T], good: F)
-    requires { F.IsAlwaysCallable good }
-{
-    let [mut between, kind] = words;
-    for number in all.iter().filter_map(|one| good(one)).take(MOST) {
-        text.words(between);
-        text.words(kind);
-        text.shown(&number);
-        between = ", ";
+/// Appends the note of the logs that are good by themselves.
+fn put_good_vats(text: &mut NoteText, findings: &Findings) {
+    let mut any = false;
+    let good = findings.vats().iter().filter(|finding| is_good(finding));
+    for finding in good.take(MOST) {
+        text.words(if any {
+            ", "
+        } else {
+            "note: good by themselves: "
+        });
+        text.tell("vat #", &[u64::from(finding.log().vat())]);
+        any = true;
     }
-    if between == ", " {
+    if any {
+        text.words("\n");
+    }
+}
+
+/// Appends the note of the connections on which all that was received was sent so.
+fn put_good_links(text: &mut NoteText, findings: &Findings) {
+    let mut any = false;
+    let links = findings.links().iter();
+    let good = links.filter(|link| matches!(link.outcome(), LinkOutcome::Good { .. }));
+    for link in good.take(MOST) {
+        text.words(if any {
+            ", "
+        } else {
+            "note: received as sent: "
+        });
+        text.tell("connection #", &[u64::from(link.connection())]);
+        any = true;
+    }
+    if any {
         text.words("\n");
     }
 }
@@ -109,9 +119,7 @@ fn put_good<T, F: Fn(&T) -> Option<u32>>(text: &mut NoteText, words: [&str; 2], 
 pub(crate) fn put_others(text: &mut NoteText, logs: &Logs<'_>, told: u32) {
     if let Some(findings) = logs.findings {
         put_bad_vats(text, logs, findings, told);
-        let words = ["note: good by themselves: ", "vat "];
-        put_good(text, words, findings.vats(), good_vat);
-        let words = ["note: received as sent: ", "connection "];
-        put_good(text, words, findings.links(), good_link);
+        put_good_vats(text, findings);
+        put_good_links(text, findings);
     }
 }

@@ -46,6 +46,10 @@ pub struct CountedSource<'a, S> {
 impl<'a, S: Source> Source for CountedSource<'a, S> {
     type Reader = CountedReader<'a, S::Reader>;
 
+    ghost read_gives = { λ old name read new. S.read_gives old.source name read new.source };
+
+    ghost holds = { λ counted name. S.holds counted.source name };
+
     fn read(&mut self, name: &str) -> Result<Bytes, SourceError> {
         let read = self.source.read(name);
         self.progress.read_file();

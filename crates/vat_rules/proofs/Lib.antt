@@ -13,4 +13,5 @@ pub mod Once
 pub mod Entries
 pub mod Editions
 pub mod Sufficing
+pub mod ByKind
 pub mod Twice

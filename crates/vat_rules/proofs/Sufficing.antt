@@ -141,13 +141,13 @@ either_none : (b : Bool) → ◌≡◌ {A = ℕ} 0 (if b then 0 else 0)
 either_none true = refl
 either_none false = refl
 
-bare_notes : (before : Past) (e : DecodedRecord) → IsBare e → NotesEach before e
+pub bare_notes : (before : Past) (e : DecodedRecord) → IsBare e → NotesEach before e
 bare_notes before e bare = ap length bare.unnoted ∙ either_none (is_late before e) ∙ ap (λ ds. if is_late before e then 0 else length (places_from 0 ds)) (sym bare.uncarried)
 
 none_placed : (edition : Edition) (before : Past) (e : DecodedRecord) (rs : List ℕ) (ps : List ℕ) → rs ≡ [] → AllByRecursion (NotesView edition before e) (zip rs ps)
 none_placed edition before e rs ps none = subst (λ rs. AllByRecursion (NotesView edition before e) (zip rs ps)) (sym none) tt
 
-bare_describes : (edition : Edition) (before : Past) (e : DecodedRecord) → IsBare e → Meets edition rule.Desc before e
+pub bare_describes : (edition : Edition) (before : Past) (e : DecodedRecord) → IsBare e → Meets edition rule.Desc before e
 bare_describes edition before e bare = record {
   noted_each = λ sent. bare_notes before e bare;
   leads = λ sent late. none_placed edition before e (references e) (places e) bare.unnoted;
@@ -268,7 +268,7 @@ own_refers : (before : Past) (e : DecodedRecord) → is_own e ≡ true → own_m
 own_refers before (Wire sent k c rs m) own h = absurd (false≢true own)
 own_refers before _ own h = absurd (false≢true (sym h))
 
-unasked_own : (e : DecodedRecord) → is_own e ≡ true → (each : Rule) → own_may_break e each ≡ false → (edition : Edition) (before : Past) → Meets edition each before e
+pub unasked_own : (e : DecodedRecord) → is_own e ≡ true → (each : Rule) → own_may_break e each ≡ false → (edition : Edition) (before : Past) → Meets edition each before e
 unasked_own e own rule.Closed h edition before = own_open edition before e own
 unasked_own e own rule.Ref h edition before = own_refers before e own h
 unasked_own e own rule.Vow h edition before = own_vow before e h

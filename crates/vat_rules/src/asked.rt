@@ -70,7 +70,7 @@ fn asked_of_carrying(message: &RpcMessage) -> &'static [Rule]
 
 /// Whether a record has a message that carries no capability: it notes no reference and has no descriptor.
 #[inline]
-fn is_bare(event: &DecodedRecord) -> bool
+pub(crate) fn is_bare(event: &DecodedRecord) -> bool
     ensures { IsTrue result → IsBare event.now }
 {
     let DecodedRecord::Wire { references, .. } = event else {

@@ -12,6 +12,7 @@
 
 mod asked;
 mod audit;
+mod by_kind;
 mod facts;
 mod finding;
 mod judge;

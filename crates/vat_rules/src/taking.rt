@@ -9,6 +9,7 @@ ghost use Rattle.vat_rules.specs.Telling.{facts_of};
 ghost use Rattle.vat_rules.specs.Glue.Facts.{facts_before};
 ghost use Rattle.vat_rules.specs.Glue.Taking.{IsTaken};
 
+use crate::by_kind::is_good_by_kind;
 use crate::facts::compact::RecordFacts;
 use crate::facts::lookup::{facts_before, views_of_references};
 use crate::facts::plain_facts::PlainFacts;
@@ -38,9 +39,9 @@ pub(crate) fn apply_good(state: &mut VatState, event: &DecodedRecord) -> Result<
     state.apply(event)
 }
 
-/// Judges a record by an edition, and applies it if it is good; else the first rule that it breaks, and the state is as it
-/// was. So it is where memory runs out.
-pub(crate) fn apply_if_good(
+/// Judges a record by all rules that its kind may break, and applies it if it is good; else the first rule that it breaks, and
+/// the state is as it was. So it is where memory runs out.
+fn apply_by_rules(
     alloc: Global,
     edition: Edition,
     state: &mut VatState,
@@ -58,6 +59,29 @@ pub(crate) fn apply_if_good(
             apply_good(state, event)?;
             Ok(None)
         }
+    }
+}
+
+/// Judges a record by an edition, and applies it if it is good; else the first rule that it breaks, and the state is as it
+/// was. So it is where memory runs out. Records of the commonest kinds are mostly good by what their kind alone is asked.
+#[inline(always)]
+pub(crate) fn apply_if_good(
+    alloc: Global,
+    edition: Edition,
+    state: &mut VatState,
+    event: &DecodedRecord,
+) -> Result<Option<Rule>, AllocError>
+    ensures ok { IfOk result (λ r. MatchOption r
+        (IsGoodBy edition state.old event.now × (state.new ≡ event.now ∷ state.old))
+        (λ rule. BreaksFirst edition rules state.old event.now rule × (state.new ≡ state.old))) }
+    ensures err { OnErr result (state.new ≡ state.old) }
+{
+    let good = is_good_by_kind(edition, state, event)?;
+    if good {
+        apply_good(state, event)?;
+        Ok(None)
+    } else {
+        apply_by_rules(alloc, edition, state, event)
     }
 }
 

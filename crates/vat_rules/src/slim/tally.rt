@@ -74,7 +74,7 @@ impl Tally {
     /// # Errors
     ///
     /// Out of memory, and then it is as it was.
-    #[inline]
+    #[inline(always)]
     pub(crate) fn take(
         &mut self,
         alloc: Global,

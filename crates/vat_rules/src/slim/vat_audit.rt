@@ -1,12 +1,12 @@
 //! The audit of one log that takes one record after another.
 
-ghost use Rattle.std.specs.Prelude.{◌≡◌, List, ◌∷◌, ◌++◌, [], IfOk, OnOk, OnErr, MatchOption};
+ghost use Rattle.std.specs.Prelude.{◌≡◌, List, ◌∷◌, ◌++◌, [], Ok, IfOk, OnOk, OnErr, MatchOption};
 ghost use Rattle.vat_log.specs.declared.body.Body.{Body};
 ghost use Rattle.vat_rules.specs.Audit.{IsTrueOf, reads_by};
 ghost use Rattle.vat_rules.specs.Audited.{with_record};
 ghost use Rattle.vat_rules.specs.First.{IsFirst};
 ghost use Rattle.vat_rules.specs.Slim.{outcome_in};
-ghost use Rattle.vat_rules.specs.Events.{Reader};
+ghost use Rattle.vat_rules.specs.Events.{Reader, event_of};
 ghost use Rattle.vat_rules.specs.Types.{Edition};
 ghost use Rattle.vat_rules.specs.Glue.Taking.{IsPutNext, IsRefused, refused_at};
 ghost use Rattle.vat_rules.specs.Glue.Auditing.{AreGood, Stands};
@@ -33,10 +33,30 @@ fn refused_at(at: u64, refusal: Refusal) -> SlimOutcome
     }
 }
 
+/// Judges a stored record by an edition, which is read as this one; where it is good, puts it behind those before it; else
+/// why it isn't.
+#[inline(always)]
+fn put_event(
+    alloc: Global,
+    edition: Edition,
+    good: &mut Tally,
+    event: &DecodedRecord,
+) -> Result<Option<Refusal>, AllocError>
+    ensures ok { (read : Reader) (body : Body) → event_of read body ≡ Ok event.now
+        → IfOk result (λ r. MatchOption r
+        (IsPutNext edition read good.old body good.new) (IsRefused edition read good.old body)) }
+    ensures err { OnErr result (good.new ≡ good.old) }
+{
+    match good.take(alloc, edition, event)? {
+        Some(rule) => Ok(Some(Refusal::Broken(rule))),
+        None => Ok(None),
+    }
+}
+
 /// Reads a log's next record and judges it by an edition; where it is good, puts it behind those before it; else why it
 /// isn't.
 #[inline]
-fn put_next(
+fn put_read(
     alloc: Global,
     edition: Edition,
     limits: Limits,
@@ -53,9 +73,59 @@ fn put_next(
         Ok(event) => event,
         Err(error) => return Ok(Some(unread(*error)?)),
     };
-    match good.take(alloc, edition, event)? {
-        Some(rule) => Ok(Some(Refusal::Broken(rule))),
-        None => Ok(None),
+    put_event(alloc, edition, good, event)
+}
+
+/// The same. Records that bind numbers and have no frame are many, and little of them is to be read.
+#[inline]
+fn put_next(
+    alloc: Global,
+    edition: Edition,
+    limits: Limits,
+    good: &mut Tally,
+    body: &Body,
+) -> Result<Option<Refusal>, AllocError>
+    ensures ok { IfOk result (λ r. MatchOption r
+        (IsPutNext edition (reads_by edition limits) good.old body.now good.new)
+        (IsRefused edition (reads_by edition limits) good.old body.now)) }
+    ensures err { OnErr result (good.new ≡ good.old) }
+{
+    match *body {
+        Body::Host { reference, object } => {
+            put_event(
+                alloc,
+                edition,
+                good,
+                &DecodedRecord::Host { reference, object },
+            )
+        }
+        Body::Make {
+            call,
+            reference,
+            interface,
+            method,
+        } => {
+            let event = DecodedRecord::Make {
+                call,
+                reference,
+                interface,
+                method,
+            };
+            put_event(alloc, edition, good, &event)
+        }
+        Body::Field {
+            reference,
+            call,
+            ref path,
+        } => {
+            let event = DecodedRecord::Field {
+                reference,
+                call,
+                path: path.copy()?,
+            };
+            put_event(alloc, edition, good, &event)
+        }
+        _ => put_read(alloc, edition, limits, good, body),
     }
 }
 

@@ -1,12 +1,15 @@
-use Rattle.vat_rules.proofs.Unread.{read_is}
+use Rattle.std.proofs.Common.{refl, sym, ap}
+use Rattle.std.specs.Prelude.{ℕ, List, Ok}
+use Rattle.vat_rules.specs.Types.{Field}
+use Rattle.vat_rules.specs.Audit.{reads_by}
 use Rattle.vat_rules.proofs.slim.vat_audit.put_next.Goals as goal
 
-pub returns-in-Err-clause-ok : goal.returns-in-Err-clause-ok
-returns-in-Err-clause-ok c = c.in_ok-unread-in-Err.ensures c.args.edition c.args.limits c.args.good.now c.args.body.now (rw c.in-Err.is at c.read-read.ensures)
+pub returns-in-Host-clause-ok : goal.returns-in-Host-clause-ok
+returns-in-Host-clause-ok c = c.put_event.ensures.ok (reads_by c.args.edition c.args.limits) c.args.body.now (rw c.in-Host.is refl)
 
-pub returns-in-Some-clause-ok : goal.returns-in-Some-clause-ok
-returns-in-Some-clause-ok c = (
-  c.in-Ok.event,
-  read_is c.args.edition c.args.limits c.args.body.now c.in-Ok.event (rw c.in-Ok.is at c.read-read.ensures),
-  rw c.in-Some.is at c.in_ok-rule.ensures.ok,
-)
+pub returns-in-Make-clause-ok : goal.returns-in-Make-clause-ok
+returns-in-Make-clause-ok c = c.put_event-in-Make.ensures.ok (reads_by c.args.edition c.args.limits) c.args.body.now (rw c.in-Make.is refl)
+
+pub returns-in_ok-copy-in-Field-clause-ok : goal.returns-in_ok-copy-in-Field-clause-ok
+returns-in_ok-copy-in-Field-clause-ok c = c.put_event-in-Field.ensures.ok (reads_by c.args.edition c.args.limits) c.args.body.now
+    (rw c.in-Field.is (ap (λ (path : List ℕ). Ok (Field c.in-Field.reference c.in-Field.call path)) (sym c.in_ok-copy-in-Field.ensures)))

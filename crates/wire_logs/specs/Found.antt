@@ -59,7 +59,7 @@ IsAnswer a b answer = MatchOption answer.logs (IsWithoutLogs a b answer.line) (�
 
 -- What a yes means. Two logs, an order that fits them and a run have all that a yes of the audit means; one log sends and the
 -- other receives just the whole frames of the first file, in order and byte for byte, and the other way round those of the
--- second; what stands behind them in the files is no frame.
+-- second, and no frames but these; what stands behind them in the files is no frame.
 pub record HasRun (a b : List ℕ) (count_of_a count_of_b : ℕ) : Type 0 where
   pub frames_of_a : List (List ℕ)
   pub frames_of_b : List (List ℕ)

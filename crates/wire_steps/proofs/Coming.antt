@@ -1,9 +1,9 @@
 -- A log comes further, by one record.
-use Rattle.std.proofs.Common.{◌≡◌, ◌∷◌, ◌++◌, [], ℕ, List, Option, Some, None, length, take, get_or, refl, sym, ap, ◌∙◌, arith, ◌<◌, ◌+◌, drop}
-use Rattle.std.specs.Prelude.{slice_get}
-use Rattle.std.specs.List.{filter_map, cons_option}
+use Rattle.std.proofs.Common.{◌≡◌, ◌∷◌, ◌++◌, [], ℕ, List, Option, Some, None, length, take, get_or, refl, sym, ap, subst, ◌∙◌, arith, ◌<◌, ◌+◌, drop}
+use Rattle.std.specs.Prelude.{slice_get, IfSome}
+use Rattle.std.specs.List.{All, filter_map, cons_option}
 use Rattle.std.proofs.lemmas.List.{append-nil, take-append-drop, take_all}
-use Rattle.std.proofs.lemmas.List.Elements.{filter_map-append}
+use Rattle.std.proofs.lemmas.List.Elements.{All-push, filter_map-append}
 use Rattle.std.proofs.lemmas.Option.{slice_get_within, get_or_from_slice_get}
 use Rattle.std.proofs.Math.Numerals.{add-one}
 use Rattle.std.proofs.Math.Seq.{take-suc}
@@ -11,9 +11,9 @@ use Rattle.vat_log.specs.Log.{Log}
 use Rattle.vat_log.specs.declared.body.Body.{Body}
 use Rattle.vat_log.specs.declared.body.Body.TheVariants.{Send, Receive}
 use Rattle.link_check.specs.Prefix.{frames_sent, frames_received, IsPrefix}
-use Rattle.vat_log.specs.Passages.{frame_sent, frame_received}
+use Rattle.vat_log.specs.Passages.{frame_sent, frame_received, used_by}
 use Rattle.wire_steps.specs.Glue.{HasCome}
-use Rattle.wire_steps.specs.Parts.{HasParts, HasAll}
+use Rattle.wire_steps.specs.Parts.{HasParts, HasAll, UsesNoOther}
 use Rattle.wire_steps.specs.declared.end_log.EndCounts.{EndCounts}
 
 -- a record of which a test gives nothing changes nothing of what it gives
@@ -33,6 +33,14 @@ take_one_more xs k x there =
     let same : get_or xs k [] ≡ x = get_or_from_slice_get xs k x [] there in
     ap (λ y. take k xs ++ (y ∷ [])) (sym same) ∙ sym (take-suc xs k [] within) ∙ ap (λ n. take n xs) (sym (add-one k))
 
+abbrev IsOfUs : Body → Type 0
+IsOfUs body = IfSome (used_by body) (λ used. used ≡ 0)
+
+-- one more record that uses no other connection
+no_other_more : (old new : Log) (b : Body) → UsesNoOther old → IsOfUs b → new.records ≡ old.records ++ (b ∷ []) → UsesNoOther new
+no_other_more old new b before one grown =
+    let P : List Body → Type 0 = λ l. All IsOfUs l in subst P (sym grown) (All-push IsOfUs old.records b before one)
+
 -- the next frame of the own file is sent
 pub sends_next : (own peer : List (List ℕ)) (counts : EndCounts) (old new : Log) (call : ℕ) (references : List ℕ) (frame : List ℕ) → HasCome own peer counts old → slice_get own counts.sent ≡ Some frame → new.records ≡ old.records ++ (Send 0 call references frame ∷ []) → HasCome own peer (record { sent = counts.sent + 1; received = counts.received }) new
 sends_next own peer counts old new call references frame come there grown =
@@ -42,6 +50,7 @@ sends_next own peer counts old new call references frame come there grown =
       received = given_none (frame_received 0) old.records new.records (Send 0 call references frame) refl grown ∙ come.received;
       few_sent = omega (arith, within);
       few_received = come.few_received;
+      no_other = no_other_more old new (Send 0 call references frame) come.no_other refl grown;
     }
 
 -- the next frame of the other file is received
@@ -53,16 +62,18 @@ receives_next own peer counts old new call references frame come there grown =
       received = given_one (frame_received 0) old.records new.records (Receive 0 call references frame) frame refl grown ∙ ap (λ l. l ++ (frame ∷ [])) come.received ∙ take_one_more peer counts.received frame there;
       few_sent = come.few_sent;
       few_received = omega (arith, within);
+      no_other = no_other_more old new (Receive 0 call references frame) come.no_other refl grown;
     }
 
 -- a record that is no frame is put behind the others
-pub notes_one : (own peer : List (List ℕ)) (counts : EndCounts) (old new : Log) (body : Body) → HasCome own peer counts old → frame_sent 0 body ≡ None → frame_received 0 body ≡ None → new.records ≡ old.records ++ (body ∷ []) → HasCome own peer counts new
-notes_one own peer counts old new body come not_sent not_received grown =
+pub notes_one : (own peer : List (List ℕ)) (counts : EndCounts) (old new : Log) (body : Body) → HasCome own peer counts old → frame_sent 0 body ≡ None → frame_received 0 body ≡ None → used_by body ≡ None → new.records ≡ old.records ++ (body ∷ []) → HasCome own peer counts new
+notes_one own peer counts old new body come not_sent not_received unused grown =
     record {
       sent = given_none (frame_sent 0) old.records new.records body not_sent grown ∙ come.sent;
       received = given_none (frame_received 0) old.records new.records body not_received grown ∙ come.received;
       few_sent = come.few_sent;
       few_received = come.few_received;
+      no_other = no_other_more old new body come.no_other (let P : Option ℕ → Type 0 = λ o. IfSome o (λ used. used ≡ 0) in subst P (sym unused) cc) grown;
     }
 
 prefix_of : (xs ys : List (List ℕ)) (k : ℕ) → xs ≡ take k ys → IsPrefix xs ys
@@ -74,6 +85,7 @@ come_so_far own peer counts log come =
     record {
       sent = prefix_of (frames_sent 0 log) own counts.sent come.sent;
       received = prefix_of (frames_received 0 log) peer counts.received come.received;
+      no_other = come.no_other;
     }
 
 all_of : (xs ys : List (List ℕ)) (k : ℕ) → k ≡ length ys → xs ≡ take k ys → xs ≡ ys
@@ -85,4 +97,5 @@ come_to_the_end own peer counts log all_sent all_received come =
     record {
       sent = all_of (frames_sent 0 log) own counts.sent all_sent come.sent;
       received = all_of (frames_received 0 log) peer counts.received all_received come.received;
+      no_other = come.no_other;
     }

@@ -2,7 +2,7 @@
 
 ghost use Rattle.std.specs.Prelude.{◌≡◌, ◌∷◌, ◌++◌, [], Some, None, true, false, IsTrue, OnOk, IfOk};
 ghost use Rattle.std.specs.Arc.{arc_value};
-ghost use Rattle.vat_log.specs.Passages.{frame_sent, frame_received};
+ghost use Rattle.vat_log.specs.Passages.{frame_sent, frame_received, used_by};
 ghost use Rattle.wire_steps.specs.Glue.{HasCome};
 ghost use Rattle.wire_steps.specs.Parts.{HasParts, HasAll};
 
@@ -83,6 +83,7 @@ fn push(writer: &mut LogWriter, body: Body, at: TooLongAt) -> Result<(), LogFaul
 fn is_frame(body: &Body) -> bool
     ensures sent { result ≡ false → frame_sent 0 body.now ≡ None }
     ensures received { result ≡ false → frame_received 0 body.now ≡ None }
+    ensures unused { result ≡ false → used_by body.now ≡ None }
 {
     match body {
         Body::Send { .. } | Body::Receive { .. } => true,

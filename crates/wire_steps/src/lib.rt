@@ -3,7 +3,7 @@
 //!
 //! It stands on `vat_log`, and on `link_check` for the frames that a log sends and receives. What the log has of the two files
 //! is said in `specs/Parts.antt`: whatever the steps are, the frames that it sends are those of the own file from the first one
-//! on, and those that it receives are the other file's. [`log_of`] promises it.
+//! on, those that it receives are the other file's, and there are no others. [`log_of`] promises it.
 #![tactic(auto)]
 
 mod end_log;

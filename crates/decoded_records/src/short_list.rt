@@ -55,7 +55,6 @@ impl<T: Drop> ShortList<T> {
     }
 
     /// All of these. It takes no memory.
-    #[inline]
     pub fn new(items: Vec<T>) -> ShortList<T>
         ensures { result ≡ items.items }
     {
@@ -81,7 +80,6 @@ impl<T: Drop> ShortList<T> {
 /// Origins of numbers. One item is lent as a slice where its size is known.
 impl ShortList<(TableKey, Origin)> {
     /// The items, in their order.
-    #[inline]
     pub fn as_slice(&self) -> &[(TableKey, Origin)]
         ensures { result.now ≡ self.now }
     {

@@ -56,7 +56,6 @@ impl TableKeys {
     }
 
     /// The list of these. The only error is that memory ran out.
-    #[inline]
     pub fn new(alloc: Global, items: Vec<TableKey>) -> Result<TableKeys, AllocError>
         ensures { IfOk result (λ ids. ids ≡ items.items) }
     {

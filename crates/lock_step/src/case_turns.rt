@@ -144,7 +144,6 @@ impl Turns for CaseTurns {
         self.under_way() > CROWD
     }
 
-    #[inline]
     fn give_up(&mut self) {
         self.is_stuck = true;
     }

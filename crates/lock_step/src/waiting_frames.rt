@@ -95,7 +95,6 @@ impl WaitingFrames {
     }
 
     /// No frame waits any longer, and their memory is given back.
-    #[inline]
     pub(crate) fn clear(&mut self)
         ensures { self.new ≡ [] }
     {

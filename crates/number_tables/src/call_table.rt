@@ -94,7 +94,6 @@ impl Calls {
     }
 
     /// Whether the goal of this call is this one, where either may be none.
-    #[inline]
     pub fn goes_to(&self, call: u64, goal: &Option<View>) -> bool
         ensures { result ≡ same_target (goal_in (call_state_at self.now call)) goal.now }
     {
@@ -150,7 +149,6 @@ impl Calls {
     }
 
     /// A call asks for what it asked for before, or for nothing again.
-    #[inline]
     fn put_back(&mut self, call: u64, last: Option<Request>)
         requires { is_some (request_kept_at self.old call) ≡ true }
         ensures requests { (c : ℕ) → request_kept_at self.new c
@@ -225,7 +223,6 @@ impl Calls {
     }
 
     /// This call isn't bound. Nothing is kept of it: neither how far it has come, nor what it asked for.
-    #[inline]
     pub fn forget(&mut self, call: u64)
         ensures states { (c : ℕ) → call_state_at self.new c
             ≡ (if call == c then None else call_state_at self.old c) }

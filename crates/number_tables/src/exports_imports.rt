@@ -115,7 +115,6 @@ impl ExportsImports {
     }
 
     /// Each number is held less often by as often as it is one of these, down to 0.
-    #[inline]
     pub fn lower_raised(&mut self, raised: &[(TableKey, Origin)])
         ensures counts { (i : TableKey) → held_count_at self.new i
             ≡ held_count_at self.old i - count_by (λ x. same_id i x.0) raised.now }

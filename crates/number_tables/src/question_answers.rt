@@ -63,7 +63,6 @@ pub fn is_tail(questions: &Questions, question: TableKey) -> bool
 }
 
 /// Whether a question's results were taken.
-#[inline]
 pub fn is_taken(questions: &Questions, question: TableKey) -> bool
     ensures { result ≡ taken_in (question_at questions.now question) }
 {

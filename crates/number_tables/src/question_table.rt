@@ -94,7 +94,6 @@ impl Questions {
     }
 
     /// This question's results were taken.
-    #[inline]
     pub fn note_taken(&mut self, question: TableKey)
         ensures { IsChanged question with_taken self.old self.new }
     {

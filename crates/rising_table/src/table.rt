@@ -221,7 +221,6 @@ impl<V: Drop> RisingTable<V> {
     }
 
     /// This number has no value from now on.
-    #[inline]
     pub fn remove(&mut self, key: u64)
         ensures { (q : ℕ) → entry_at self.new q ≡ (if key == q then None else entry_at self.old q) }
     {

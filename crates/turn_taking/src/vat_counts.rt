@@ -60,7 +60,6 @@ impl VatCounts {
     }
 
     /// This vat, which came up, came up once less. It takes no memory.
-    #[inline]
     pub(crate) fn lower(&mut self, vat: u32)
         requires { 0 < count_of self.old vat }
         ensures { IsRaised vat self.new self.old }

@@ -75,7 +75,6 @@ fn fulfil_of(bytes: &[u8], at: usize) -> Result<(Body, usize), LogError>
 }
 
 #[tactic(auto, unfolding(crate::specs::Reading::break_at))]
-#[inline]
 fn break_of(bytes: &[u8], at: usize) -> Result<(Body, usize), LogError>
     requires { at ≤ length bytes.now }
     ensures gives { GivesInMemory (λ x. (x.0, x.1)) result (break_at bytes.now at) }
@@ -147,7 +146,6 @@ fn answer_of(
 }
 
 #[tactic(auto, unfolding(crate::specs::Reading::fault_at))]
-#[inline]
 fn fault_of(bytes: &[u8], at: usize) -> Result<(Body, usize), LogError>
     requires { at ≤ length bytes.now }
     ensures gives { GivesInMemory (λ x. (x.0, x.1)) result (fault_at bytes.now at) }
@@ -190,7 +188,6 @@ fn receive_of(
 }
 
 #[tactic(auto, unfolding(crate::specs::Reading::answer_by_at))]
-#[inline]
 fn answer_by_of(bytes: &[u8], at: usize) -> Result<(Body, usize), LogError>
     requires { at ≤ length bytes.now }
     ensures gives { GivesInMemory (λ x. (x.0, x.1)) result (answer_by_at bytes.now at) }

@@ -164,7 +164,6 @@ pub(crate) fn facts_before(
 }
 
 /// What references stand for, each of several.
-#[inline]
 fn views_of_each(
     alloc: Global,
     state: &VatState,
@@ -180,7 +179,6 @@ fn views_of_each(
 }
 
 /// What references stand for. Most records have one.
-#[inline]
 fn views_of(alloc: Global, state: &VatState, references: &[u64]) -> Result<ViewList, AllocError>
     ensures { IfOk result (λ views. views ≡ map (view_of_reference state.now) references.now) }
 {
@@ -191,7 +189,6 @@ fn views_of(alloc: Global, state: &VatState, references: &[u64]) -> Result<ViewL
 }
 
 /// What the references of a call's results stand for.
-#[inline]
 fn views_of_results(
     alloc: Global,
     state: &VatState,
@@ -211,7 +208,6 @@ fn views_of_results(
 }
 
 /// What the references stand for that a record binds or names, in its order.
-#[inline]
 pub(crate) fn views_of_references(
     alloc: Global,
     state: &VatState,

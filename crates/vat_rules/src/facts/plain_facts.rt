@@ -94,7 +94,6 @@ impl PlainFacts {
     }
 
     /// What the question stands for whose results it takes.
-    #[inline]
     pub(crate) fn taken(&self) -> Option<&View>
         ensures { option_copied result ≡ self.now.taken }
     {

@@ -109,7 +109,6 @@ fn awaits_answer(state: &VatState, call: u64) -> bool
 }
 
 /// Whether a call is at the vat, was delivered here or is that of a received Bootstrap.
-#[inline]
 fn was_here(state: &VatState, call: u64) -> bool
     ensures { result ≡ (is_at_vat call state.now || is_served call state.now) }
 {

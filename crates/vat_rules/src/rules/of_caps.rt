@@ -145,7 +145,6 @@ fn notes_view(
 }
 
 /// The places of a record's descriptors that aren't none.
-#[inline]
 fn places(alloc: Global, event: &DecodedRecord) -> Result<Vec<usize>, AllocError>
     ensures { IfOk result (λ v. v.items ≡ places event.now) }
 {
@@ -160,7 +159,6 @@ fn places(alloc: Global, event: &DecodedRecord) -> Result<Vec<usize>, AllocError
 }
 
 /// Each reference with the place that stands as far on.
-#[inline]
 fn views_in_pairs(
     alloc: Global,
     references: &[u64],
@@ -176,7 +174,6 @@ fn views_in_pairs(
 }
 
 /// The references that a record notes, each with the place of its descriptor.
-#[inline]
 fn placed_references(alloc: Global, event: &DecodedRecord) -> Result<Vec<(u64, usize)>, AllocError>
     ensures { IfOk result (λ v. v.items ≡ placed_references event.now) }
 {
@@ -190,7 +187,6 @@ fn placed_references(alloc: Global, event: &DecodedRecord) -> Result<Vec<(u64, u
 }
 
 /// Whether each of these references goes for what the descriptor at its place stands for.
-#[inline]
 fn notes_views(
     edition: Edition,
     state: &VatState,

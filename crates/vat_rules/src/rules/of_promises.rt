@@ -63,7 +63,6 @@ fn is_gone(state: &VatState, connection: u32, number: u32) -> bool
 }
 
 /// Whether a view became another one.
-#[inline]
 fn became_another(state: &VatState, from: Option<&View>, to: Option<&View>) -> bool
     ensures { Decides result (BecameThere state.now (option_copied from.entry) (option_copied to.entry)
         × (option_copied from.entry ≢ option_copied to.entry)) }

@@ -105,7 +105,6 @@ fn returns_results(
 }
 
 /// Whether a call was answered by another, which is this one.
-#[inline]
 fn is_answered_by(state: &VatState, from: Option<u64>, call: u64) -> bool
     ensures { Decides result (IsSomeAnd (answered_by call state.now) (λ by. from ≡ Some by)) }
 {
@@ -117,7 +116,6 @@ fn is_answered_by(state: &VatState, from: Option<u64>, call: u64) -> bool
 
 /// Whether a call was answered by another, which is the one whose results are taken; by the later edition, the call's
 /// own may be taken too.
-#[inline]
 fn returns_taken(edition: Edition, state: &VatState, from: Option<u64>, call: u64) -> bool
     ensures { Decides result (ReturnsTaken edition state.now from call) }
 {
@@ -129,7 +127,6 @@ fn returns_taken(edition: Edition, state: &VatState, from: Option<u64>, call: u6
 
 /// Whether the call of a question was answered by the one for which the question stands whose results are taken, or, by
 /// the later edition, that question stands for the call itself.
-#[inline]
 fn takes_answer(edition: Edition, state: &VatState, question: TableKey, taken: TableKey) -> bool
     ensures { Decides result (IsSomeAnd (call_at (opening question state.now))
         (ReturnsTaken edition state.now (call_of taken state.now))) }

@@ -37,7 +37,6 @@ fn few_distinct(results: &[(u64, Path)]) -> bool
 }
 
 /// Whether no path stands twice among many results: each is looked for among those before it.
-#[inline]
 fn many_distinct(alloc: Global, results: &[(u64, Path)]) -> Result<bool, AllocError>
     ensures { IfOk result (λ distinct. distinct ≡ distinct_paths results.now) }
 {

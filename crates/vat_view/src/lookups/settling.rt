@@ -120,7 +120,6 @@ fn settled_by(
 }
 
 /// A call, unless the Return that takes its results is late.
-#[inline]
 fn unless_late(late: bool, call: Option<u64>) -> Option<u64>
     ensures { result ≡ (if late then None else call) }
 {

@@ -52,7 +52,6 @@ pub(crate) fn view_of_target(
 }
 
 /// What the descriptors of a record stand for, by place, by the tables before it and what it introduces.
-#[inline]
 pub(crate) fn views_of_descriptors(
     alloc: Global,
     bound: &BoundReferences,
@@ -118,7 +117,6 @@ fn are_held(alloc: Global, lives: &ExportsImports, numbers: &[TableKey]) -> Resu
 }
 
 /// The same where they may be several.
-#[inline]
 fn are_several_held(
     alloc: Global,
     lives: &ExportsImports,

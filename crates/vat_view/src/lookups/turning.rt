@@ -30,7 +30,6 @@ fn reference_at(event: &DecodedRecord, place: usize) -> Option<u64>
 }
 
 /// The references noted for the descriptors of a record, by place.
-#[inline]
 fn references_by_place(alloc: Global, event: &DecodedRecord) -> Result<Vec<Option<u64>>, AllocError>
     ensures { IfOk result
         (λ noted. (place : ℕ) → option_and_then (λ r. r) (slice_get noted.items place)
@@ -49,7 +48,6 @@ fn references_by_place(alloc: Global, event: &DecodedRecord) -> Result<Vec<Optio
 }
 
 /// ANSWER's references, each with its path.
-#[inline]
 fn answered_fields(
     alloc: Global,
     results: &[(u64, Path)],
@@ -77,7 +75,6 @@ fn answered(alloc: Global, results: &[(u64, Path)]) -> Result<Turned, AllocError
 }
 
 /// What is noted at each path of a Return's results.
-#[inline]
 fn returned_fields(
     alloc: Global,
     event: &DecodedRecord,

@@ -19,7 +19,6 @@ use std::alloc::{AllocError, Global};
 use std::slice;
 
 /// What a record of this number introduces that isn't a late Return, as a table with the place of the first of each.
-#[inline]
 fn tabled_introductions<'a>(
     alloc: Global,
     number: usize,
@@ -124,7 +123,6 @@ pub(crate) fn reference_by(
 }
 
 /// The references noted for the descriptors of a record, with what these stand for.
-#[inline]
 fn many_bound(
     alloc: Global,
     bound: &BoundReferences,

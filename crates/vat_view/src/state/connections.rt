@@ -22,7 +22,6 @@ impl VatState {
 
     /// Whether this vat sent an abort on a connection. One that answers a received abort is in order in a log of the later
     /// edition, and a second one never is (rpc.capnp, `Message.abort`).
-    #[inline]
     pub fn is_aborted_here(&self, connection: u32) -> bool
         ensures { result ≡ is_aborted_here connection self.now }
     {

@@ -105,7 +105,6 @@ impl VatState {
     /// # Errors
     ///
     /// Out of memory.
-    #[inline]
     pub fn views_of_descriptors(
         &self,
         event: &DecodedRecord,

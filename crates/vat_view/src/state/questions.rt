@@ -53,7 +53,6 @@ impl VatState {
 
     /// Whether a Return that takes a question's results has passed since its last opening, late or not (rpc.capnp,
     /// `Return.takeFromOtherQuestion`).
-    #[inline]
     pub(crate) fn is_taken(&self, question: TableKey) -> bool
         ensures { result ≡ is_taken question self.now }
     {

@@ -188,7 +188,6 @@ fn back_of(alloc: Global, event: &DecodedRecord) -> Result<Back, AllocError>
 }
 
 /// Whether what stands beside a path is the receiver's, the first time that the path stands there.
-#[inline]
 fn back_among(fields: &[(bool, Path)], path: &[u16]) -> bool
     ensures { result ≡ back_among path.now fields.now }
 {
@@ -202,7 +201,6 @@ fn back_among(fields: &[(bool, Path)], path: &[u16]) -> bool
 
 impl Back {
     /// Whether what stands at a path is the receiver's.
-    #[inline]
     fn has(&self, path: &[u16]) -> bool
         ensures { result ≡ back_in self.now path.now }
     {
@@ -278,7 +276,6 @@ impl Brought {
     }
 
     /// Whether what stands at a path is this vat's.
-    #[inline]
     fn has_back(&self, path: &[u16]) -> bool
         ensures { result ≡ back_by self.now path.now }
     {
@@ -344,7 +341,6 @@ impl Arrivals {
     }
 
     /// Whether the record of this number brought back what it turned at this path.
-    #[inline]
     pub(crate) fn brings_back(&self, number: usize, path: &[u16]) -> bool
         ensures { result ≡ back_at self.now number path.now }
     {
@@ -377,7 +373,6 @@ impl Arrivals {
     }
 
     /// The record of this number brought nothing.
-    #[inline]
     pub(crate) fn forget(&mut self, number: usize)
         ensures imports { (n place : ℕ) → arrival_at self.new n place
             ≡ (if number == n then None else arrival_at self.old n place) }

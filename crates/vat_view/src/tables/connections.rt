@@ -141,7 +141,6 @@ impl Connections {
     }
 
     /// Whether this vat sent an abort on a connection.
-    #[inline]
     pub(crate) fn is_aborted_here(&self, connection: u32) -> bool
         ensures { result ≡ aborted_here_at self.now connection }
     {

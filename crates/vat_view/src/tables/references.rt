@@ -162,7 +162,6 @@ impl BoundReferences {
     }
 
     /// These references have these views. Where memory is refused, some of them may.
-    #[inline]
     fn bind_several(&mut self, list: Vec<(u64, View)>) -> Result<(), AllocError>
         ensures ok { OnOk result
             ((q : ℕ) → bound_at self.new q ≡ bound_by q list.items (bound_at self.old q)) }
@@ -195,7 +194,6 @@ impl BoundReferences {
     }
 
     /// This reference has no view.
-    #[inline]
     fn unbind(&mut self, reference: u64)
         ensures views { (q : ℕ) → bound_at self.new q
             ≡ (if reference == q then None else bound_at self.old q) }
@@ -205,7 +203,6 @@ impl BoundReferences {
     }
 
     /// These references have no view.
-    #[inline]
     pub(crate) fn unbind_each(&mut self, references: &[u64])
         ensures views { (q : ℕ) → bound_at self.new q
             ≡ (if contains q references.now then None else bound_at self.old q) }

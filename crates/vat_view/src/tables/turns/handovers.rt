@@ -60,7 +60,6 @@ impl Handovers {
     }
 
     /// The call that is ahead of this one: itself, where it wasn't answered by another.
-    #[inline]
     pub(crate) fn ahead(&self, call: u64) -> Shortcut
         ensures { result ≡ unwrap_or (call_ahead_in self.now call) (own_leap call) }
     {
@@ -71,7 +70,6 @@ impl Handovers {
     }
 
     /// From now on this is ahead of a call, if that one was answered by another.
-    #[inline]
     pub(crate) fn remember(&mut self, call: u64, ahead: Shortcut)
         ensures handovers { (c : ℕ) → handover_in self.new c ≡ handover_in self.old c }
         ensures len { handovers_len self.new ≡ handovers_len self.old }
@@ -127,7 +125,6 @@ impl Handovers {
     }
 
     /// This answered a call by another, for which there is room.
-    #[inline]
     pub(crate) fn note(&mut self, call: u64, handover: Handover)
         requires room { IsTrue (has_room_for_handover self.old (Some call)) }
         ensures handovers { (c : ℕ) → handover_in self.new c

@@ -164,7 +164,6 @@ impl Settlements {
     }
 
     /// The number of the record that settled this promise, if one did.
-    #[inline]
     pub(crate) fn of_promise(&self, promise: u64) -> Option<usize>
         ensures { result ≡ option_map (λ s. s.0) (settled_at self.now (Promise promise)) }
     {
@@ -208,7 +207,6 @@ impl Settlements {
     }
 
     /// The number of the record that settled this import, if one did.
-    #[inline]
     pub(crate) fn of_import(&self, number: usize, place: usize) -> Option<usize>
         ensures { result ≡ option_map (λ s. s.0) (settled_at self.now (Import number place)) }
     {
@@ -238,7 +236,6 @@ impl Settlements {
     }
 
     /// The last record that answered this call by another, if one did.
-    #[inline]
     pub(crate) fn handover_of(&self, call: u64) -> Option<Handover>
         ensures { result ≡ handover_at self.now call }
     {
@@ -246,7 +243,6 @@ impl Settlements {
     }
 
     /// The call that is ahead of this one: itself, where it wasn't answered by another.
-    #[inline]
     pub(crate) fn call_ahead(&self, call: u64) -> Shortcut
         ensures { result ≡ unwrap_or (call_ahead_in self.now.handovers call) (own_leap call) }
     {
@@ -254,7 +250,6 @@ impl Settlements {
     }
 
     /// From now on this is ahead of a call, if that one was answered by another.
-    #[inline]
     pub(crate) fn remember_call(&mut self, call: u64, ahead: Shortcut)
         ensures same { SaysSameTurns self.old self.new }
         ensures len { handovers_len self.new.handovers ≡ handovers_len self.old.handovers }

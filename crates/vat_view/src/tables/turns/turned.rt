@@ -80,7 +80,6 @@ impl Ended {
     }
 
     /// The number of the record that ended it, if one did.
-    #[inline]
     pub(crate) fn number(self) -> Option<usize>
         ensures { result ≡ option_map (λ settled. settled.0) (ended self) }
     {

@@ -96,7 +96,6 @@ pub(crate) fn heading_taken(calls: &Calls, taken: Option<u64>) -> GoalKey
 }
 
 /// Whether a call was received on this connection before the record of this number.
-#[inline]
 fn came_before(receipt: Receipt, connection: u32, number: usize) -> bool
     ensures { result ≡ ((receipt.connection == connection) && nat_lt receipt.number number) }
 {
@@ -124,7 +123,6 @@ impl WaitingCalls {
     }
 
     /// Whether this call holds up the echo of a loopback of this connection.
-    #[inline]
     fn holds(&self, calls: &Calls, connection: u32, looped: &Unechoed, call: u64) -> bool
         ensures { result ≡ held_by calls.now connection looped.now call (receipt_at self.now call) }
     {

@@ -137,7 +137,6 @@ impl<V: Drop> RisingTable<V> {
     }
 
     /// How many entries there are.
-    #[inline]
     pub fn len(&self) -> usize
         ensures { result ≡ length self.now }
     {

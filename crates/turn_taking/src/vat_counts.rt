@@ -14,7 +14,6 @@ pub(crate) struct VatCounts {
 
 impl VatCounts {
     /// Before any came up. It takes no memory.
-    #[inline]
     pub(crate) fn new(alloc: Global) -> VatCounts
         ensures { AreEmptyCounts result }
     {
@@ -24,7 +23,6 @@ impl VatCounts {
     }
 
     /// How often this vat came up.
-    #[inline]
     pub(crate) fn of(&self, vat: u32) -> u64
         ensures { result ≡ count_of self.now vat }
     {

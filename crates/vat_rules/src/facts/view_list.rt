@@ -48,7 +48,6 @@ impl ViewList {
     }
 
     /// This one alone. It takes no memory.
-    #[inline]
     pub(crate) fn one(view: Option<View>) -> ViewList
         ensures { result ≡ view ∷ [] }
     {

@@ -71,7 +71,6 @@ pub(crate) fn goes_for(
 }
 
 /// Whether the one view went on to the other, which is given by a number of the sender's own or not, as the edition has it.
-#[inline]
 pub(crate) fn went_on(
     edition: Edition,
     own: bool,

@@ -15,7 +15,6 @@ use std::alloc::AllocError;
 use vat_view::{DecodedRecord, Number, TableKey, VatState, View};
 
 /// Whether a call's result at a path went on to what the descriptor at this place stands for, if that isn't none.
-#[inline]
 fn returns_field(
     edition: Edition,
     state: &VatState,
@@ -39,7 +38,6 @@ fn returns_field(
 }
 
 /// Whether a call's result went on to what is sent at each of these paths.
-#[inline]
 fn returns_each(
     edition: Edition,
     state: &VatState,
@@ -61,7 +59,6 @@ fn returns_each(
 }
 
 /// Whether a call's results are known, and went on to what is sent at each of these paths.
-#[inline]
 fn returns_fields(
     edition: Edition,
     state: &VatState,
@@ -81,7 +78,6 @@ fn returns_fields(
 
 /// Whether a question wasn't asked with its results to be sent elsewhere, and those of its call are known, and went
 /// on to what is sent at each of these paths.
-#[inline]
 fn returns_results(
     edition: Edition,
     state: &VatState,

@@ -35,7 +35,6 @@ fn refused_at(at: u64, refusal: Refusal) -> SlimOutcome
 
 /// Reads a log's next record and judges it by an edition; where it is good, puts it behind those before it; else why it
 /// isn't.
-#[inline]
 fn put_next(
     alloc: Global,
     edition: Edition,
@@ -61,7 +60,6 @@ fn put_next(
 
 /// The next record of a log whose records are all good so far: its number and why, where it isn't good, and then nothing is
 /// kept of those before it.
-#[inline]
 fn take_next(
     alloc: Global,
     edition: Edition,
@@ -84,7 +82,6 @@ fn take_next(
 }
 
 /// The first record that isn't good, if there is one, of a log that has one record more.
-#[inline]
 fn take_unless_refused(
     alloc: Global,
     edition: Edition,

@@ -62,7 +62,6 @@ fn answered_fields(
 }
 
 /// Where ANSWER with these references turns the fields of its call: to the one at their path.
-#[inline]
 fn answered(alloc: Global, results: &[(u64, Path)]) -> Result<Turned, AllocError>
     ensures { IfOk result
         (λ turned. (path : List ℕ) → target_in path turned ≡ answered_at path results.now) }
@@ -96,7 +95,6 @@ fn returned_fields(
 }
 
 /// Where a Return's results of one path turn the fields of its call.
-#[inline]
 fn returned_alone(event: &DecodedRecord, path: &Path, place: u32) -> Result<Turned, AllocError>
     ensures { IfOk result (λ turned. (at : List ℕ) → target_in at turned
         ≡ (if same_path path.now at then reference_at event.now place else None)) }
@@ -108,7 +106,6 @@ fn returned_alone(event: &DecodedRecord, path: &Path, place: u32) -> Result<Turn
 }
 
 /// Where a Return's results turn the fields of its call: to what is noted for what they have at their path.
-#[inline]
 fn returned(
     alloc: Global,
     event: &DecodedRecord,

@@ -94,7 +94,6 @@ impl VatState {
 
     /// Whether a view leads, by 0 or more turns, to one that is reached over this connection: an import that came in
     /// over it, or a field of a call that this vat asked on it. It takes no memory.
-    #[inline]
     pub fn leads_over(&self, from: &View, connection: u32) -> bool
         ensures { Decides result (LeadsOver self.now from.now connection) }
     {

@@ -37,7 +37,6 @@ pub(crate) struct Handovers {
 
 impl Handovers {
     /// Before any record.
-    #[inline]
     pub(crate) fn new(alloc: Global) -> Handovers
         ensures handovers { (c : ℕ) → handover_in result c ≡ None }
         ensures ahead { (c : ℕ) → call_ahead_in result c ≡ None }
@@ -89,7 +88,6 @@ impl Handovers {
     }
 
     /// Where it is said so, each call is ahead of itself alone from now on.
-    #[inline]
     pub(crate) fn drop_ahead(&mut self, drops: bool)
         ensures handovers { (c : ℕ) → handover_in self.new c ≡ handover_in self.old c }
         ensures room { (call : Option ℕ) → has_room_for_handover self.new call
@@ -104,7 +102,6 @@ impl Handovers {
     }
 
     /// How many calls have an entry.
-    #[inline]
     pub(crate) fn len(&self) -> usize
         ensures { result ≡ handovers_len self.now }
     {
@@ -112,7 +109,6 @@ impl Handovers {
     }
 
     /// Makes room for this call, if there is one. What the table says stays as it is, where memory is refused too.
-    #[inline]
     pub(crate) fn make_room(&mut self, call: Option<u64>) -> Result<(), AllocError>
         ensures same { (c : ℕ) → handover_in self.new c ≡ handover_in self.old c }
         ensures same_ahead { (c : ℕ) → call_ahead_in self.new c ≡ call_ahead_in self.old c }

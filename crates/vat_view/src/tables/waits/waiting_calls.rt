@@ -112,7 +112,6 @@ pub(crate) struct WaitingCalls {
 
 impl WaitingCalls {
     /// Before any record.
-    #[inline]
     pub(crate) fn new(alloc: Global) -> WaitingCalls
         ensures { (c : ℕ) → receipt_at result c ≡ None }
     {
@@ -164,7 +163,6 @@ impl WaitingCalls {
 
     /// Whether a received call that is at the vat holds up the echo of a loopback of this connection: it was received
     /// there before the loopback, and goes where the loopback's target went.
-    #[inline]
     pub(crate) fn holds_up(&self, calls: &Calls, connection: u32, looped: &Unechoed) -> bool
         ensures { AreQueued self.now calls.now
             → Decides result (Holding self.now calls.now connection looped.now) }
@@ -174,7 +172,6 @@ impl WaitingCalls {
 
     /// Makes room for the call that a record receives. What the table says stays as it is, where memory is refused
     /// too.
-    #[inline]
     pub(crate) fn room_for(&mut self, received: Option<(u64, Receipt)>) -> Result<(), AllocError>
         ensures same { (c : ℕ) → receipt_at self.new c ≡ receipt_at self.old c }
         ensures stay { Stay self.old self.new }
@@ -191,7 +188,6 @@ impl WaitingCalls {
     }
 
     /// This call joins the queue. What the table says of calls stays as it is, where memory is refused too.
-    #[inline]
     pub(crate) fn join(&mut self, queued: QueuedCall) -> Result<(), AllocError>
         ensures same { (c : ℕ) → receipt_at self.new c ≡ receipt_at self.old c }
         ensures stay { Stay self.old self.new }
@@ -203,7 +199,6 @@ impl WaitingCalls {
     }
 
     /// This call is received, for which there is room.
-    #[inline]
     pub(crate) fn begin(&mut self, received: Option<(u64, Receipt)>)
         requires { IsTrue (space_at self.old received) }
         ensures begun { (c : ℕ) → receipt_at self.new c
@@ -219,7 +214,6 @@ impl WaitingCalls {
     }
 
     /// This call leaves the vat, which stands under this heading in the queue.
-    #[inline]
     pub(crate) fn end(&mut self, heading: GoalKey, taken: Option<u64>)
         ensures gone { (c : ℕ) → receipt_at self.new c
             ≡ (if is c taken then None else receipt_at self.old c) }

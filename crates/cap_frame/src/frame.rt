@@ -78,7 +78,6 @@ impl<'a> Frame<'a> {
     }
 
     /// How many segments there are, 1 to 512. Each has fewer than 2^32 words.
-    #[inline]
     pub fn segments(&self) -> u32
         ensures count { result ≡ length self.now }
         ensures bound { result ≤ 512 }

@@ -104,7 +104,6 @@ impl Path {
 
     /// The path that leads on from this one by one more number. The only error is that memory ran out; a path of at most
     /// four numbers takes none.
-    #[inline]
     pub fn longer(&self, alloc: Global, field: u16) -> Result<Path, AllocError>
         ensures { IfOk result (λ path. path ≡ self.now ++ field ∷ []) }
     {

@@ -85,7 +85,6 @@ pub fn first_len_in(bytes: &[u8]) -> Result<u64, FrameError>
 
 /// Finds the first fault of the bytes, if they aren't a frame.
 #[tactic(auto, unfolding(crate::specs::Segments::segments_of))]
-#[inline]
 pub fn check(bytes: &[u8]) -> Result<(), FrameError>
     ensures exact { MatchResult result (λ _. segments_of bytes.now ≡ Ok (content bytes.now))
         (λ fault. segments_of bytes.now ≡ Err fault) }

@@ -49,7 +49,6 @@ fn judge_list(
 
 /// Puts a capability behind those found. Room is made for one, and then for as many again as there are: most frames have
 /// one at most, and so no room is left over.
-#[inline]
 fn put(found: &mut Vec<(Path, u32)>, path: Path, index: u32) -> Result<(), AllocError>
     ensures { OnOk result (found.new.items ≡ found.old.items ++ (path, index) ∷ []) }
 {
@@ -125,7 +124,6 @@ fn add_fields(
 
 /// The capabilities at and below a pointer of a struct, in the order in which they are met.
 #[tactic(auto, using(crate::proofs::Loops::no_front), unfolding(crate::specs::Fields::fields_in, crate::specs::Reading::pay_for))]
-#[inline]
 fn list_capabilities(
     alloc: Global,
     frame: &Frame,
@@ -167,7 +165,6 @@ fn list_capabilities(
 /// The fault of the first pointer that has one, in the order of the visits: each of [`ReadError`] but `NoZero`, of which
 /// `WrongKind` comes only from a composite list whose tag isn't a struct's. `OutOfMemory` where a growth of the list or
 /// of a path is refused.
-#[inline]
 pub fn fields(
     alloc: Global,
     frame: &Frame,

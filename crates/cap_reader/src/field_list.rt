@@ -22,7 +22,6 @@ impl Model for Fields {
 
 impl Fields {
     /// The list of these. It takes no memory.
-    #[inline(always)]
     pub fn new(items: Vec<(Path, u32)>) -> Fields
         ensures { result ≡ items.items }
     {

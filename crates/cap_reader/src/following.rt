@@ -141,7 +141,6 @@ fn behind_pad(
 
 /// What the pointer at a place leads to.
 #[tactic(auto, unfolding(crate::specs::Pointers::pointee_behind))]
-#[inline(always)]
 pub fn follow(frame: &Frame, segment: u32, at: u64) -> Result<Pointee, ReadError>
     requires { at < 2 ^ 40 }
     ensures { result ≡ pointee_at frame.now segment at }
@@ -158,7 +157,6 @@ pub fn follow(frame: &Frame, segment: u32, at: u64) -> Result<Pointee, ReadError
 
 /// What the pointer at a place leads to, as [`follow`] says; it is made for a pointer that most often isn't far.
 #[tactic(auto, unfolding(crate::specs::Pointers::pointee_behind))]
-#[inline]
 pub fn follow_near(frame: &Frame, segment: u32, at: u64) -> Result<Pointee, ReadError>
     requires { at < 2 ^ 40 }
     ensures { result ≡ pointee_at frame.now segment at }

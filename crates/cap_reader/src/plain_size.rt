@@ -19,7 +19,6 @@ fn bits_of(element_size: u8) -> u64
 }
 
 /// The words of a list that isn't composite.
-#[inline]
 pub fn plain_size(element_size: u8, count: u32) -> u64
     ensures { result ≡ plain_words element_size count }
 {

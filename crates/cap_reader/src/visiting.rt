@@ -231,7 +231,6 @@ fn list_behind(
 /// The list of structs at the pointer at a place, None where it is null. Most pointers to lists of structs are null or
 /// lead into their own segment, which their word tells at once.
 #[tactic(auto, using(crate::proofs::Near::null_word, crate::proofs::Near::composite_word), unfolding(crate::specs::Tree::tree_behind, crate::specs::Tree::list_there))]
-#[inline]
 fn list_at(frame: &Frame, segment: u32, at: u64, depth: u32) -> Result<Option<ListAt>, ReadError>
     requires { at < 2 ^ 40 }
     ensures { Gives (λ found. option_map (elements_at frame.now) found) result
@@ -328,7 +327,6 @@ pub fn list_field(
 
 impl ListAt {
     /// How many elements there are.
-    #[inline(always)]
     pub fn len(&self) -> u32
         ensures { result ≡ list_len self.now }
     {

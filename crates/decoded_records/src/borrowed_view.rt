@@ -43,7 +43,6 @@ impl<'a> BorrowedView<'a> {
     /// # Errors
     ///
     /// Out of memory.
-    #[inline]
     pub fn to_view(self, alloc: Global) -> Result<View, AllocError>
         ensures { IfOk result (λ view. view ≡ as_view self.entry) }
     {
@@ -70,7 +69,6 @@ impl<'a> BorrowedView<'a> {
     }
 
     /// The path of a field; the empty one of every other view.
-    #[inline]
     pub fn path(self) -> &'a [u16]
         ensures { result.now ≡ field_path (as_view self.entry) }
     {

@@ -105,7 +105,6 @@ pub fn question_finished(event: &DecodedRecord) -> Option<TableKey>
 }
 
 /// The question whose results a record gives back.
-#[inline]
 pub fn question_released(event: &DecodedRecord) -> Option<TableKey>
     ensures { result ≡ question_released event.now }
 {
@@ -180,7 +179,6 @@ pub fn promise_resolved(event: &DecodedRecord) -> Option<TableKey>
 }
 
 /// The call noted beside a record, 0 where none is.
-#[inline]
 pub fn noted_call(event: &DecodedRecord) -> u64
     ensures { result ≡ noted_call event.now }
 {
@@ -191,7 +189,6 @@ pub fn noted_call(event: &DecodedRecord) -> u64
 }
 
 /// Whether a record has a message.
-#[inline]
 pub fn has_message(event: &DecodedRecord) -> bool
     ensures { result ≡ has_message event.now }
 {
@@ -263,7 +260,6 @@ fn several_introductions(alloc: Global, event: &DecodedRecord) -> Result<TableKe
 
 /// The numbers that a record introduces, in the order of their places; those of a late Return aren't counted. The only
 /// error is that memory ran out.
-#[inline]
 pub fn introductions(
     alloc: Global,
     late: bool,
@@ -306,7 +302,6 @@ pub fn is_cap(descriptor: &Descriptor) -> bool
 }
 
 /// Whether a descriptor is a senderPromise.
-#[inline]
 pub fn is_promise(descriptor: &Descriptor) -> bool
     ensures { result ≡ is_promised (Some descriptor.now) }
 {

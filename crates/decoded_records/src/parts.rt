@@ -31,7 +31,6 @@ impl DecodedRecord {
     }
 
     /// The question that it returns by a Return that says that no Finish is needed (rpc.capnp, `Return.noFinishNeeded`).
-    #[inline]
     pub fn question_returned_lightly(&self) -> Option<TableKey>
         ensures { result ≡ question_returned_lightly self.now }
     {
@@ -55,7 +54,6 @@ impl DecodedRecord {
     }
 
     /// The number under which it asks for an echo: one of its sender's.
-    #[inline]
     pub fn sender_loopback(&self) -> Option<TableKey>
         ensures { result ≡ sender_loopback self.now }
     {
@@ -75,7 +73,6 @@ impl DecodedRecord {
     }
 
     /// The number that it echoes: one of its receiver's.
-    #[inline]
     pub fn receiver_loopback(&self) -> Option<TableKey>
         ensures { result ≡ receiver_loopback self.now }
     {
@@ -92,7 +89,6 @@ impl DecodedRecord {
 
     /// The number that one of its descriptors introduces: senderHosted and senderPromise name one of the sender's
     /// exports.
-    #[inline]
     pub fn number_introduced(&self, descriptor: &Descriptor) -> Option<TableKey>
         ensures { result ≡ number_introduced self.now descriptor.now }
     {
@@ -100,7 +96,6 @@ impl DecodedRecord {
     }
 
     /// Whether it is a Call whose results are to be sent elsewhere: sendResultsTo is yourself.
-    #[inline]
     pub fn asks_elsewhere(&self) -> bool
         ensures { result ≡ asks_elsewhere self.now }
     {
@@ -108,7 +103,6 @@ impl DecodedRecord {
     }
 
     /// The call noted beside it, 0 where none is.
-    #[inline]
     pub fn noted_call(&self) -> u64
         ensures { result ≡ noted_call self.now }
     {

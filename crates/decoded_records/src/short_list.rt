@@ -35,7 +35,6 @@ impl<T> Model for ShortList<T> {
 
 impl<T: Drop> ShortList<T> {
     /// No item. It takes no memory.
-    #[inline]
     pub fn none() -> ShortList<T>
         ensures { result ≡ [] }
     {
@@ -45,7 +44,6 @@ impl<T: Drop> ShortList<T> {
     }
 
     /// This one alone. It takes no memory.
-    #[inline]
     pub fn one(item: T) -> ShortList<T>
         ensures { result ≡ item ∷ [] }
     {
@@ -55,7 +53,6 @@ impl<T: Drop> ShortList<T> {
     }
 
     /// All of these. It takes no memory.
-    #[inline]
     pub fn new(items: Vec<T>) -> ShortList<T>
         ensures { result ≡ items.items }
     {
@@ -65,7 +62,6 @@ impl<T: Drop> ShortList<T> {
     }
 
     /// The one item, if there is one, or else the list of several.
-    #[inline]
     pub fn alone(self) -> Result<Option<T>, Vec<T>>
         ensures one { IfOk result (λ item. option_to_list item ≡ self) }
         ensures other { IfErr result (λ items. items.items ≡ self) }
@@ -81,7 +77,6 @@ impl<T: Drop> ShortList<T> {
 /// Origins of numbers. One item is lent as a slice where its size is known.
 impl ShortList<(TableKey, Origin)> {
     /// The items, in their order.
-    #[inline]
     pub fn as_slice(&self) -> &[(TableKey, Origin)]
         ensures { result.now ≡ self.now }
     {

@@ -36,7 +36,6 @@ impl Model for TableKeys {
 
 impl TableKeys {
     /// No numbers. It takes no memory.
-    #[inline]
     pub fn none() -> TableKeys
         ensures { result ≡ [] }
     {
@@ -46,7 +45,6 @@ impl TableKeys {
     }
 
     /// This one alone. It takes no memory.
-    #[inline]
     pub fn one(number: TableKey) -> TableKeys
         ensures { result ≡ number ∷ [] }
     {
@@ -56,7 +54,6 @@ impl TableKeys {
     }
 
     /// The list of these. The only error is that memory ran out.
-    #[inline]
     pub fn new(alloc: Global, items: Vec<TableKey>) -> Result<TableKeys, AllocError>
         ensures { IfOk result (λ ids. ids ≡ items.items) }
     {

@@ -22,7 +22,6 @@ pub enum View {
 }
 
 /// Whether two paths are one.
-#[inline]
 fn same_path(a: &Path, b: &Path) -> bool
     ensures { IsTrue result ↔ (a.now ≡ b.now) }
 {
@@ -31,7 +30,6 @@ fn same_path(a: &Path, b: &Path) -> bool
 
 impl View {
     /// Whether another view is the same.
-    #[inline]
     pub fn is_same(&self, other: &View) -> bool
         ensures { IsTrue result ↔ (self.now ≡ other.now) }
     {

@@ -25,7 +25,6 @@ impl CaseCounts {
     ghost use Rattle.std.specs.Prelude.{[]};
 
     /// Before any record.
-    #[inline]
     pub(crate) fn new() -> CaseCounts
         ensures { AreCounted [] result }
     {
@@ -38,7 +37,6 @@ impl CaseCounts {
     }
 
     /// One record more. The only error is out of memory, where there were 2^64 - 1.
-    #[inline]
     pub(crate) fn add(&mut self, body: &Body) -> Result<(), AllocError>
         ensures { OnOk result (IsCounted body.now self.old self.new) }
     {

@@ -64,7 +64,6 @@ impl CaseTurns {
     }
 
     /// Takes a record, unless memory was refused before. Where it is refused now, no more is said of the parts.
-    #[inline]
     fn take_all(&mut self, vat: u32, body: &Body) -> Result<(), AllocError>
         ensures ok { OnOk result (self.new ≡ option_map (case_with_turn (vat, body.now)) self.old) }
         ensures err { OnErr result (self.new ≡ None) }
@@ -85,7 +84,6 @@ impl CaseTurns {
 
     /// Where the run of good logs breaks the order of calls, by the order in which the vats took their turns, as
     /// [`CallOrder::fault`] says. It holds once all records of the logs are taken in order.
-    #[inline]
     pub fn fault(&self) -> Option<(u32, u32)>
         ensures { IfSome self.now (λ taken. (logs : List Log) → AreAll logs taken.in_order
             → IsFaultBy logs (order_of taken.in_order) result) }
@@ -94,7 +92,6 @@ impl CaseTurns {
     }
 
     /// What is found of a link, if these were all records, as [`LinkStates::outcome`] says.
-    #[inline]
     pub fn outcome(&self, link: &Link) -> Option<LinkOutcome>
         ensures some { IfSome self.now (λ taken. link_on taken.links link.now.connection ≡ Some link.now
             → is_some result ≡ true) }
@@ -104,7 +101,6 @@ impl CaseTurns {
     }
 
     /// How many records were taken, those that only passed among them.
-    #[inline]
     pub fn records(&self) -> u64
         ensures { IfSome self.now (λ taken. result ≡ length taken.all) }
     {
@@ -112,7 +108,6 @@ impl CaseTurns {
     }
 
     /// How many of them deliver a call.
-    #[inline]
     pub fn delivered(&self) -> u64
         ensures { IfSome self.now (λ taken. result ≡ count_turns passes_delivery taken.all) }
     {
@@ -120,7 +115,6 @@ impl CaseTurns {
     }
 
     /// How many frames are under way: how many more were sent than received.
-    #[inline]
     pub fn under_way(&self) -> u64
         ensures { IfSome self.now (λ taken. result ≡ count_turns sends taken.all - count_turns receives taken.all) }
     {
@@ -144,7 +138,6 @@ impl Turns for CaseTurns {
         self.under_way() > CROWD
     }
 
-    #[inline]
     fn give_up(&mut self) {
         self.is_stuck = true;
     }

@@ -16,7 +16,6 @@ pub(crate) struct Comparison {
 
 impl Comparison {
     /// Of two empty lists. It takes no memory.
-    #[inline]
     pub(crate) fn new(alloc: Global) -> Comparison
         ensures difference { result.difference ≡ None }
         ensures waiting { result.waiting ≡ [] }

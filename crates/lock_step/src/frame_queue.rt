@@ -127,7 +127,6 @@ impl FrameQueue {
     }
 
     /// How many frames the one end sent.
-    #[inline]
     pub fn sent_count(&self) -> u64
         ensures { result ≡ length self.now.sent }
     {
@@ -135,7 +134,6 @@ impl FrameQueue {
     }
 
     /// How many frames the other end received.
-    #[inline]
     pub fn received_count(&self) -> u64
         ensures { result ≡ length self.now.received }
     {

@@ -35,7 +35,6 @@ impl Model for LinkQueues {
 
 impl LinkQueues {
     /// Before any frame. It takes no memory.
-    #[inline]
     pub fn new(alloc: Global) -> LinkQueues
         ensures { result ≡ nothing_passed }
     {
@@ -50,7 +49,6 @@ impl LinkQueues {
     /// # Errors
     ///
     /// Out of memory, and then nothing changes. A frame of 2^32 bytes or more that is to wait is answered so too.
-    #[inline]
     pub fn send(&mut self, end: LinkEnd, frame: &Bytes) -> Result<(), AllocError>
         ensures ok { OnOk result (self.new ≡ with_sent_by end frame.now self.old) }
         ensures err { OnErr result (self.new ≡ self.old) }
@@ -69,7 +67,6 @@ impl LinkQueues {
     /// # Errors
     ///
     /// Out of memory, and then nothing changes. A frame of 2^32 bytes or more that is to wait is answered so too.
-    #[inline]
     pub fn receive(&mut self, end: LinkEnd, frame: &Bytes) -> Result<(), AllocError>
         ensures ok { OnOk result (self.new ≡ with_received_by end frame.now self.old) }
         ensures err { OnErr result (self.new ≡ self.old) }
@@ -83,7 +80,6 @@ impl LinkQueues {
     }
 
     /// How many frames both ends together sent.
-    #[inline]
     pub fn sent_count(&self) -> u64
         ensures { result ≡ length self.now.to_first.sent + length self.now.to_second.sent }
     {

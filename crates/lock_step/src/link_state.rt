@@ -24,7 +24,6 @@ pub(crate) struct LinkState {
 
 impl LinkState {
     /// Before any turn. It takes no memory.
-    #[inline]
     pub(crate) fn new(alloc: Global, link: &Link) -> LinkState
         ensures { result ≡ state_of [] link.now }
     {
@@ -36,7 +35,6 @@ impl LinkState {
     }
 
     /// Whether the ends of a link are these two vats.
-    #[inline]
     pub(crate) fn is_between(&self, link: &Link) -> bool
         ensures is { result ≡ true → (self.now.first ≡ min link.now.a link.now.b) × (self.now.second ≡ max link.now.a link.now.b) }
         ensures isnt { self.now.first ≡ min link.now.a link.now.b → self.now.second ≡ max link.now.a link.now.b → result ≡ true }
@@ -45,7 +43,6 @@ impl LinkState {
     }
 
     /// The end at which the vat is.
-    #[inline]
     fn end_of(&self, vat: u32) -> Option<LinkEnd>
         ensures { result ≡ end_of self.now.first self.now.second vat }
     {
@@ -57,7 +54,6 @@ impl LinkState {
 
     /// A vat takes a record; where it is at an end, the record's frame passes there. The only error is that memory ran out,
     /// and then nothing changes.
-    #[inline]
     pub(crate) fn pass(&mut self, vat: u32, body: &Body) -> Result<(), AllocError>
         ensures ok { OnOk result (self.new ≡ link_with_turn vat body.now self.old) }
         ensures err { OnErr result (self.new ≡ self.old) }
@@ -73,7 +69,6 @@ impl LinkState {
     }
 
     /// What is found of the link, if this were all.
-    #[inline]
     pub(crate) fn outcome(&self) -> LinkOutcome
         ensures meaning { (ends : Ends) → ends.first.vat ≡ self.now.first → ends.second.vat ≡ self.now.second
             → between ends ≡ self.now.queues → IsOutcome ends result }

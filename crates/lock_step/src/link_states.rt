@@ -39,7 +39,6 @@ impl Model for LinkStates {
 
 impl LinkStates {
     /// These links before any turn. The only error is that memory ran out.
-    #[inline]
     pub fn new(alloc: Global, links: &[Link]) -> Result<LinkStates, AllocError>
         ensures { IfOk result (λ states. states ≡ record { links = links.now; turns = [] }) }
     {
@@ -62,7 +61,6 @@ impl LinkStates {
     /// # Errors
     ///
     /// Out of memory, and then nothing changes. A frame of 2^32 bytes or more that is to wait is answered so too.
-    #[inline]
     pub fn take(&mut self, vat: u32, body: &Body) -> Result<(), AllocError>
         ensures ok { OnOk result (self.new ≡ record { links = self.old.links; turns = (vat, body.now) ∷ self.old.turns }) }
         ensures err { OnErr result (self.new ≡ self.old) }
@@ -76,7 +74,6 @@ impl LinkStates {
     /// What is found of a link, if these were all turns. Where the turns are all records of some logs, it is what
     /// [`link_check::check_link`] finds of the ends that the link has among them. None where the first link of its connection
     /// that has two vats as its ends has others, or there is none.
-    #[inline]
     pub fn outcome(&self, link: &Link) -> Option<LinkOutcome>
         ensures some { link_on self.now.links link.now.connection ≡ Some link.now → is_some result ≡ true }
         ensures found { IfSome result (IsFoundOf link.now self.now.turns) }

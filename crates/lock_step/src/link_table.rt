@@ -18,7 +18,6 @@ pub(crate) struct LinkTable {
 
 impl LinkTable {
     /// No links. It takes no memory.
-    #[inline]
     pub(crate) fn new(alloc: Global) -> LinkTable
         ensures { (k : ℕ) → state_on result k ≡ None }
     {
@@ -29,7 +28,6 @@ impl LinkTable {
 
     /// Adds a link before any turn, if its ends are two vats and its connection has none yet. The only error is that memory ran
     /// out.
-    #[inline]
     pub(crate) fn add(&mut self, alloc: Global, link: &Link) -> Result<(), AllocError>
         ensures { OnOk result (IsAdded link.now self.old self.new) }
     {
@@ -42,7 +40,6 @@ impl LinkTable {
     }
 
     /// What is kept of a connection.
-    #[inline]
     pub(crate) fn on(&self, connection: u32) -> Option<&LinkState>
         ensures { option_copied result ≡ state_on self.now connection }
     {
@@ -50,7 +47,6 @@ impl LinkTable {
     }
 
     /// A vat takes a record. The only error is that memory ran out, and then nothing changes.
-    #[inline]
     pub(crate) fn pass(&mut self, vat: u32, body: &Body) -> Result<(), AllocError>
         ensures ok { OnOk result (IsLinkPassed vat body.now self.old self.new) }
         ensures err { OnErr result (AreSameStates self.old self.new) }

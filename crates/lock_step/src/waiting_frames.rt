@@ -31,7 +31,6 @@ impl Model for WaitingFrames {
 
 /// Moves the bytes from a place on to the front, where those before it are at least half of all. It answers where they begin
 /// now. So all moves together move no more bytes than are left out.
-#[inline]
 fn compact(bytes: &mut Vec<u8>, begin: usize) -> usize
     requires { begin ≤ length bytes.old.items }
     ensures rest { drop result bytes.new.items ≡ drop begin bytes.old.items }
@@ -60,7 +59,6 @@ impl WaitingFrames {
     }
 
     /// The first frame.
-    #[inline]
     pub(crate) fn first(&self) -> Option<&[u8]>
         ensures { option_copied result ≡ slice_get self.now 0 }
     {
@@ -70,7 +68,6 @@ impl WaitingFrames {
 
     /// A frame waits behind the others. The only error is that memory ran out, which a frame of 2^32 bytes or more is
     /// answered by too.
-    #[inline]
     pub(crate) fn push(&mut self, frame: &[u8]) -> Result<(), AllocError>
         ensures ok { OnOk result (self.new ≡ self.old ++ frame.now ∷ []) }
         ensures err { OnErr result (self.new ≡ self.old) }
@@ -84,7 +81,6 @@ impl WaitingFrames {
     }
 
     /// The first frame, if there is one, waits no longer.
-    #[inline]
     pub(crate) fn leave(&mut self)
         ensures { self.new ≡ drop 1 self.old }
     {
@@ -95,7 +91,6 @@ impl WaitingFrames {
     }
 
     /// No frame waits any longer, and their memory is given back.
-    #[inline]
     pub(crate) fn clear(&mut self)
         ensures { self.new ≡ [] }
     {

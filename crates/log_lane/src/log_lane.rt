@@ -31,7 +31,6 @@ const RECORDS: usize = 4096;
 const AMPLE: usize = 131_072;
 
 /// The next record of a log; or none, where it didn't come whole and more isn't to be waited for; or why there is none.
-#[inline]
 fn next_of<P: Pieces>(
     alloc: Global,
     stream: &mut LogStream<P>,
@@ -122,7 +121,6 @@ impl<P: Pieces> LogLane<P> {
     }
 
     /// Lets the records go that were taken.
-    #[inline]
     fn let_taken_go(&mut self)
         ensures { self.new ≡ self.old }
     {
@@ -168,7 +166,6 @@ impl<P: Pieces> LogLane<P> {
     }
 
     /// Reads ahead what came whole, but for what is too much at once.
-    #[inline]
     fn read_what_came(&mut self, alloc: Global)
         ensures more { (lane : ReadAhead) → self.old ≡ Some lane
             → IfSome self.new (λ longer. GoesOn (as_lane lane) (as_lane longer)) }
@@ -182,7 +179,6 @@ impl<P: Pieces> LogLane<P> {
     }
 
     /// Sees whether the last reading gave so much that the next need not be waited for.
-    #[inline]
     fn see_whether_ample(&mut self)
         ensures { self.new ≡ self.old }
     {
@@ -190,7 +186,6 @@ impl<P: Pieces> LogLane<P> {
     }
 
     /// Whether so many records are ahead; or some, and more would be waited for, or their bytes are so many that no more are read.
-    #[inline]
     fn has_enough(&self, enough: usize) -> bool
         ensures { IfSome self.now (λ lane. result ≡ true → lane.ahead ≢ []) }
     {
@@ -199,7 +194,6 @@ impl<P: Pieces> LogLane<P> {
     }
 
     /// From where the log comes.
-    #[inline]
     pub fn pieces(&self) -> &P
         ensures { IfSome self.now (λ lane. P.so_far result.now ≡ lane.read.came) }
     {
@@ -207,7 +201,6 @@ impl<P: Pieces> LogLane<P> {
     }
 
     /// What is left of a log that was read whole, which can be asked for once; or why it wasn't, if that is known.
-    #[inline]
     pub fn take_log(&mut self, alloc: Global) -> Result<SlimLog, Option<ReadFault>>
         ensures lane { self.new ≡ self.old }
         ensures whole { IfOk result (λ log. (lane : ReadAhead) × (self.old ≡ Some lane)
@@ -239,7 +232,6 @@ impl<P: Pieces> turn_taking::CaseLane for LogLane<P> {
 
     ghost so_far = { λ lane. option_map as_lane lane };
 
-    #[inline]
     fn vat(&self) -> u32 {
         self.stream.vat()
     }
@@ -254,7 +246,6 @@ impl<P: Pieces> turn_taking::CaseLane for LogLane<P> {
         self.ahead.leave();
     }
 
-    #[inline]
     fn is_refused(&self) -> bool {
         self.is_refused
     }

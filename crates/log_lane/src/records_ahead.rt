@@ -18,7 +18,6 @@ fn frame_length(stored: &Record) -> usize {
 }
 
 /// Lets the first so many records go. How many bytes the frames of the others have, where all have so many.
-#[inline]
 fn let_go(records: &mut VecDeque<Record>, count: usize, bytes: usize) -> usize
     ensures { records.new.items ≡ drop count records.old.items }
 {
@@ -69,7 +68,6 @@ impl RecordsAhead {
     }
 
     /// How many there are.
-    #[inline]
     pub(crate) fn len(&self) -> usize
         ensures { result ≡ length self.now }
     {
@@ -77,7 +75,6 @@ impl RecordsAhead {
     }
 
     /// How many bytes their frames have, and those of the records that were taken since the last were let go.
-    #[inline]
     pub(crate) fn bytes(&self) -> usize {
         self.bytes
     }
@@ -110,7 +107,6 @@ impl RecordsAhead {
     }
 
     /// One more behind them.
-    #[inline]
     pub(crate) fn push(&mut self, entry: Record) -> Result<(), AllocError>
         ensures { OnOk result (self.new ≡ self.old ++ entry ∷ []) }
     {

@@ -32,7 +32,6 @@ impl Model for SlimLog {
 impl SlimLog {
     /// The log of a finding within the default limits, with the connections that its records used: they must have been told
     /// just these records.
-    #[inline]
     pub fn new(finding: SlimFinding, used: UsedConnections) -> SlimLog
         requires used { used ≡ finding.log.records }
         requires within { finding.limits ≡ default_limits }
@@ -42,7 +41,6 @@ impl SlimLog {
     }
 
     /// What its audit found.
-    #[inline]
     pub fn finding(&self) -> &SlimFinding
         ensures found { result.now ≡ self.now }
         ensures within { result.now.limits ≡ default_limits }
@@ -51,7 +49,6 @@ impl SlimLog {
     }
 
     /// The connections that its records used, each once.
-    #[inline]
     fn connections(&self) -> &BTreeSet<u32>
         ensures { AreUsed self.now.log.records result.now.keys }
     {
@@ -67,7 +64,6 @@ impl CaseLog for SlimLog {
         self.finding.vat()
     }
 
-    #[inline]
     fn least_unlinked(&self, found: Option<u32>, links: &[Link]) -> Option<u32> {
         least_unlinked_of(found, self.connections(), self.vat(), links)
     }

@@ -35,7 +35,6 @@ impl Model for UsedConnections {
 }
 
 /// The connection that a record uses.
-#[inline]
 fn used_by(body: &Body) -> Option<u32>
     ensures { result ≡ used_by body.now }
 {
@@ -47,7 +46,6 @@ fn used_by(body: &Body) -> Option<u32>
 
 /// Adds the connection that a record uses, if it uses one, to those of the records before it, of which one may be known; one
 /// of them all, if there is one.
-#[inline]
 fn add(set: &mut BTreeSet<u32>, known: Option<u32>, body: &Body) -> Result<Option<u32>, AllocError>
     requires { IfSome known (Contains set.old.keys) }
     ensures used { (records : List Body) → AreUsed records set.old.keys
@@ -84,7 +82,6 @@ impl UsedConnections {
     /// # Errors
     ///
     /// Out of memory, and then they are as they were: only a record that uses a connection for the first time takes memory.
-    #[inline]
     pub fn take(&mut self, body: &Body) -> Result<(), AllocError>
         ensures ok { OnOk result (self.new ≡ self.old ++ body.now ∷ []) }
         ensures err { OnErr result (self.new ≡ self.old) }
@@ -96,7 +93,6 @@ impl UsedConnections {
     }
 
     /// The connections that the records use, each once.
-    #[inline]
     pub(crate) fn connections(&self) -> &BTreeSet<u32>
         ensures { AreUsed self.now result.now.keys }
     {

@@ -35,7 +35,6 @@ pub(crate) struct ByConnection<V> {
 
 impl<V: Drop> ByConnection<V> {
     /// Before any number has a value.
-    #[inline]
     pub(crate) fn new(alloc: Global) -> ByConnection<V>
         ensures { (i : TableKey) → value_at result i ≡ None }
     {
@@ -46,7 +45,6 @@ impl<V: Drop> ByConnection<V> {
     }
 
     /// Where its memory comes from.
-    #[inline]
     pub(crate) fn allocator(&self) -> Global {
         self.alloc
     }
@@ -76,7 +74,6 @@ impl<V: Drop> ByConnection<V> {
 
     /// A table without values for this side, if it has none yet. What the tables say stays as it is, where memory is
     /// refused too.
-    #[inline]
     fn begin_side(&mut self, side: u64) -> Result<(), AllocError>
         ensures { (i : TableKey) → value_at self.new i ≡ value_at self.old i }
     {
@@ -87,7 +84,6 @@ impl<V: Drop> ByConnection<V> {
     }
 
     /// This number has this value from now on, the first of its side. Where memory is refused, nothing changes.
-    #[inline]
     fn put_first(&mut self, number: TableKey, value: V) -> Result<(), AllocError>
         requires { LacksSide self.old (side_of number) }
         ensures ok { OnOk result
@@ -101,7 +97,6 @@ impl<V: Drop> ByConnection<V> {
     }
 
     /// This number has this value from now on. Where memory is refused, nothing changes.
-    #[inline]
     pub(crate) fn put(&mut self, number: TableKey, value: V) -> Result<(), AllocError>
         ensures ok { OnOk result
             ((i : TableKey) → value_at self.new i

@@ -77,7 +77,6 @@ pub enum CallChange {
 
 impl CallChange {
     /// Whether the call is at the vat no longer.
-    #[inline]
     pub(crate) fn leaves(self) -> bool
         ensures { result ≡ leaves self }
     {

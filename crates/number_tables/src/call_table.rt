@@ -20,7 +20,6 @@ pub struct Calls {
 
 impl Calls {
     /// Before any call is bound.
-    #[inline]
     pub fn new(alloc: Global) -> Calls
         ensures { (c : ℕ) → call_state_at result c ≡ None }
     {
@@ -31,7 +30,6 @@ impl Calls {
     }
 
     /// Whether this call is bound.
-    #[inline]
     pub fn has(&self, call: u64) -> bool
         ensures { result ≡ is_some (call_state_at self.now call) }
     {
@@ -51,7 +49,6 @@ impl Calls {
     }
 
     /// What this call asked for when it came to the vat, if it is there still. The only error is that memory ran out.
-    #[inline]
     pub fn request_of(&self, call: u64) -> Result<Option<Request>, AllocError>
         ensures { IfOk result (λ asked. asked ≡ request_in (call_state_at self.now call)) }
     {
@@ -83,7 +80,6 @@ impl Calls {
     }
 
     /// A copy of the goal of this call. The only error is that memory ran out.
-    #[inline]
     pub fn goal_of(&self, call: u64) -> Result<Option<View>, AllocError>
         ensures { IfOk result (λ goal. goal ≡ goal_in (call_state_at self.now call)) }
     {
@@ -94,7 +90,6 @@ impl Calls {
     }
 
     /// Whether the goal of this call is this one, where either may be none.
-    #[inline]
     pub fn goes_to(&self, call: u64, goal: &Option<View>) -> bool
         ensures { result ≡ same_target (goal_in (call_state_at self.now call)) goal.now }
     {
@@ -106,7 +101,6 @@ impl Calls {
     }
 
     /// Whether this call is at the vat.
-    #[inline]
     pub fn is_at_vat(&self, call: u64) -> bool
         ensures { result ≡ at_vat_in (call_state_at self.now call) }
     {
@@ -117,7 +111,6 @@ impl Calls {
     }
 
     /// Whether this call was delivered here, or is that of a received Bootstrap.
-    #[inline]
     pub fn is_served(&self, call: u64) -> bool
         ensures { result ≡ served_in (call_state_at self.now call) }
     {
@@ -128,7 +121,6 @@ impl Calls {
     }
 
     /// Whether this call has an answer or fault.
-    #[inline]
     pub fn is_settled(&self, call: u64) -> bool
         ensures { result ≡ settled_in (call_state_at self.now call) }
     {
@@ -139,7 +131,6 @@ impl Calls {
     }
 
     /// Whether the results of this call are known.
-    #[inline]
     pub fn is_known(&self, call: u64) -> bool
         ensures { result ≡ known_in (call_state_at self.now call) }
     {
@@ -150,7 +141,6 @@ impl Calls {
     }
 
     /// A call asks for what it asked for before, or for nothing again.
-    #[inline]
     fn put_back(&mut self, call: u64, last: Option<Request>)
         requires { is_some (request_kept_at self.old call) ≡ true }
         ensures requests { (c : ℕ) → request_kept_at self.new c
@@ -170,7 +160,6 @@ impl Calls {
     }
 
     /// This call is bound, has come so far, and asked for this. Where memory is refused, nothing changes.
-    #[inline]
     fn begin_asking(
         &mut self,
         call: u64,
@@ -192,7 +181,6 @@ impl Calls {
     }
 
     /// This call is bound, has come so far, and asked for nothing. Where memory is refused, nothing changes.
-    #[inline]
     fn begin_still(&mut self, call: u64, entry: CallEntry) -> Result<(), AllocError>
         ensures ok { OnOk result
             ((c : ℕ) → call_state_at self.new c
@@ -205,7 +193,6 @@ impl Calls {
     }
 
     /// This call is bound, and has come so far. Where memory is refused, nothing changes.
-    #[inline]
     pub fn begin(&mut self, call: u64, progress: CallState) -> Result<(), AllocError>
         ensures ok { OnOk result
             ((c : ℕ) → call_state_at self.new c
@@ -225,7 +212,6 @@ impl Calls {
     }
 
     /// This call isn't bound. Nothing is kept of it: neither how far it has come, nor what it asked for.
-    #[inline]
     pub fn forget(&mut self, call: u64)
         ensures states { (c : ℕ) → call_state_at self.new c
             ≡ (if call == c then None else call_state_at self.old c) }
@@ -236,7 +222,6 @@ impl Calls {
     }
 
     /// Applies a change to a call, if it is bound. What a call asked for is forgotten once it leaves the vat.
-    #[inline]
     pub fn note(&mut self, call: u64, step: CallChange)
         ensures { (c : ℕ) → call_state_at self.new c
             ≡ (if call == c then option_map (after_change step) (call_state_at self.old c)

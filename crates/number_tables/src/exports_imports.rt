@@ -12,7 +12,6 @@ use std::alloc::{AllocError, Global};
 
 /// This life's number is held once more, and the life begins here where the number wasn't held. Where it can't be, which
 /// is answered as memory that is refused, nothing changes.
-#[inline]
 fn raise_life(life: &mut NumberLife, origin: Origin) -> Result<(), AllocError>
     ensures count { OnOk result (life.new.count ≡ life.old.count + 1) }
     ensures origin { OnOk result (begun_at life.new ≡ kept_origin (Some life.old) origin) }
@@ -44,7 +43,6 @@ impl ExportsImports {
     }
 
     /// Where its memory comes from.
-    #[inline]
     pub fn allocator(&self) -> Global {
         self.entries.allocator()
     }
@@ -73,7 +71,6 @@ impl ExportsImports {
 
     /// This number is held once more, and its life begins here where it wasn't held. Where memory is refused, nothing
     /// changes; a count of 2^64, which takes as many introductions, is answered so too.
-    #[inline]
     fn raise(&mut self, number: TableKey, origin: Origin) -> Result<(), AllocError>
         ensures counts { OnOk result
             ((i : TableKey) → held_count_at self.new i
@@ -103,7 +100,6 @@ impl ExportsImports {
     }
 
     /// Each number is held less often by as often as it is one of these, down to 0.
-    #[inline]
     pub fn lower_each(&mut self, numbers: &[TableKey])
         ensures counts { (i : TableKey) → held_count_at self.new i
             ≡ held_count_at self.old i - count_by (same_id i) numbers.now }
@@ -115,7 +111,6 @@ impl ExportsImports {
     }
 
     /// Each number is held less often by as often as it is one of these, down to 0.
-    #[inline]
     pub fn lower_raised(&mut self, raised: &[(TableKey, Origin)])
         ensures counts { (i : TableKey) → held_count_at self.new i
             ≡ held_count_at self.old i - count_by (λ x. same_id i x.0) raised.now }

@@ -46,7 +46,6 @@ impl NumberLife {
     }
 
     /// Where its life began.
-    #[inline]
     pub(crate) fn origin(self) -> Origin
         ensures { result ≡ begun_at self }
     {
@@ -64,7 +63,6 @@ impl NumberLife {
     }
 
     /// The same number, held so much less often, down to 0.
-    #[inline]
     pub(crate) fn less(self, by: u64) -> NumberLife
         ensures count { result.count ≡ self.count - by }
         ensures origin { begun_at result ≡ begun_at self }

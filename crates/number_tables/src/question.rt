@@ -45,7 +45,6 @@ impl Drop for QuestionState {
 
 impl QuestionState {
     /// What is known of a question right after its opening, which introduced these numbers.
-    #[inline]
     pub fn opened(call: u64, tail: bool, asked: TableKeys) -> QuestionState
         ensures { result ≡ just_opened call tail asked }
     {

@@ -8,7 +8,6 @@ use decoded_records::{DecodedRecord, TableKey};
 use rpc_view::{ReturnHead, RpcMessage};
 
 /// Whether a question is free: over, or behind a Return that says that no Finish is needed.
-#[inline]
 pub fn is_free(questions: &Questions, question: TableKey) -> bool
     ensures { result ≡ free_in (question_at questions.now question) }
 {
@@ -19,7 +18,6 @@ pub fn is_free(questions: &Questions, question: TableKey) -> bool
 }
 
 /// Whether a question is opened and not finished.
-#[inline]
 pub fn is_unfinished(questions: &Questions, question: TableKey) -> bool
     ensures { result ≡ unfinished_in (question_at questions.now question) }
 {
@@ -30,7 +28,6 @@ pub fn is_unfinished(questions: &Questions, question: TableKey) -> bool
 }
 
 /// Whether a question is finished.
-#[inline]
 pub fn is_finished(questions: &Questions, question: TableKey) -> bool
     ensures { result ≡ finished_in (question_at questions.now question) }
 {
@@ -41,7 +38,6 @@ pub fn is_finished(questions: &Questions, question: TableKey) -> bool
 }
 
 /// Whether a question is opened and not returned.
-#[inline]
 pub fn is_unreturned(questions: &Questions, question: TableKey) -> bool
     ensures { result ≡ unreturned_in (question_at questions.now question) }
 {
@@ -52,7 +48,6 @@ pub fn is_unreturned(questions: &Questions, question: TableKey) -> bool
 }
 
 /// Whether a question's last opening is a Call whose results are to be sent elsewhere.
-#[inline]
 pub fn is_tail(questions: &Questions, question: TableKey) -> bool
     ensures { result ≡ tail_in (question_at questions.now question) }
 {
@@ -63,7 +58,6 @@ pub fn is_tail(questions: &Questions, question: TableKey) -> bool
 }
 
 /// Whether a question's results were taken.
-#[inline]
 pub fn is_taken(questions: &Questions, question: TableKey) -> bool
     ensures { result ≡ taken_in (question_at questions.now question) }
 {

@@ -18,7 +18,6 @@ pub struct Questions {
 
 impl Questions {
     /// Before any is opened.
-    #[inline]
     pub fn new(alloc: Global) -> Questions
         ensures { (q : TableKey) → question_at result q ≡ None }
     {
@@ -36,7 +35,6 @@ impl Questions {
     }
 
     /// What this question's opening introduced.
-    #[inline]
     pub(crate) fn asked_in(&self, question: TableKey) -> &[TableKey]
         ensures { result.now ≡ params_introduced_in (question_at self.now question) }
     {
@@ -47,7 +45,6 @@ impl Questions {
     }
 
     /// What this question's Return introduced.
-    #[inline]
     pub(crate) fn brought_in(&self, question: TableKey) -> &[TableKey]
         ensures { result.now ≡ results_introduced_in (question_at self.now question) }
     {
@@ -58,7 +55,6 @@ impl Questions {
     }
 
     /// This question was opened. Where memory is refused, nothing changes.
-    #[inline]
     pub fn open(&mut self, question: TableKey, opened: QuestionState) -> Result<(), AllocError>
         ensures ok { OnOk result (IsPut question opened self.old self.new) }
         ensures err { OnErr result (IsSameQuestions self.old self.new) }
@@ -67,7 +63,6 @@ impl Questions {
     }
 
     /// This question was returned, and its Return introduced these numbers. A light one says that no Finish is needed.
-    #[inline]
     pub fn note_return(&mut self, question: TableKey, light: bool, brought: TableKeys)
         ensures { IsChanged question
             (λ known. if light then with_light_return (with_return brought known)
@@ -81,7 +76,6 @@ impl Questions {
     }
 
     /// This question was finished, and its results were given back or not.
-    #[inline]
     pub fn note_finish(&mut self, question: TableKey, released: bool)
         ensures { IsChanged question
             (λ known. if released then with_release (with_finish known) else with_finish known)
@@ -94,7 +88,6 @@ impl Questions {
     }
 
     /// This question's results were taken.
-    #[inline]
     pub fn note_taken(&mut self, question: TableKey)
         ensures { IsChanged question with_taken self.old self.new }
     {

@@ -137,7 +137,6 @@ impl<V: Drop> RisingTable<V> {
     }
 
     /// How many entries there are.
-    #[inline]
     pub fn len(&self) -> usize
         ensures { result ≡ length self.now }
     {
@@ -221,7 +220,6 @@ impl<V: Drop> RisingTable<V> {
     }
 
     /// This number has no value from now on.
-    #[inline]
     pub fn remove(&mut self, key: u64)
         ensures { (q : ℕ) → entry_at self.new q ≡ (if key == q then None else entry_at self.old q) }
     {

@@ -28,7 +28,6 @@ use std::alloc::Global;
 
 /// The Bootstrap behind a Message's pointer.
 #[tactic(auto, using(crate::proofs::Running::run_then), unfolding(crate::specs::Message::bootstrap_in, cap_reader::specs::Reading::pay_for, cap_reader::specs::Reading::and_then))]
-#[inline]
 pub fn bootstrap(
     frame: &Frame,
     message: &Option<StructAt>,
@@ -45,7 +44,6 @@ pub fn bootstrap(
 
 /// What the pointers of a Call hold, whose first word was read.
 #[tactic(auto, using(crate::proofs::Running::run_then), unfolding(crate::specs::Message::called_in, cap_reader::specs::Reading::pay_for, cap_reader::specs::Reading::and_then))]
-#[inline]
 fn read_call_parts(
     alloc: Global,
     frame: &Frame,
@@ -84,7 +82,6 @@ fn is_beyond(edition: Edition, field: bool) -> bool
 
 /// The Call behind a Message's pointer.
 #[tactic(auto, using(crate::proofs::Running::run_then), unfolding(crate::specs::Message::call_in, crate::specs::Message::unless_refused, cap_reader::specs::Reading::pay_for, cap_reader::specs::Reading::and_then))]
-#[inline]
 pub fn call(
     alloc: Global,
     frame: &Frame,
@@ -112,7 +109,6 @@ pub fn call(
 
 /// What a Return of this tag says of its call: results, or what stands in their place.
 #[tactic(auto, using(crate::proofs::Running::run_then), unfolding(crate::specs::Message::outcome_in, cap_reader::specs::Reading::pay_for, cap_reader::specs::Reading::and_then))]
-#[inline]
 fn outcome(
     alloc: Global,
     frame: &Frame,
@@ -139,7 +135,6 @@ fn outcome(
 
 /// What the pointer of a Return holds, whose first word was read.
 #[tactic(auto, using(crate::proofs::Running::run_then), unfolding(crate::specs::Message::returned_in, cap_reader::specs::Reading::pay_for, cap_reader::specs::Reading::and_then))]
-#[inline]
 fn read_return_parts(
     alloc: Global,
     frame: &Frame,
@@ -164,7 +159,6 @@ fn read_return_parts(
 
 /// The Return behind a Message's pointer.
 #[tactic(auto, using(crate::proofs::Running::run_then), unfolding(crate::specs::Message::return_in, crate::specs::Message::unless_refused, cap_reader::specs::Reading::pay_for, cap_reader::specs::Reading::and_then))]
-#[inline]
 pub fn answer(
     alloc: Global,
     frame: &Frame,
@@ -192,7 +186,6 @@ pub fn answer(
 
 /// The Finish behind a Message's pointer.
 #[tactic(auto, using(crate::proofs::Running::run_then), unfolding(crate::specs::Message::finish_in, cap_reader::specs::Reading::pay_for, cap_reader::specs::Reading::and_then))]
-#[inline]
 pub fn finish(
     frame: &Frame,
     message: &Option<StructAt>,
@@ -211,7 +204,6 @@ pub fn finish(
 
 /// The Resolve behind a Message's pointer.
 #[tactic(auto, using(crate::proofs::Running::run_then), unfolding(crate::specs::Message::resolve_in, cap_reader::specs::Reading::pay_for, cap_reader::specs::Reading::and_then))]
-#[inline]
 pub fn resolve(
     alloc: Global,
     frame: &Frame,
@@ -236,7 +228,6 @@ pub fn resolve(
 
 /// The Release behind a Message's pointer.
 #[tactic(auto, using(crate::proofs::Running::run_then), unfolding(crate::specs::Message::release_in, cap_reader::specs::Reading::pay_for, cap_reader::specs::Reading::and_then))]
-#[inline]
 pub fn release(
     frame: &Frame,
     message: &Option<StructAt>,
@@ -276,7 +267,6 @@ fn read_disembargo_parts(
 
 /// The Disembargo behind a Message's pointer.
 #[tactic(auto, using(crate::proofs::Running::run_then), unfolding(crate::specs::Message::disembargo_in, cap_reader::specs::Reading::pay_for, cap_reader::specs::Reading::and_then))]
-#[inline]
 pub fn disembargo(
     alloc: Global,
     frame: &Frame,

@@ -49,7 +49,6 @@ impl Model for Descriptors {
 
 impl Descriptors {
     /// The table of these descriptors. It takes no memory.
-    #[inline(always)]
     pub fn new(items: Vec<Descriptor>) -> Descriptors
         ensures { result ≡ items.items }
     {

@@ -16,7 +16,6 @@ use cap_reader::{
 use std::alloc::Global;
 
 /// The root struct of a frame.
-#[inline]
 pub fn root_struct(frame: &Frame, limits: &mut Limits) -> Result<Option<StructAt>, ViewError>
     ensures { RunsInMemory (sections_of frame.now) result limits.new.words
         (run (struct_in_tree (root_tree limits.old.depth frame.now)) limits.old.words) }
@@ -77,7 +76,6 @@ pub fn element_in(
 
 /// The capabilities at and below a pointer of a struct.
 #[tactic(auto, unfolding(crate::specs::Reading::part, cap_reader::specs::Fields::fields_in, cap_reader::specs::Reading::pay_for))]
-#[inline]
 pub fn fields_of(
     alloc: Global,
     frame: &Frame,

@@ -45,7 +45,6 @@ fn read_descriptor(
 
 /// The descriptor at a pointer of a struct.
 #[tactic(auto, using(crate::proofs::Running::run_then), unfolding(crate::specs::Message::descriptor_in, cap_reader::specs::Reading::pay_for, cap_reader::specs::Reading::and_then))]
-#[inline]
 pub fn descriptor(
     alloc: Global,
     frame: &Frame,
@@ -62,7 +61,6 @@ pub fn descriptor(
 
 /// The descriptor at a place of a table.
 #[tactic(auto, using(crate::proofs::Running::run_then), unfolding(crate::specs::Message::descriptor_in, cap_reader::specs::Reading::pay_for, cap_reader::specs::Reading::and_then))]
-#[inline]
 fn entry(
     alloc: Global,
     frame: &Frame,
@@ -80,7 +78,6 @@ fn entry(
 
 /// Puts a descriptor behind those read. Room is made for one, and then for as many again as there are: most tables have
 /// one, and what a frame claims to have is no reason to make room.
-#[inline]
 fn put(items: &mut Vec<Descriptor>, descriptor: Descriptor) -> Result<(), AllocError>
     ensures { OnOk result (items.new.items ≡ items.old.items ++ descriptor ∷ []) }
 {
@@ -111,7 +108,6 @@ fn entries(
 
 /// The descriptors of a table that was looked for.
 #[tactic(auto, unfolding(crate::specs::Message::descriptors_in, cap_reader::specs::Reading::each, cap_reader::specs::Reading::pay_for))]
-#[inline]
 pub fn descriptors(
     alloc: Global,
     frame: &Frame,

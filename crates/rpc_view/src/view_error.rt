@@ -40,7 +40,6 @@ pub enum ViewError {
 impl From<FrameError> for ViewError {
     ghost from_gives = { λ e error. error ≡ Frame e };
 
-    #[inline]
     fn from(e: FrameError) -> ViewError {
         ViewError::Frame(e)
     }
@@ -50,7 +49,6 @@ impl From<FrameError> for ViewError {
 impl From<ReadError> for ViewError {
     ghost from_gives = { λ e error. error ≡ fault_of e };
 
-    #[inline]
     fn from(e: ReadError) -> ViewError {
         match e {
             ReadError::OutOfMemory => ViewError::OutOfMemory,
@@ -62,7 +60,6 @@ impl From<ReadError> for ViewError {
 impl From<AllocError> for ViewError {
     ghost from_gives = { λ _ error. error ≡ OutOfMemory };
 
-    #[inline]
     fn from(_e: AllocError) -> ViewError {
         ViewError::OutOfMemory
     }

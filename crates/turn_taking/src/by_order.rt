@@ -15,7 +15,6 @@ use std::alloc::{AllocError, Global};
 use std::thread::Threads;
 
 /// The place of the first lane of a vat.
-#[inline]
 fn place_of<L: CaseLane>(lanes: &[L], vat: u32) -> Option<usize>
     ensures some { IfSome result (λ place. (place < length lanes.now)
         × ((lane : LaneSoFar) → IsLaneAt (map L.so_far lanes.now) place lane → lane_vat lane ≡ vat)) }
@@ -57,7 +56,6 @@ fn take_next<L: CaseLane, T: Turns>(
 }
 
 /// Takes records by these steps, up to the first that may not come. How many were taken.
-#[inline]
 fn take_steps<L: CaseLane, T: Turns>(
     alloc: Global,
     lanes: &mut [L],
@@ -128,7 +126,6 @@ fn follow<R: Threads + Sync, L: CaseLane + Send, T: Turns>(
 /// # Errors
 ///
 /// Out of memory.
-#[inline]
 pub fn take_by_order<R: Threads + Sync, L: CaseLane + Send, T: Turns>(
     rt: &R,
     alloc: Global,

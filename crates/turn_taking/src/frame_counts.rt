@@ -15,7 +15,6 @@ struct EndCount {
 
 impl EndCount {
     /// How many frames the vat sent or received at this end: none at another vat's.
-    #[inline]
     fn of(&self, vat: u32) -> u64
         ensures { result ≡ passed_at self.now vat }
     {
@@ -35,7 +34,6 @@ pub(crate) struct FrameCounts {
 
 impl FrameCounts {
     /// A vat sends the first frame, or receives it. It takes no memory.
-    #[inline]
     pub(crate) fn begin(alloc: Global, vat: u32, sends: bool) -> FrameCounts
         ensures { IsBegun vat sends result }
     {
@@ -48,7 +46,6 @@ impl FrameCounts {
     }
 
     /// How many frames were sent, by whichever vat.
-    #[inline]
     pub(crate) fn sent(&self) -> u64
         ensures { result ≡ self.now.sent }
     {
@@ -56,7 +53,6 @@ impl FrameCounts {
     }
 
     /// How many frames the vat sent or received.
-    #[inline]
     pub(crate) fn passed(&self, vat: u32) -> u64
         requires { passed_of self.now vat < 2 ^ 64 }
         ensures { result ≡ passed_of self.now vat }
@@ -70,7 +66,6 @@ impl FrameCounts {
 
     /// The vat sent or received one frame more, and no count is full. The only error is that memory ran out, and then nothing
     /// changes.
-    #[inline]
     fn raise(&mut self, vat: u32) -> Result<(), AllocError>
         requires { passed_of self.old vat + 1 < 2 ^ 64 }
         ensures ok { OnOk result (IsRaisedFrames vat self.old self.new) }
@@ -90,7 +85,6 @@ impl FrameCounts {
 
     /// The vat sends a frame, or receives one, and no count is full. The only error is that memory ran out, and then nothing
     /// changes.
-    #[inline]
     pub(crate) fn pass(&mut self, vat: u32, sends: bool) -> Result<(), AllocError>
         requires room { passed_of self.old vat + 1 < 2 ^ 64 }
         requires few { self.old.sent + 1 < 2 ^ 64 }

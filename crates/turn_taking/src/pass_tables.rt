@@ -19,7 +19,6 @@ pub(crate) struct PassTables {
 
 impl PassTables {
     /// Before any turn. It takes no memory.
-    #[inline]
     pub(crate) fn new(alloc: Global) -> PassTables
         ensures { AreEmpty result }
     {
@@ -31,7 +30,6 @@ impl PassTables {
     }
 
     /// How many more frames were sent on the connection than the vat sent or received there.
-    #[inline]
     pub(crate) fn under_way(&self, vat: u32, connection: u32) -> u64
         requires { passed_on self.now vat connection < 2 ^ 64 }
         ensures { result ≡ sent_count_on self.now connection - passed_on self.now vat connection }
@@ -73,7 +71,6 @@ impl PassTables {
 
     /// The vat's record, if it sends a frame or receives one, does so. The only error is that memory ran out, and then no
     /// count changes.
-    #[inline]
     fn note(&mut self, vat: u32, body: &Body) -> Result<(), AllocError>
         requires { AreRoomy self.old }
         ensures ok { OnOk result (IsNoted vat body.now self.old self.new) }
@@ -87,7 +84,6 @@ impl PassTables {
     }
 
     /// The vat takes a record. The only error is that memory ran out, and then no count changes.
-    #[inline]
     pub(crate) fn take(&mut self, vat: u32, body: &Body) -> Result<(), AllocError>
         requires few { count_of self.old.records vat + 1 < 2 ^ 64 }
         requires roomy { AreRoomy self.old }

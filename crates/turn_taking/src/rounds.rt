@@ -9,7 +9,6 @@ use crate::lane_turns::take_from;
 use std::alloc::AllocError;
 
 /// The vat of each lane, one lane after another, takes its turns, for so many records at most. Whether any took one.
-#[inline]
 pub fn take_round<L: CaseLane, T: Turns>(
     lanes: &mut [L],
     turns: &mut T,
@@ -34,7 +33,6 @@ pub fn take_round<L: CaseLane, T: Turns>(
 const MOST: usize = 256;
 
 /// The vats of the lanes take their turns, round after round, until none may take one with what is ahead. Whether any took one.
-#[inline]
 pub(crate) fn take_rounds<L: CaseLane, T: Turns>(
     lanes: &mut [L],
     turns: &mut T,

@@ -43,7 +43,6 @@ impl Model for TurnsTaken {
 
 impl TurnsTaken {
     /// Before any turn. It takes no memory.
-    #[inline]
     pub fn new(alloc: Global) -> TurnsTaken
         ensures { result ≡ [] }
     {
@@ -56,7 +55,6 @@ impl TurnsTaken {
     }
 
     /// How many frames the other vats sent on the connection beyond those that the vat received there.
-    #[inline]
     pub fn under_way(&self, vat: u32, connection: u32) -> u64
         ensures { result ≡ under_way vat connection self.now }
     {
@@ -65,7 +63,6 @@ impl TurnsTaken {
 
     /// Whether this may be the next record of the vat: a RECV where a frame is under way to it on the connection, any other
     /// record always.
-    #[inline]
     pub fn may_follow(&self, vat: u32, body: &Body) -> bool
         ensures { result ≡ may_follow self.now vat body.now }
     {
@@ -80,7 +77,6 @@ impl TurnsTaken {
     /// # Errors
     ///
     /// Out of memory, also where there were 2^64 - 1 turns; and then nothing changes.
-    #[inline]
     pub fn take(&mut self, vat: u32, body: &Body) -> Result<(), AllocError>
         ensures ok { OnOk result (self.new ≡ (vat, body.now) ∷ self.old) }
         ensures err { OnErr result (self.new ≡ self.old) }

@@ -14,7 +14,6 @@ pub(crate) struct VatCounts {
 
 impl VatCounts {
     /// Before any came up. It takes no memory.
-    #[inline]
     pub(crate) fn new(alloc: Global) -> VatCounts
         ensures { AreEmptyCounts result }
     {
@@ -24,7 +23,6 @@ impl VatCounts {
     }
 
     /// How often this vat came up.
-    #[inline]
     pub(crate) fn of(&self, vat: u32) -> u64
         ensures { result ≡ count_of self.now vat }
     {
@@ -60,7 +58,6 @@ impl VatCounts {
     }
 
     /// This vat, which came up, came up once less. It takes no memory.
-    #[inline]
     pub(crate) fn lower(&mut self, vat: u32)
         requires { 0 < count_of self.old vat }
         ensures { IsRaised vat self.new self.old }

@@ -32,7 +32,6 @@ pub(crate) fn are_left<L: CaseLane>(lanes: &[L]) -> bool
 /// # Errors
 ///
 /// Out of memory.
-#[inline]
 pub fn take_all<R: Threads + Sync, L: CaseLane + Send, T: Turns>(
     rt: &R,
     alloc: Global,

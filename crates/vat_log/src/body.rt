@@ -62,7 +62,6 @@ impl References {
     }
 
     /// This one alone. It takes no memory.
-    #[inline]
     pub(crate) fn one(reference: u64) -> References
         ensures { result ≡ reference ∷ [] }
     {
@@ -160,7 +159,6 @@ impl ResultReferences {
     }
 
     /// This one alone. It takes no memory.
-    #[inline]
     pub(crate) fn one(answered: (u64, Path)) -> ResultReferences
         ensures { result ≡ answered ∷ [] }
     {
@@ -339,7 +337,6 @@ impl Drop for Body {
 }
 
 /// What a MAKE says.
-#[inline]
 pub(crate) fn make_body(call: u64, reference: u64, interface: u64, method: u16) -> Body
     ensures { result ≡ Body.Make call reference interface method }
 {
@@ -352,7 +349,6 @@ pub(crate) fn make_body(call: u64, reference: u64, interface: u64, method: u16) 
 }
 
 /// What a FIELD says.
-#[inline]
 pub(crate) fn field_body(reference: u64, call: u64, path: Path) -> Body
     ensures { result ≡ Body.Field reference call path }
 {

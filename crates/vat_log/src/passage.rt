@@ -39,7 +39,6 @@ impl Passage {
     }
 
     /// What a SEND with this frame says.
-    #[inline]
     pub(crate) fn as_send(self) -> Body
         ensures { result ≡ Body.Send self.connection self.call self.references self.frame }
     {
@@ -52,7 +51,6 @@ impl Passage {
     }
 
     /// What a RECV with this frame says.
-    #[inline]
     pub(crate) fn as_receive(self) -> Body
         ensures { result ≡ Body.Receive self.connection self.call self.references self.frame }
     {

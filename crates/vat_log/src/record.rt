@@ -129,7 +129,6 @@ impl Record {
     }
 
     /// What the record says.
-    #[inline(always)]
     pub fn body(&self) -> &Body
         ensures value { result.now ≡ self.now }
         ensures fits { Fits self.now }

@@ -14,7 +14,6 @@ use rpc_view::RpcMessage;
 use vat_view::DecodedRecord;
 
 /// The rules that a record without a message may break.
-#[inline]
 fn asked_of_own(event: &DecodedRecord) -> &'static [Rule]
     ensures { result.now ≡ filter (own_may_break event.now) rules }
 {
@@ -33,7 +32,6 @@ fn asked_of_own(event: &DecodedRecord) -> &'static [Rule]
 }
 
 /// The rules that a message may break that carries no capability.
-#[inline]
 fn asked_of_bare(message: &RpcMessage) -> &'static [Rule]
     ensures { result.now ≡ filter (bare_may_break message.now) rules }
 {
@@ -50,7 +48,6 @@ fn asked_of_bare(message: &RpcMessage) -> &'static [Rule]
 }
 
 /// The rules that a message may break that carries capabilities, or beside which references are noted.
-#[inline]
 fn asked_of_carrying(message: &RpcMessage) -> &'static [Rule]
     ensures { result.now ≡ filter (carrying_may_break message.now) rules }
 {
@@ -69,8 +66,12 @@ fn asked_of_carrying(message: &RpcMessage) -> &'static [Rule]
 }
 
 /// Whether a record has a message that carries no capability: it notes no reference and has no descriptor.
+<<<<<<< HEAD
 #[inline]
 pub(crate) fn is_bare(event: &DecodedRecord) -> bool
+=======
+fn is_bare(event: &DecodedRecord) -> bool
+>>>>>>> 39b7d422cc7cafd714b984ace2eb6d54e69274b3
     ensures { IsTrue result → IsBare event.now }
 {
     let DecodedRecord::Wire { references, .. } = event else {
@@ -81,7 +82,6 @@ pub(crate) fn is_bare(event: &DecodedRecord) -> bool
 
 /// The rules that a record may break, in the order in which they are tried. The others it meets, whatever came before
 /// it.
-#[inline]
 pub(crate) fn asked(event: &DecodedRecord) -> &'static [Rule]
     ensures { Suffice event.now result.now }
 {

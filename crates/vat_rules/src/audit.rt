@@ -22,7 +22,6 @@ use vat_view::{DecodedRecord, VatState};
 
 /// Whether a record delivers a call.
 #[tactic(auto, unfolding(crate::specs::Telling::is_delivery))]
-#[inline]
 pub(crate) fn is_delivery(event: &DecodedRecord) -> bool
     ensures { result ≡ is_delivery event.now }
 {

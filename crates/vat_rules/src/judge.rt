@@ -20,7 +20,6 @@ use vat_view::{DecodedRecord, VatState};
 
 /// Whether a record meets a rule of an edition, by the state of the records before it and by what its numbers stand for.
 /// GOAL is asked only of a record that meets HERE: what a call asked for is known while it is at the vat.
-#[inline]
 fn meets(
     alloc: Global,
     edition: Edition,

@@ -40,7 +40,6 @@ fn passage_of(
 }
 
 #[tactic(auto, unfolding(crate::specs::Reading::host_at))]
-#[inline]
 fn host_of(bytes: &[u8], at: usize) -> Result<(Body, usize), LogError>
     requires { at ≤ length bytes.now }
     ensures gives { GivesInMemory (λ x. (x.0, x.1)) result (host_at bytes.now at) }
@@ -52,7 +51,6 @@ fn host_of(bytes: &[u8], at: usize) -> Result<(Body, usize), LogError>
 }
 
 #[tactic(auto, unfolding(crate::specs::Reading::vow_at))]
-#[inline]
 fn vow_of(bytes: &[u8], at: usize) -> Result<(Body, usize), LogError>
     requires { at ≤ length bytes.now }
     ensures gives { GivesInMemory (λ x. (x.0, x.1)) result (vow_at bytes.now at) }
@@ -63,7 +61,6 @@ fn vow_of(bytes: &[u8], at: usize) -> Result<(Body, usize), LogError>
 }
 
 #[tactic(auto, unfolding(crate::specs::Reading::fulfil_at))]
-#[inline]
 fn fulfil_of(bytes: &[u8], at: usize) -> Result<(Body, usize), LogError>
     requires { at ≤ length bytes.now }
     ensures gives { GivesInMemory (λ x. (x.0, x.1)) result (fulfil_at bytes.now at) }
@@ -75,7 +72,6 @@ fn fulfil_of(bytes: &[u8], at: usize) -> Result<(Body, usize), LogError>
 }
 
 #[tactic(auto, unfolding(crate::specs::Reading::break_at))]
-#[inline]
 fn break_of(bytes: &[u8], at: usize) -> Result<(Body, usize), LogError>
     requires { at ≤ length bytes.now }
     ensures gives { GivesInMemory (λ x. (x.0, x.1)) result (break_at bytes.now at) }
@@ -86,7 +82,6 @@ fn break_of(bytes: &[u8], at: usize) -> Result<(Body, usize), LogError>
 }
 
 #[tactic(auto, unfolding(crate::specs::Reading::make_at))]
-#[inline]
 fn make_of(bytes: &[u8], at: usize) -> Result<(Body, usize), LogError>
     requires { at ≤ length bytes.now }
     ensures gives { GivesInMemory (λ x. (x.0, x.1)) result (make_at bytes.now at) }
@@ -100,7 +95,6 @@ fn make_of(bytes: &[u8], at: usize) -> Result<(Body, usize), LogError>
 }
 
 #[tactic(auto, unfolding(crate::specs::Reading::field_at))]
-#[inline]
 fn field_of(
     alloc: Global,
     version: LogVersion,
@@ -118,7 +112,6 @@ fn field_of(
 }
 
 #[tactic(auto, unfolding(crate::specs::Reading::deliver_at))]
-#[inline]
 fn deliver_of(bytes: &[u8], at: usize) -> Result<(Body, usize), LogError>
     requires { at ≤ length bytes.now }
     ensures gives { GivesInMemory (λ x. (x.0, x.1)) result (deliver_at bytes.now at) }
@@ -130,7 +123,6 @@ fn deliver_of(bytes: &[u8], at: usize) -> Result<(Body, usize), LogError>
 }
 
 #[tactic(auto, unfolding(crate::specs::Reading::answer_at))]
-#[inline]
 fn answer_of(
     alloc: Global,
     version: LogVersion,
@@ -147,7 +139,6 @@ fn answer_of(
 }
 
 #[tactic(auto, unfolding(crate::specs::Reading::fault_at))]
-#[inline]
 fn fault_of(bytes: &[u8], at: usize) -> Result<(Body, usize), LogError>
     requires { at ≤ length bytes.now }
     ensures gives { GivesInMemory (λ x. (x.0, x.1)) result (fault_at bytes.now at) }
@@ -158,7 +149,6 @@ fn fault_of(bytes: &[u8], at: usize) -> Result<(Body, usize), LogError>
 }
 
 #[tactic(auto, unfolding(crate::specs::Reading::send_at))]
-#[inline]
 fn send_of(
     alloc: Global,
     version: LogVersion,
@@ -174,7 +164,6 @@ fn send_of(
 }
 
 #[tactic(auto, unfolding(crate::specs::Reading::receive_at))]
-#[inline]
 fn receive_of(
     alloc: Global,
     version: LogVersion,
@@ -190,7 +179,6 @@ fn receive_of(
 }
 
 #[tactic(auto, unfolding(crate::specs::Reading::answer_by_at))]
-#[inline]
 fn answer_by_of(bytes: &[u8], at: usize) -> Result<(Body, usize), LogError>
     requires { at ≤ length bytes.now }
     ensures gives { GivesInMemory (λ x. (x.0, x.1)) result (answer_by_at bytes.now at) }
@@ -202,7 +190,6 @@ fn answer_by_of(bytes: &[u8], at: usize) -> Result<(Body, usize), LogError>
 }
 
 /// The fields of a record of this kind.
-#[inline]
 pub(crate) fn body_of(
     alloc: Global,
     version: LogVersion,

@@ -77,7 +77,6 @@ pub(crate) fn nonzero_of(bytes: &[u8], at: usize) -> Result<(u64, usize), LogErr
 }
 
 /// A number of the width that a count has in this version.
-#[inline]
 fn wide_count_at(version: LogVersion, bytes: &[u8], at: usize) -> Result<(u32, usize), LogError>
     requires { at ≤ length bytes.now }
     ensures gives { GivesInMemory (λ x. (x.0, x.1)) result
@@ -109,7 +108,6 @@ fn count_of(version: LogVersion, bytes: &[u8], at: usize) -> Result<(usize, usiz
     Ok((count, after))
 }
 
-#[inline]
 fn many_references(
     alloc: Global,
     count: usize,
@@ -132,7 +130,6 @@ fn many_references(
 }
 
 #[tactic(auto, unfolding(crate::specs::Reading::list_at))]
-#[inline]
 pub(crate) fn references_of(
     alloc: Global,
     version: LogVersion,
@@ -153,7 +150,6 @@ pub(crate) fn references_of(
     Ok((References::new(references), after))
 }
 
-#[inline]
 fn many_path_fields(
     alloc: Global,
     count: usize,
@@ -213,7 +209,6 @@ fn answered_of(
     Ok(((reference, path), after))
 }
 
-#[inline]
 fn many_results(
     alloc: Global,
     version: LogVersion,
@@ -237,7 +232,6 @@ fn many_results(
 }
 
 #[tactic(auto, unfolding(crate::specs::Reading::list_at))]
-#[inline]
 pub(crate) fn results_of(
     alloc: Global,
     version: LogVersion,
@@ -260,7 +254,6 @@ pub(crate) fn results_of(
 
 /// A frame, cut out of the log's bytes without copying.
 #[tactic(auto, unfolding(crate::specs::Reading::frame_at))]
-#[inline]
 pub(crate) fn frame_of(bytes: &Bytes, at: usize) -> Result<(Bytes, usize), LogError>
     requires { at ≤ length bytes.now }
     ensures gives { GivesInMemory (λ x. (x.0, x.1)) result (frame_at bytes.now at) }

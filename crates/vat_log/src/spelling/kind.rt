@@ -24,7 +24,6 @@ pub(crate) enum RecordKind {
 
 /// The kind that a byte stands for.
 #[tactic(auto, unfolding(crate::specs::Reading::kind_with))]
-#[inline]
 fn kind_of(byte: u8) -> Option<RecordKind>
     ensures { result ≡ kind_with byte }
 {

@@ -96,7 +96,6 @@ impl Debug for RecordFacts {
 }
 
 /// How references and descriptors are kept.
-#[inline]
 fn shape_of(lists: Lists) -> Shape
     ensures { lists_of result ≡ lists }
 {
@@ -114,7 +113,6 @@ fn shape_of(lists: Lists) -> Shape
 }
 
 /// What is kept of references alone.
-#[inline]
 fn kept_references(references: ViewList) -> Compact
     ensures { facts_kept result ≡ facts_in None references [] }
 {
@@ -128,7 +126,6 @@ fn kept_references(references: ViewList) -> Compact
 }
 
 /// What is kept of a record without a number in a role.
-#[inline]
 fn kept_lists(alloc: Global, lists: Lists) -> Result<Compact, AllocError>
     ensures { IfOk result (λ kept. facts_kept kept ≡ facts_in None lists.references lists.caps) }
 {
@@ -142,7 +139,6 @@ fn kept_lists(alloc: Global, lists: Lists) -> Result<Compact, AllocError>
 }
 
 /// What is kept of a record with one number in a role.
-#[inline]
 fn kept_with(alloc: Global, number: (Role, View), lists: Lists) -> Result<Compact, AllocError>
     ensures { IfOk result
         (λ kept. facts_kept kept ≡ facts_in (Some number) lists.references lists.caps) }
@@ -158,7 +154,6 @@ fn kept_with(alloc: Global, number: (Role, View), lists: Lists) -> Result<Compac
 }
 
 /// What is kept of a record with one number in a role, or none.
-#[inline]
 fn kept_parts(
     alloc: Global,
     number: Option<(Role, View)>,
@@ -175,7 +170,6 @@ fn kept_parts(
 
 impl RecordFacts {
     /// What the references of a record and its other numbers stand for.
-    #[inline]
     pub(crate) fn new(
         alloc: Global,
         references: ViewList,
@@ -194,7 +188,6 @@ impl RecordFacts {
     }
 
     /// What the references of a record stand for that has no other number.
-    #[inline]
     pub(crate) fn of_references(references: ViewList) -> RecordFacts
         ensures { result ≡ with_references references (facts_by None None [] false) }
     {
@@ -204,7 +197,6 @@ impl RecordFacts {
     }
 
     /// What the references stand for that the record binds or names, in its order, with the record counted.
-    #[inline]
     pub fn references(&self) -> &[Option<View>]
         ensures { result.now ≡ self.now.references }
     {
@@ -220,7 +212,6 @@ impl RecordFacts {
     }
 
     /// What the number in this role stands for.
-    #[inline]
     fn in_role(&self, wanted: Role) -> Option<&View>
         ensures { option_copied result ≡ in_role wanted self.now }
     {
@@ -234,7 +225,6 @@ impl RecordFacts {
     }
 
     /// What the question stands for that the record returns or finishes: its call, as the field at the empty path.
-    #[inline]
     pub fn question(&self) -> Option<&View>
         ensures { option_copied result ≡ self.now.question }
     {
@@ -242,7 +232,6 @@ impl RecordFacts {
     }
 
     /// What the question stands for whose results the record takes, the same (rpc.capnp, Return.takeFromOtherQuestion).
-    #[inline]
     pub fn taken(&self) -> Option<&View>
         ensures { option_copied result ≡ self.now.taken }
     {
@@ -253,7 +242,6 @@ impl RecordFacts {
     }
 
     /// What the promise stands for that the record resolves.
-    #[inline]
     pub fn promise(&self) -> Option<&View>
         ensures { option_copied result ≡ self.now.promise }
     {
@@ -261,7 +249,6 @@ impl RecordFacts {
     }
 
     /// What the target of a Call or Disembargo stands for.
-    #[inline]
     pub fn target(&self) -> Option<&View>
         ensures { option_copied result ≡ self.now.target }
     {
@@ -269,7 +256,6 @@ impl RecordFacts {
     }
 
     /// What the number stands for that a Release gives back, if it is in life.
-    #[inline]
     pub fn released(&self) -> Option<&View>
         ensures { option_copied result ≡ self.now.released }
     {
@@ -278,7 +264,6 @@ impl RecordFacts {
 
     /// What the descriptors of the record's capability table stand for, by place, counted from 0; `None` also for one
     /// that is none.
-    #[inline]
     pub fn caps(&self) -> &[Option<View>]
         ensures { result.now ≡ self.now.caps }
     {
@@ -294,7 +279,6 @@ impl RecordFacts {
 
     /// Whether the record is a Return that is late: a Finish with releaseResultCaps true passed before it, for the same
     /// opening of its question.
-    #[inline]
     pub fn is_late(&self) -> bool
         ensures { result ≡ self.now.late }
     {

@@ -17,7 +17,6 @@ use std::alloc::{AllocError, Global};
 use vat_view::{DecodedRecord, TableKey, VatState, View};
 
 /// What a question stands for: its call, as the field at the empty path.
-#[inline]
 fn view_of_question(
     alloc: Global,
     state: &VatState,
@@ -60,7 +59,6 @@ fn view_of_number(state: &VatState, number: Option<TableKey>) -> Result<Option<V
 }
 
 /// What the question stands for that a record returns or finishes.
-#[inline]
 fn question_view(
     alloc: Global,
     state: &VatState,
@@ -73,7 +71,6 @@ fn question_view(
 }
 
 /// What the question stands for whose results a record takes.
-#[inline]
 fn taken_view(
     alloc: Global,
     state: &VatState,
@@ -85,7 +82,6 @@ fn taken_view(
 }
 
 /// What the descriptors of a record stand for that may be applied next. Most records have one at most.
-#[inline]
 fn views_of_descriptors(
     alloc: Global,
     state: &VatState,
@@ -164,7 +160,6 @@ pub(crate) fn facts_before(
 }
 
 /// What references stand for, each of several.
-#[inline]
 fn views_of_each(
     alloc: Global,
     state: &VatState,
@@ -180,7 +175,6 @@ fn views_of_each(
 }
 
 /// What references stand for. Most records have one.
-#[inline]
 fn views_of(alloc: Global, state: &VatState, references: &[u64]) -> Result<ViewList, AllocError>
     ensures { IfOk result (λ views. views ≡ map (view_of_reference state.now) references.now) }
 {
@@ -191,7 +185,6 @@ fn views_of(alloc: Global, state: &VatState, references: &[u64]) -> Result<ViewL
 }
 
 /// What the references of a call's results stand for.
-#[inline]
 fn views_of_results(
     alloc: Global,
     state: &VatState,
@@ -211,7 +204,6 @@ fn views_of_results(
 }
 
 /// What the references stand for that a record binds or names, in its order.
-#[inline]
 pub(crate) fn views_of_references(
     alloc: Global,
     state: &VatState,

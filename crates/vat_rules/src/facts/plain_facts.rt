@@ -36,7 +36,6 @@ impl Model for PlainFacts {
 
 impl PlainFacts {
     /// Of a record with these numbers.
-    #[inline]
     pub(crate) fn new(
         number: Option<(Role, View)>,
         taken: Option<View>,
@@ -54,7 +53,6 @@ impl PlainFacts {
     }
 
     /// Of a record that has no numbers apart from its references. It takes no memory.
-    #[inline]
     pub(crate) fn nothing(alloc: Global) -> PlainFacts
         ensures { result ≡ facts_by None None [] false }
     {
@@ -78,7 +76,6 @@ impl PlainFacts {
     }
 
     /// What the promise stands for that it resolves.
-    #[inline]
     pub(crate) fn promise(&self) -> Option<&View>
         ensures { option_copied result ≡ self.now.promise }
     {
@@ -94,7 +91,6 @@ impl PlainFacts {
     }
 
     /// What the question stands for whose results it takes.
-    #[inline]
     pub(crate) fn taken(&self) -> Option<&View>
         ensures { option_copied result ≡ self.now.taken }
     {
@@ -110,7 +106,6 @@ impl PlainFacts {
     }
 
     /// Whether it is a Return that is late.
-    #[inline]
     pub(crate) fn is_late(&self) -> bool
         ensures { result ≡ self.now.late }
     {

@@ -48,7 +48,6 @@ impl ViewList {
     }
 
     /// This one alone. It takes no memory.
-    #[inline]
     pub(crate) fn one(view: Option<View>) -> ViewList
         ensures { result ≡ view ∷ [] }
     {
@@ -69,7 +68,6 @@ impl ViewList {
     }
 
     /// Whether there are none.
-    #[inline]
     pub(crate) fn is_empty(&self) -> bool
         ensures { IsTrue result ↔ (self.now ≡ []) }
     {
@@ -80,7 +78,6 @@ impl ViewList {
     }
 
     /// What the one number stands for, or else the list of what all of them do.
-    #[inline]
     pub(crate) fn alone(self) -> Result<Option<View>, Vec<Option<View>>>
         ensures one { IfOk result (λ view. self ≡ view ∷ []) }
         ensures other { IfErr result (λ items. items.items ≡ self) }

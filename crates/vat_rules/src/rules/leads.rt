@@ -32,7 +32,6 @@ pub(crate) fn leads_on_to(state: &VatState, from: Option<&View>, to: Option<&Vie
 }
 
 /// Whether there are both views, and both are one.
-#[inline]
 fn are_one(state: &VatState, from: Option<&View>, to: Option<&View>) -> bool
     ensures { Decides result
         (AreOneThere state.now (option_copied from.entry) (option_copied to.entry)) }
@@ -44,7 +43,6 @@ fn are_one(state: &VatState, from: Option<&View>, to: Option<&View>) -> bool
 }
 
 /// Whether there are both views, and the one became the other.
-#[inline]
 pub(crate) fn became(state: &VatState, from: Option<&View>, to: Option<&View>) -> bool
     ensures { Decides result
         (BecameThere state.now (option_copied from.entry) (option_copied to.entry)) }
@@ -73,7 +71,6 @@ pub(crate) fn goes_for(
 }
 
 /// Whether the one view went on to the other, which is given by a number of the sender's own or not, as the edition has it.
-#[inline]
 pub(crate) fn went_on(
     edition: Edition,
     own: bool,

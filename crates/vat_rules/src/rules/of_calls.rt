@@ -15,7 +15,6 @@ use std::alloc::{AllocError, Global};
 use vat_view::{DecodedRecord, VatState, View};
 
 /// Whether a call that is delivered or sent on is at the vat.
-#[inline]
 pub(crate) fn is_here(state: &VatState, event: &DecodedRecord) -> bool
     ensures { Decides result (IsHere state.now event.now) }
 {
@@ -32,7 +31,6 @@ pub(crate) fn is_here(state: &VatState, event: &DecodedRecord) -> bool
 }
 
 /// Whether the goal of a call at the vat leads to this object of the vat.
-#[inline]
 fn reaches_object(state: &VatState, call: u64, object: u64) -> Result<bool, AllocError>
     requires { IsTrue (is_at_vat call state.now) }
     ensures { IfOk result (λ b.
@@ -44,7 +42,6 @@ fn reaches_object(state: &VatState, call: u64, object: u64) -> Result<bool, Allo
 }
 
 /// Whether a call at the vat asked for this method of this interface, and its goal goes for this target.
-#[inline]
 fn is_asked(
     edition: Edition,
     state: &VatState,
@@ -70,7 +67,6 @@ fn is_asked(
 
 /// Whether a call that is delivered or sent on, and is at the vat, goes to its goal as the edition has it, and by its own
 /// method.
-#[inline]
 pub(crate) fn goes_to_goal(
     edition: Edition,
     state: &VatState,
@@ -109,7 +105,6 @@ fn awaits_answer(state: &VatState, call: u64) -> bool
 }
 
 /// Whether a call is at the vat, was delivered here or is that of a received Bootstrap.
-#[inline]
 fn was_here(state: &VatState, call: u64) -> bool
     ensures { result ≡ (is_at_vat call state.now || is_served call state.now) }
 {
@@ -117,7 +112,6 @@ fn was_here(state: &VatState, call: u64) -> bool
 }
 
 /// Whether a call that is answered or faulted may be.
-#[inline]
 pub(crate) fn may_answer(
     alloc: Global,
     state: &VatState,

@@ -18,7 +18,6 @@ use std::alloc::{AllocError, Global};
 use vat_view::{BorrowedView, DecodedRecord, VatState, View, ends_are_one};
 
 /// Whether a record sends a frame.
-#[inline]
 fn is_sent(event: &DecodedRecord) -> bool
     ensures { result ≡ is_sent event.now }
 {
@@ -26,7 +25,6 @@ fn is_sent(event: &DecodedRecord) -> bool
 }
 
 /// Whether a record receives a frame.
-#[inline]
 fn is_received(event: &DecodedRecord) -> bool
     ensures { result ≡ is_received event.now }
 {
@@ -34,7 +32,6 @@ fn is_received(event: &DecodedRecord) -> bool
 }
 
 /// Whether a record notes no reference if it is a Return that says that no Finish is needed.
-#[inline]
 fn is_light_without_caps(event: &DecodedRecord) -> bool
     ensures { Decides result (is_light_return event.now ≡ true → references event.now ≡ []) }
 {
@@ -74,7 +71,6 @@ pub(crate) fn is_own_number(descriptor: Option<&Descriptor>) -> bool
 }
 
 /// Whether there is a descriptor and it is senderHosted.
-#[inline]
 fn is_hosted(descriptor: Option<&Descriptor>) -> bool
     ensures { result ≡ is_hosted (option_copied descriptor.entry) }
 {
@@ -82,7 +78,6 @@ fn is_hosted(descriptor: Option<&Descriptor>) -> bool
 }
 
 /// Whether a view is an own object, or an import that came as senderHosted.
-#[inline]
 fn is_hosted_end(state: &VatState, end: BorrowedView<'_>) -> bool
     ensures { result ≡ is_hosted_end state.now (as_view end.entry) }
 {
@@ -94,7 +89,6 @@ fn is_hosted_end(state: &VatState, end: BorrowedView<'_>) -> bool
 }
 
 /// Whether the end of a view, if it has one, is an own object or an import that came as senderHosted.
-#[inline]
 fn ends_hosted(state: &VatState, view: Option<&View>) -> bool
     ensures { Decides result (EndsIn state.now (option_copied view.entry)
         (λ end. IsTrue (is_hosted_end state.now end))) }
@@ -145,7 +139,6 @@ fn notes_view(
 }
 
 /// The places of a record's descriptors that aren't none.
-#[inline]
 fn places(alloc: Global, event: &DecodedRecord) -> Result<Vec<usize>, AllocError>
     ensures { IfOk result (λ v. v.items ≡ places event.now) }
 {
@@ -160,7 +153,6 @@ fn places(alloc: Global, event: &DecodedRecord) -> Result<Vec<usize>, AllocError
 }
 
 /// Each reference with the place that stands as far on.
-#[inline]
 fn views_in_pairs(
     alloc: Global,
     references: &[u64],
@@ -176,7 +168,6 @@ fn views_in_pairs(
 }
 
 /// The references that a record notes, each with the place of its descriptor.
-#[inline]
 fn placed_references(alloc: Global, event: &DecodedRecord) -> Result<Vec<(u64, usize)>, AllocError>
     ensures { IfOk result (λ v. v.items ≡ placed_references event.now) }
 {
@@ -190,7 +181,6 @@ fn placed_references(alloc: Global, event: &DecodedRecord) -> Result<Vec<(u64, u
 }
 
 /// Whether each of these references goes for what the descriptor at its place stands for.
-#[inline]
 fn notes_views(
     edition: Edition,
     state: &VatState,
@@ -211,7 +201,6 @@ fn notes_views(
 }
 
 /// The reference that a record notes for the one descriptor that it has, if it is so.
-#[inline]
 fn only_noted(event: &DecodedRecord) -> Option<u64>
     ensures { MatchOption result ⊤
         (λ reference. placed_references event.now ≡ (reference, 0) ∷ []) }
@@ -229,7 +218,6 @@ fn only_noted(event: &DecodedRecord) -> Option<u64>
 }
 
 /// Whether each reference that a record notes goes for what the descriptor at its place stands for.
-#[inline]
 fn notes_each_view(
     alloc: Global,
     edition: Edition,
@@ -286,7 +274,6 @@ pub(crate) fn describes(
 }
 
 /// Whether a received record notes one reference for each descriptor that isn't none, and none beside a late Return.
-#[inline]
 pub(crate) fn binds_each(state: &VatState, event: &DecodedRecord) -> bool
     ensures { Decides result (BindsEach state.now event.now) }
 {

@@ -15,7 +15,6 @@ use vat_view::{DecodedRecord, TableKey, VatState, View};
 
 /// Whether a connection takes nothing more from this vat: it was aborted, by the first edition from either end, by the
 /// later one by this vat.
-#[inline]
 fn is_closed(edition: Edition, state: &VatState, connection: u32) -> bool
     ensures { result ≡ is_closed edition connection state.now }
 {
@@ -26,7 +25,6 @@ fn is_closed(edition: Edition, state: &VatState, connection: u32) -> bool
 }
 
 /// Whether a record sends nothing on a connection that is closed.
-#[inline]
 pub(crate) fn is_open(edition: Edition, state: &VatState, event: &DecodedRecord) -> bool
     ensures { Decides result (IsOpen edition state.now event.now) }
 {
@@ -41,7 +39,6 @@ pub(crate) fn is_open(edition: Edition, state: &VatState, event: &DecodedRecord)
 }
 
 /// A loopback number of this vat's.
-#[inline]
 fn ours(connection: u32, number: u32) -> TableKey
     ensures { result ≡ id connection true number }
 {
@@ -53,7 +50,6 @@ fn ours(connection: u32, number: u32) -> TableKey
 }
 
 /// A loopback number of the peer's.
-#[inline]
 fn theirs(connection: u32, number: u32) -> TableKey
     ensures { result ≡ id connection false number }
 {
@@ -66,7 +62,6 @@ fn theirs(connection: u32, number: u32) -> TableKey
 
 /// Whether a loopback may be sent over a connection for a view: that leads elsewhere, as the edition has it; or, by the
 /// later edition, it came back.
-#[inline]
 fn leads_away(edition: Edition, state: &VatState, connection: u32, target: &View) -> bool
     ensures { Decides result (LeadsAway edition state.now target.now connection) }
 {
@@ -81,7 +76,6 @@ fn leads_away(edition: Edition, state: &VatState, connection: u32, target: &View
 
 /// Whether a sent senderLoopback has a number that isn't outstanding, and a target for which it may be sent over its
 /// connection.
-#[inline]
 fn asks_echo(
     edition: Edition,
     state: &VatState,
@@ -104,7 +98,6 @@ fn asks_echo(
 }
 
 /// Whether a received senderLoopback has a number that isn't pending, and a target that leads back over its connection.
-#[inline]
 fn is_asked_echo(state: &VatState, connection: u32, number: u32, target: Option<&View>) -> bool
     ensures { Decides result
         (IsTrue (not (is_some (loopback_of (id connection false number) state.now)))
@@ -120,7 +113,6 @@ fn is_asked_echo(state: &VatState, connection: u32, number: u32, target: Option<
 }
 
 /// Whether a sent receiverLoopback has a number whose target led on to this one, and no call holds it up.
-#[inline]
 fn may_echo(state: &VatState, connection: u32, number: u32, target: Option<&View>) -> bool
     ensures { Decides result
         (LeadsTo state.now

@@ -18,7 +18,6 @@ use std::alloc::AllocError;
 use vat_view::{BorrowedView, DecodedRecord, Number, VatState, View};
 
 /// Whether a reference stands for an own promise that was neither kept nor broken.
-#[inline]
 fn is_unkept(state: &VatState, reference: u64) -> Result<bool, AllocError>
     ensures { IfOk result (λ b.
         Decides b (IsUnkept state.now (view_of_reference state.now reference))) }
@@ -30,7 +29,6 @@ fn is_unkept(state: &VatState, reference: u64) -> Result<bool, AllocError>
 }
 
 /// Whether a promise that a record keeps or breaks has been neither kept nor broken.
-#[inline]
 pub(crate) fn keeps_vow(state: &VatState, event: &DecodedRecord) -> Result<bool, AllocError>
     ensures { IfOk result (λ b. Decides b (KeepsVow state.now event.now)) }
 {
@@ -55,7 +53,6 @@ fn is_unresolved(state: &VatState, connection: u32, number: Number) -> bool
 }
 
 /// Whether an import number is out of life.
-#[inline]
 fn is_gone(state: &VatState, connection: u32, number: u32) -> bool
     ensures { result ≡ not (is_in_life (id connection false number) state.now) }
 {
@@ -63,7 +60,6 @@ fn is_gone(state: &VatState, connection: u32, number: u32) -> bool
 }
 
 /// Whether a view became another one.
-#[inline]
 fn became_another(state: &VatState, from: Option<&View>, to: Option<&View>) -> bool
     ensures { Decides result (BecameThere state.now (option_copied from.entry) (option_copied to.entry)
         × (option_copied from.entry ≢ option_copied to.entry)) }
@@ -78,7 +74,6 @@ fn became_another(state: &VatState, from: Option<&View>, to: Option<&View>) -> b
 
 /// Whether what a promise stood for may be resolved to this, which is given by a number of the sender's own or not, as the
 /// edition has it.
-#[inline]
 fn is_resolved_to(
     edition: Edition,
     own: bool,
@@ -96,7 +91,6 @@ fn is_resolved_to(
 }
 
 /// Whether the promise of a sent Resolve may be resolved to what its descriptor stands for, if it has one that isn't none.
-#[inline]
 fn resolves_to(
     edition: Edition,
     state: &VatState,

@@ -15,7 +15,6 @@ use std::alloc::AllocError;
 use vat_view::{DecodedRecord, Number, TableKey, VatState, View};
 
 /// Whether a call's result at a path went on to what the descriptor at this place stands for, if that isn't none.
-#[inline]
 fn returns_field(
     edition: Edition,
     state: &VatState,
@@ -39,7 +38,6 @@ fn returns_field(
 }
 
 /// Whether a call's result went on to what is sent at each of these paths.
-#[inline]
 fn returns_each(
     edition: Edition,
     state: &VatState,
@@ -61,7 +59,6 @@ fn returns_each(
 }
 
 /// Whether a call's results are known, and went on to what is sent at each of these paths.
-#[inline]
 fn returns_fields(
     edition: Edition,
     state: &VatState,
@@ -81,7 +78,6 @@ fn returns_fields(
 
 /// Whether a question wasn't asked with its results to be sent elsewhere, and those of its call are known, and went
 /// on to what is sent at each of these paths.
-#[inline]
 fn returns_results(
     edition: Edition,
     state: &VatState,
@@ -105,7 +101,6 @@ fn returns_results(
 }
 
 /// Whether a call was answered by another, which is this one.
-#[inline]
 fn is_answered_by(state: &VatState, from: Option<u64>, call: u64) -> bool
     ensures { Decides result (IsSomeAnd (answered_by call state.now) (λ by. from ≡ Some by)) }
 {
@@ -117,7 +112,6 @@ fn is_answered_by(state: &VatState, from: Option<u64>, call: u64) -> bool
 
 /// Whether a call was answered by another, which is the one whose results are taken; by the later edition, the call's
 /// own may be taken too.
-#[inline]
 fn returns_taken(edition: Edition, state: &VatState, from: Option<u64>, call: u64) -> bool
     ensures { Decides result (ReturnsTaken edition state.now from call) }
 {
@@ -129,7 +123,6 @@ fn returns_taken(edition: Edition, state: &VatState, from: Option<u64>, call: u6
 
 /// Whether the call of a question was answered by the one for which the question stands whose results are taken, or, by
 /// the later edition, that question stands for the call itself.
-#[inline]
 fn takes_answer(edition: Edition, state: &VatState, question: TableKey, taken: TableKey) -> bool
     ensures { Decides result (IsSomeAnd (call_at (opening question state.now))
         (ReturnsTaken edition state.now (call_of taken state.now))) }

@@ -13,7 +13,6 @@ use std::collections::BTreeSet;
 const FEW: usize = 8;
 
 /// Whether a result stands at a path.
-#[inline]
 fn contains_path(results: &[(u64, Path)], path: &Path) -> bool
     ensures { result ≡ list_any (λ b. same_path path.now b.1) results.now }
 {
@@ -23,7 +22,6 @@ fn contains_path(results: &[(u64, Path)], path: &Path) -> bool
 }
 
 /// Whether no path stands twice among a few results.
-#[inline]
 fn few_distinct(results: &[(u64, Path)]) -> bool
     ensures { result ≡ distinct_paths results.now }
 {
@@ -37,7 +35,6 @@ fn few_distinct(results: &[(u64, Path)]) -> bool
 }
 
 /// Whether no path stands twice among many results: each is looked for among those before it.
-#[inline]
 fn many_distinct(alloc: Global, results: &[(u64, Path)]) -> Result<bool, AllocError>
     ensures { IfOk result (λ distinct. distinct ≡ distinct_paths results.now) }
 {
@@ -51,7 +48,6 @@ fn many_distinct(alloc: Global, results: &[(u64, Path)]) -> Result<bool, AllocEr
 }
 
 /// Whether no path stands twice among the results.
-#[inline]
 pub(crate) fn distinct_paths(alloc: Global, results: &[(u64, Path)]) -> Result<bool, AllocError>
     ensures { IfOk result (λ distinct. distinct ≡ distinct_paths results.now) }
 {

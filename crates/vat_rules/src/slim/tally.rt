@@ -37,7 +37,6 @@ impl Model for Tally {
 }
 
 /// How many calls were delivered, with one more record.
-#[inline]
 fn counted(delivered: u64, event: &DecodedRecord) -> u64
     requires { delivered + 1 < 2 ^ 64 }
     ensures { result ≡ delivered + (if is_delivery event.now then 1 else 0) }
@@ -62,7 +61,6 @@ impl Tally {
     }
 
     /// How many records there are.
-    #[inline]
     pub(crate) fn len(&self) -> u64
         ensures { result ≡ length self.now }
     {
@@ -74,7 +72,10 @@ impl Tally {
     /// # Errors
     ///
     /// Out of memory, and then it is as it was.
+<<<<<<< HEAD
     #[inline(always)]
+=======
+>>>>>>> 39b7d422cc7cafd714b984ace2eb6d54e69274b3
     pub(crate) fn take(
         &mut self,
         alloc: Global,

@@ -131,7 +131,6 @@ fn put_next(
 
 /// The next record of a log whose records are all good so far: its number and why, where it isn't good, and then nothing is
 /// kept of those before it.
-#[inline]
 fn take_next(
     alloc: Global,
     edition: Edition,
@@ -154,7 +153,6 @@ fn take_next(
 }
 
 /// The first record that isn't good, if there is one, of a log that has one record more.
-#[inline]
 fn take_unless_refused(
     alloc: Global,
     edition: Edition,

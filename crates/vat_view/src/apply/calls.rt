@@ -35,7 +35,6 @@ fn arriving_call(goal: Option<View>, interface: u64, method: u16) -> CallState
 }
 
 /// The call of a Bootstrap, which is served where that was received.
-#[inline]
 fn bootstrap_call(received: bool) -> CallState
     ensures { result ≡ bootstrap_call received }
 {
@@ -112,7 +111,6 @@ pub(crate) fn call_begun(
 }
 
 /// The change of a call, if there is one.
-#[inline]
 fn moved(step: CallChange, call: Option<u64>) -> Option<(u64, CallChange)>
     ensures { result ≡ moved step call }
 {
@@ -123,7 +121,6 @@ fn moved(step: CallChange, call: Option<u64>) -> Option<(u64, CallChange)>
 }
 
 /// What a sent record tells of a call that was begun before.
-#[inline]
 fn sent_step(questions: &Questions, event: &DecodedRecord) -> Option<(u64, CallChange)>
     ensures { result ≡ sent_step (λ q. opening_call_in (question_at questions.now q)) event.now }
 {

@@ -25,7 +25,6 @@ use rpc_view::RpcMessage;
 use std::alloc::{AllocError, Global};
 
 /// Takes from the counts what a Release gives back.
-#[inline]
 pub(crate) fn release(lives: &mut ExportsImports, event: &DecodedRecord)
     ensures counts { (i : TableKey) → held_count_at lives.new i
         ≡ held_count_at lives.old i - count_released i event.now }
@@ -44,7 +43,6 @@ pub(crate) fn release(lives: &mut ExportsImports, event: &DecodedRecord)
 }
 
 /// Notes what a record does to the question that it returns or finishes.
-#[inline]
 fn note_return_or_finish(questions: &mut Questions, event: &DecodedRecord, introduced: TableKeys)
     ensures { (q : TableKey) → question_at questions.new q
         ≡ ended_by event.now introduced q (question_at questions.old q) }
@@ -59,7 +57,6 @@ fn note_return_or_finish(questions: &mut Questions, event: &DecodedRecord, intro
 }
 
 /// Notes that a record takes the results of a question, where it does.
-#[inline]
 fn note_taking(questions: &mut Questions, event: &DecodedRecord)
     ensures { (q : TableKey) → question_at questions.new q
         ≡ changed_if (names q (question_taken event.now)) with_taken (question_at questions.old q) }
@@ -70,7 +67,6 @@ fn note_taking(questions: &mut Questions, event: &DecodedRecord)
 }
 
 /// Notes what a record does to the question that it returns or finishes, and to the one whose results it takes.
-#[inline]
 pub(crate) fn note_on_question(
     questions: &mut Questions,
     event: &DecodedRecord,
@@ -144,7 +140,6 @@ fn give_back_and_note(
 
 /// A record that opens no question introduced these numbers. Where memory is refused, nothing changes but the origins
 /// of numbers that aren't held.
-#[inline]
 pub(crate) fn apply_other(
     questions: &mut Questions,
     lives: &mut ExportsImports,
@@ -178,7 +173,6 @@ pub(crate) fn apply_other(
 
 /// Tells the tables of one record, which has this number in the log, and whether it is late. Where memory is refused,
 /// they are of the records before.
-#[inline]
 pub(crate) fn count_numbers(
     alloc: Global,
     late: bool,
@@ -206,7 +200,6 @@ pub(crate) fn count_numbers(
 }
 
 /// Tells the tables of one record that has no descriptors. Where memory is refused, they are of the records before.
-#[inline]
 fn count_plain(
     questions: &mut Questions,
     lives: &mut ExportsImports,
@@ -233,7 +226,6 @@ fn count_plain(
 
 /// Tells all tables of one record that has descriptors, and this number in the log. Where memory is refused, they are
 /// of the records before.
-#[inline]
 fn bind_described(
     alloc: Global,
     number: usize,

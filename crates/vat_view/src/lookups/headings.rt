@@ -15,7 +15,6 @@ use number_tables::{ExportsImports, Questions, call_of};
 use rpc_view::{RpcMessage, Target};
 
 /// The heading of what a number stands for, of this vat or of its peer, whose life began so.
-#[inline]
 fn heading_from(bound: &BoundReferences, ours: bool, origin: Origin) -> GoalKey
     ensures { result ≡ goal_key_of (view_from (bound_at bound.now) ours origin) }
 {
@@ -29,7 +28,6 @@ fn heading_from(bound: &BoundReferences, ours: bool, origin: Origin) -> GoalKey
 }
 
 /// The heading of what an export or import number stands for.
-#[inline]
 fn heading_of_number(bound: &BoundReferences, lives: &ExportsImports, number: TableKey) -> GoalKey
     ensures { result ≡ goal_key_of (number_by (bound_at bound.now) lives.now number) }
 {
@@ -40,7 +38,6 @@ fn heading_of_number(bound: &BoundReferences, lives: &ExportsImports, number: Ta
 }
 
 /// The heading of the field at a path of the call of a question that isn't over.
-#[inline]
 fn heading_of_field(questions: &Questions, question: TableKey, path: &Path) -> GoalKey
     ensures { result
         ≡ goal_key_of (option_map (λ call. FieldOf call path.now)

@@ -37,7 +37,6 @@ pub(crate) fn may_turn(event: &DecodedRecord) -> bool
 }
 
 /// The own promise for which a reference stands.
-#[inline]
 fn promise_of(bound: &BoundReferences, reference: u64) -> Option<Unsettled>
     ensures { result ≡ promise_of (bound_at bound.now reference) }
 {
@@ -48,7 +47,6 @@ fn promise_of(bound: &BoundReferences, reference: u64) -> Option<Unsettled>
 }
 
 /// The call of a question that was opened.
-#[inline]
 fn results_of(questions: &Questions, question: TableKey) -> Option<Unsettled>
     ensures { result ≡ results_by (question_at questions.now question) }
 {
@@ -59,7 +57,6 @@ fn results_of(questions: &Questions, question: TableKey) -> Option<Unsettled>
 }
 
 /// The import for which a number in life stands.
-#[inline]
 fn import_of(lives: &ExportsImports, number: TableKey) -> Option<Unsettled>
     ensures { result ≡ import_by (held_origin lives.now number) }
 {
@@ -120,7 +117,6 @@ fn settled_by(
 }
 
 /// A call, unless the Return that takes its results is late.
-#[inline]
 fn unless_late(late: bool, call: Option<u64>) -> Option<u64>
     ensures { result ≡ (if late then None else call) }
 {
@@ -150,7 +146,6 @@ fn question_taken_here(event: &DecodedRecord) -> Option<TableKey>
 }
 
 /// The call that ANSWERBY names as the one whose results are the first's.
-#[inline]
 fn named_answerer(event: &DecodedRecord) -> Option<u64>
     ensures { result ≡ named_answerer event.now }
 {
@@ -161,7 +156,6 @@ fn named_answerer(event: &DecodedRecord) -> Option<u64>
 }
 
 /// The call whose results a received Return takes that isn't late, by the table of questions before it.
-#[inline]
 fn call_taken_here(questions: &Questions, event: &DecodedRecord) -> Option<u64>
     ensures { result ≡ call_taken_here (question_at questions.now) event.now }
 {
@@ -181,7 +175,6 @@ pub(crate) fn taken_from_by(questions: &Questions, event: &DecodedRecord) -> Opt
 
 /// What a record settles, the call by whose results it does, and where it turns what waits for that, by the tables
 /// before it.
-#[inline]
 pub(crate) fn settling_of(
     alloc: Global,
     questions: &Questions,

@@ -52,7 +52,6 @@ pub(crate) fn view_of_target(
 }
 
 /// What the descriptors of a record stand for, by place, by the tables before it and what it introduces.
-#[inline]
 pub(crate) fn views_of_descriptors(
     alloc: Global,
     bound: &BoundReferences,
@@ -76,7 +75,6 @@ pub(crate) fn views_of_descriptors(
 }
 
 /// The number that a Release gives back, and how much of it.
-#[inline]
 fn let_go_of(event: &DecodedRecord) -> Option<(TableKey, u64)>
     ensures { result ≡ let_go_of event.now }
 {
@@ -95,7 +93,6 @@ fn let_go_of(event: &DecodedRecord) -> Option<(TableKey, u64)>
 }
 
 /// Whether a number is held.
-#[inline]
 fn is_held(lives: &ExportsImports, number: TableKey) -> bool
     ensures { Decides result
         ((i : TableKey) → count_by (same_id i) (number ∷ []) ≤ held_count_at lives.now i) }
@@ -104,7 +101,6 @@ fn is_held(lives: &ExportsImports, number: TableKey) -> bool
 }
 
 /// Whether each number is held at least as often as it is one of these.
-#[inline]
 fn are_held(alloc: Global, lives: &ExportsImports, numbers: &[TableKey]) -> Result<bool, AllocError>
     ensures { IfOk result
         (λ held. Decides held
@@ -118,7 +114,6 @@ fn are_held(alloc: Global, lives: &ExportsImports, numbers: &[TableKey]) -> Resu
 }
 
 /// The same where they may be several.
-#[inline]
 fn are_several_held(
     alloc: Global,
     lives: &ExportsImports,
@@ -138,7 +133,6 @@ fn are_several_held(
 }
 
 /// Whether a record gives back no more of each number than is held.
-#[inline]
 pub(crate) fn gives_back_held(
     alloc: Global,
     questions: &Questions,

@@ -30,7 +30,6 @@ fn reference_at(event: &DecodedRecord, place: usize) -> Option<u64>
 }
 
 /// The references noted for the descriptors of a record, by place.
-#[inline]
 fn references_by_place(alloc: Global, event: &DecodedRecord) -> Result<Vec<Option<u64>>, AllocError>
     ensures { IfOk result
         (λ noted. (place : ℕ) → option_and_then (λ r. r) (slice_get noted.items place)
@@ -49,7 +48,6 @@ fn references_by_place(alloc: Global, event: &DecodedRecord) -> Result<Vec<Optio
 }
 
 /// ANSWER's references, each with its path.
-#[inline]
 fn answered_fields(
     alloc: Global,
     results: &[(u64, Path)],
@@ -64,7 +62,6 @@ fn answered_fields(
 }
 
 /// Where ANSWER with these references turns the fields of its call: to the one at their path.
-#[inline]
 fn answered(alloc: Global, results: &[(u64, Path)]) -> Result<Turned, AllocError>
     ensures { IfOk result
         (λ turned. (path : List ℕ) → target_in path turned ≡ answered_at path results.now) }
@@ -77,7 +74,6 @@ fn answered(alloc: Global, results: &[(u64, Path)]) -> Result<Turned, AllocError
 }
 
 /// What is noted at each path of a Return's results.
-#[inline]
 fn returned_fields(
     alloc: Global,
     event: &DecodedRecord,
@@ -99,7 +95,6 @@ fn returned_fields(
 }
 
 /// Where a Return's results of one path turn the fields of its call.
-#[inline]
 fn returned_alone(event: &DecodedRecord, path: &Path, place: u32) -> Result<Turned, AllocError>
     ensures { IfOk result (λ turned. (at : List ℕ) → target_in at turned
         ≡ (if same_path path.now at then reference_at event.now place else None)) }
@@ -111,7 +106,6 @@ fn returned_alone(event: &DecodedRecord, path: &Path, place: u32) -> Result<Turn
 }
 
 /// Where a Return's results turn the fields of its call: to what is noted for what they have at their path.
-#[inline]
 fn returned(
     alloc: Global,
     event: &DecodedRecord,

@@ -17,7 +17,6 @@ pub(crate) struct KeyCounts {
 
 impl KeyCounts {
     /// Before any is counted.
-    #[inline]
     pub(crate) fn new(alloc: Global) -> KeyCounts
         ensures { (i : TableKey) → tally_at result i ≡ 0 }
     {
@@ -27,7 +26,6 @@ impl KeyCounts {
     }
 
     /// How often this number was counted.
-    #[inline]
     fn of(&self, number: TableKey) -> u64
         ensures { result ≡ tally_at self.now number }
     {
@@ -38,7 +36,6 @@ impl KeyCounts {
     }
 
     /// Counts this number once more, and answers how often it was counted now. The only error is that memory ran out.
-    #[inline]
     pub(crate) fn count(&mut self, number: TableKey) -> Result<u64, AllocError>
         requires { tally_at self.old number < 2 ^ 64 - 1 }
         ensures counts { OnOk result

@@ -23,7 +23,6 @@ pub(crate) fn resolved_since(origin: Option<Origin>, last: Option<usize>) -> boo
 }
 
 /// Whether a descriptor is of the kind of a life that began so, if one did.
-#[inline]
 fn is_of_kind(descriptor: &Descriptor, origin: Option<Origin>) -> bool
     ensures { result ≡ of_kind_by descriptor.now origin }
 {
@@ -35,7 +34,6 @@ fn is_of_kind(descriptor: &Descriptor, origin: Option<Origin>) -> bool
 
 /// Whether the number that a descriptor of the record that comes next introduces keeps its kind, by the tables before
 /// it and what it introduces.
-#[inline]
 fn keeps_kind(
     lives: &ExportsImports,
     begun: &Introduced<'_>,
@@ -55,7 +53,6 @@ fn keeps_kind(
 }
 
 /// Whether every number that the record that comes next introduces keeps its kind.
-#[inline]
 pub(crate) fn keeps_kinds(
     lives: &ExportsImports,
     begun: &Introduced<'_>,

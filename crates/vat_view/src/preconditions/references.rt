@@ -14,7 +14,6 @@ use std::alloc::{AllocError, Global};
 use vat_log::ResultReferences;
 
 /// Whether no reference stands twice.
-#[inline]
 fn is_distinct(alloc: Global, references: &[u64]) -> Result<bool, AllocError>
     ensures { IfOk result (λ distinct. distinct ≡ is_distinct references.now) }
 {
@@ -31,7 +30,6 @@ fn is_distinct(alloc: Global, references: &[u64]) -> Result<bool, AllocError>
 }
 
 /// Whether the references that a record newly binds are unused.
-#[inline]
 fn binds_unused(state: &VatState, event: &DecodedRecord) -> bool
     ensures { result ≡ list_all (λ r. not (is_bound state.now r)) (new_references event.now) }
 {
@@ -42,7 +40,6 @@ fn binds_unused(state: &VatState, event: &DecodedRecord) -> bool
 }
 
 /// Whether the call that a record newly binds, if it does, is unused.
-#[inline]
 fn binds_unused_call(state: &VatState, event: &DecodedRecord) -> bool
     ensures { result ≡ list_all (λ c. not (is_bound_call state.now c)) (new_calls event.now) }
 {
@@ -53,7 +50,6 @@ fn binds_unused_call(state: &VatState, event: &DecodedRecord) -> bool
 }
 
 /// Whether all these references are bound.
-#[inline]
 fn are_bound(state: &VatState, references: &[u64]) -> bool
     ensures { result ≡ list_all (is_bound state.now) references.now }
 {
@@ -63,7 +59,6 @@ fn are_bound(state: &VatState, references: &[u64]) -> bool
 }
 
 /// Whether the references of all results are bound.
-#[inline]
 fn gives_bound(state: &VatState, results: &ResultReferences) -> bool
     ensures { result ≡ list_all (λ answer. is_bound state.now answer.0) results.now }
 {
@@ -74,7 +69,6 @@ fn gives_bound(state: &VatState, results: &ResultReferences) -> bool
 }
 
 /// Whether the other references that a record names are bound.
-#[inline]
 fn names_bound(state: &VatState, event: &DecodedRecord) -> bool
     ensures { result ≡ list_all (is_bound state.now) (named_references event.now) }
 {
@@ -115,7 +109,6 @@ fn names_bound_calls(state: &VatState, event: &DecodedRecord) -> bool
 }
 
 /// Whether a call is noted just where a question is opened.
-#[inline]
 fn notes_call(event: &DecodedRecord) -> bool
     ensures { result ≡ notes_call event.now }
 {

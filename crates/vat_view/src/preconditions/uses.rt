@@ -21,7 +21,6 @@ pub(crate) fn all_three(first: bool, second: bool, third: bool) -> bool
 }
 
 /// Whether two tests both hold; a function of its own for the same reason.
-#[inline]
 pub(crate) fn both(first: bool, second: bool) -> bool
     ensures { result ≡ (first && second) }
 {
@@ -40,7 +39,6 @@ fn is_unfinished(state: &VatState, question: Option<TableKey>) -> bool
 }
 
 /// Whether every question that a record's descriptors name is opened and not finished.
-#[inline]
 fn describes_unfinished(state: &VatState, event: &DecodedRecord) -> bool
     ensures { result ≡ list_all
         (λ d. passes_if (λ q. is_unfinished q state.now) (question_described event.now d))
@@ -53,7 +51,6 @@ fn describes_unfinished(state: &VatState, event: &DecodedRecord) -> bool
 }
 
 /// Whether every question that a record uses is opened and not finished.
-#[inline]
 fn uses_unfinished(state: &VatState, event: &DecodedRecord) -> bool
     ensures { result ≡ list_all (λ q. is_unfinished q state.now) (questions_used event.now) }
 {
@@ -66,7 +63,6 @@ fn uses_unfinished(state: &VatState, event: &DecodedRecord) -> bool
 }
 
 /// Whether the question that a record returns, if there is one, is opened and not returned.
-#[inline]
 fn returns_once(state: &VatState, event: &DecodedRecord) -> bool
     ensures { result ≡ passes_if (λ q. is_unreturned q state.now) (question_returned event.now) }
 {
@@ -78,7 +74,6 @@ fn returns_once(state: &VatState, event: &DecodedRecord) -> bool
 
 /// Whether the question whose results a record takes, if there is one, was opened by a Call whose results are to be
 /// sent elsewhere, and they weren't taken since.
-#[inline]
 fn takes_once(state: &VatState, event: &DecodedRecord) -> bool
     ensures { result ≡ passes_if
         (λ q. is_tail (opening q state.now) && not (is_taken q state.now))
@@ -102,7 +97,6 @@ fn is_in_life(state: &VatState, number: Option<TableKey>) -> bool
 }
 
 /// Whether every number that a record's descriptors use is in life.
-#[inline]
 fn describes_in_life(state: &VatState, event: &DecodedRecord) -> bool
     ensures { result ≡ list_all
         (λ d. passes_if (λ i. is_in_life i state.now) (number_described event.now d))
@@ -119,7 +113,6 @@ impl VatState {
     /// Whether each question that it uses is opened and not finished, one that it returns is opened and not returned,
     /// and one whose results it takes was opened by a Call whose results are to be sent elsewhere, and they weren't
     /// taken since.
-    #[inline]
     fn message_uses_questions(&self, event: &DecodedRecord) -> bool
         ensures { Decides result (UsesQuestions self.now event.now) }
     {
@@ -131,7 +124,6 @@ impl VatState {
     }
 
     /// Whether each export or import number that it uses is in life.
-    #[inline]
     fn message_uses_numbers(&self, event: &DecodedRecord) -> bool
         ensures { Decides result (UsesNumbers self.now event.now) }
     {
@@ -146,7 +138,6 @@ impl VatState {
 /// What a record that may be applied next names and uses. One without a message uses nothing.
 impl VatState {
     /// Whether a question number that it opens is free (rpc.capnp, `Call.questionId` and `Return.noFinishNeeded`).
-    #[inline]
     pub fn opens_free(&self, event: &DecodedRecord) -> bool
         ensures { Decides result (OpensFree self.now event.now) }
     {
@@ -196,7 +187,6 @@ impl VatState {
 }
 
 /// How many descriptors of a record aren't none.
-#[inline]
 fn caps(event: &DecodedRecord) -> usize
     ensures { result ≡ count_by is_cap (descriptors event.now) }
 {

@@ -19,7 +19,6 @@ use std::alloc::{AllocError, Global};
 use std::slice;
 
 /// What a record of this number introduces that isn't a late Return, as a table with the place of the first of each.
-#[inline]
 fn tabled_introductions<'a>(
     alloc: Global,
     number: usize,
@@ -54,7 +53,6 @@ pub(crate) fn introduced_by<'a>(
 }
 
 /// What a number of the sender stands for with a record counted: its life began before, or begins there.
-#[inline]
 fn sender_view(
     bound: &BoundReferences,
     lives: &ExportsImports,
@@ -124,7 +122,6 @@ pub(crate) fn reference_by(
 }
 
 /// The references noted for the descriptors of a record, with what these stand for.
-#[inline]
 fn many_bound(
     alloc: Global,
     bound: &BoundReferences,
@@ -155,7 +152,6 @@ fn many_bound(
 }
 
 /// The reference noted for the first descriptor of a record, with what that stands for.
-#[inline]
 fn first_bound(
     bound: &BoundReferences,
     lives: &ExportsImports,
@@ -180,7 +176,6 @@ fn first_bound(
 }
 
 /// The references noted for the descriptors of a record, with what these stand for.
-#[inline]
 fn bound_descriptors(
     alloc: Global,
     bound: &BoundReferences,
@@ -207,7 +202,6 @@ fn bound_descriptors(
 }
 
 /// The references that a received message binds, with their views.
-#[inline]
 pub(crate) fn received_bindings(
     alloc: Global,
     bound: &BoundReferences,

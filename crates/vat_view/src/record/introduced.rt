@@ -25,7 +25,6 @@ pub(crate) enum Introduced<'a> {
 pub(crate) const FEW: usize = 8;
 
 /// Whether two numbers are one.
-#[inline]
 fn is_same(a: TableKey, b: TableKey) -> bool
     ensures { result ≡ same_id a b }
 {
@@ -33,7 +32,6 @@ fn is_same(a: TableKey, b: TableKey) -> bool
 }
 
 /// The first origin of a number among those that a record of this number in the log introduces.
-#[inline]
 fn first_in(number: usize, event: &DecodedRecord, id: TableKey) -> Option<Origin>
     ensures { result ≡ first_in id (origins_from number event.now 0 0 (descriptors event.now)) }
 {

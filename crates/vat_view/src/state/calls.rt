@@ -75,7 +75,6 @@ impl VatState {
 
     /// The call by whose results a call was answered last, if it was: by ANSWERBY, or by a received Return that isn't
     /// late and takes the results of another question (rpc.capnp, `Return.takeFromOtherQuestion`).
-    #[inline]
     pub fn answered_by(&self, call: u64) -> Option<u64>
         ensures { result ≡ answered_by call self.now }
     {

@@ -13,7 +13,6 @@ use decoded_records::{TableKey, View};
 /// What can be asked of connections.
 impl VatState {
     /// Whether a connection was aborted, from either end (rpc.capnp, `Message.abort`).
-    #[inline]
     pub fn is_aborted(&self, connection: u32) -> bool
         ensures { result ≡ is_aborted connection self.now }
     {
@@ -22,7 +21,6 @@ impl VatState {
 
     /// Whether this vat sent an abort on a connection. One that answers a received abort is in order in a log of the later
     /// edition, and a second one never is (rpc.capnp, `Message.abort`).
-    #[inline]
     pub fn is_aborted_here(&self, connection: u32) -> bool
         ensures { result ≡ is_aborted_here connection self.now }
     {
@@ -34,7 +32,6 @@ impl VatState {
 impl VatState {
     /// Whether the import came in as senderHosted that stands at this place of the record of this number, both counted
     /// from 0, as its view has them (rpc.capnp, `CapDescriptor.senderHosted`).
-    #[inline]
     pub fn came_hosted(&self, number: usize, place: usize) -> bool
         ensures { result ≡ came_hosted self.now number place }
     {
@@ -66,7 +63,6 @@ impl VatState {
     /// its connection before it, and whose goal is what its target stood for then, is still at the vat. It looks only at
     /// calls of the connection that came before and whose goal differs from that target in a long path at most; the
     /// first with that goal decides. It takes no memory.
-    #[inline]
     pub fn is_held_up(&self, number: TableKey) -> bool
         ensures { Decides result (IsHeldUp number self.now) }
     {

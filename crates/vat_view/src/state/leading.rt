@@ -23,7 +23,6 @@ impl VatState {
     }
 
     /// The view to which a view turns, if it does. It takes no memory.
-    #[inline]
     pub fn turned_to<'a>(&'a self, view: &'a View) -> Option<BorrowedView<'a>>
         ensures { option_map as_view result ≡ turned_to (next self.now view.now) }
     {
@@ -64,7 +63,6 @@ impl VatState {
 
     /// Whether two views are one: both lead, by 0 or more turns, to a common view. It walks twice as often as
     /// [`VatState::leads`] at most, and takes no memory.
-    #[inline]
     pub fn are_one(&self, a: &View, b: &View) -> bool
         ensures { IsTrue result ↔ AreOne self.now a.now b.now }
     {
@@ -77,7 +75,6 @@ impl VatState {
     }
 
     /// Whether a view became another: it turned, and is one with it. It takes no memory.
-    #[inline]
     pub fn became(&self, from: &View, to: &View) -> bool
         ensures { IsTrue result ↔ Became self.now from.now to.now }
     {
@@ -97,7 +94,6 @@ impl VatState {
 
     /// Whether a view leads, by 0 or more turns, to one that is reached over this connection: an import that came in
     /// over it, or a field of a call that this vat asked on it. It takes no memory.
-    #[inline]
     pub fn leads_over(&self, from: &View, connection: u32) -> bool
         ensures { Decides result (LeadsOver self.now from.now connection) }
     {
@@ -134,7 +130,6 @@ impl VatState {
     /// Whether a view leads, by 0 or more turns, to one that came back over this connection: it is reached over it, and the
     /// message that turned it turned it to what is this vat's own (rpc.capnp, the comments of `Disembargo`,
     /// `CapDescriptor.receiverHosted` and `receiverAnswer`). It takes no memory.
-    #[inline]
     pub fn came_back(&self, from: &View, connection: u32) -> bool
         ensures { Decides result (CameBack self.now from.now connection) }
     {

@@ -18,7 +18,6 @@ use std::alloc::AllocError;
 /// What can be asked of numbers, references and descriptors before a record is applied.
 impl VatState {
     /// Whether an export or import number is in life: whether it is held (rpc.capnp, the comment of `Release`).
-    #[inline]
     pub(crate) fn is_in_life(&self, number: TableKey) -> bool
         ensures { result ≡ is_in_life number self.now }
     {
@@ -77,7 +76,6 @@ impl VatState {
     /// # Errors
     ///
     /// Out of memory.
-    #[inline]
     pub fn view_of_descriptor(
         &self,
         event: &DecodedRecord,
@@ -105,7 +103,6 @@ impl VatState {
     /// # Errors
     ///
     /// Out of memory.
-    #[inline]
     pub fn views_of_descriptors(
         &self,
         event: &DecodedRecord,
@@ -148,7 +145,6 @@ impl VatState {
     /// # Errors
     ///
     /// Out of memory.
-    #[inline]
     pub fn keeps_kinds(&self, event: &DecodedRecord) -> Result<bool, AllocError>
         ensures { IfOk result (λ keeps. Decides keeps (KeepsKinds self.now event.now)) }
     {

@@ -11,7 +11,6 @@ impl VatState {
     /// Whether a question's number is free, to be opened: it was never opened, or since its last opening both its Return
     /// and its Finish have passed, or a Return that says that no Finish is needed (rpc.capnp, `Call.questionId` and
     /// `Return.noFinishNeeded`).
-    #[inline]
     pub(crate) fn is_free(&self, question: TableKey) -> bool
         ensures { result ≡ is_free question self.now }
     {
@@ -19,7 +18,6 @@ impl VatState {
     }
 
     /// Whether a question is opened and no Finish has passed since (rpc.capnp, `Finish.questionId`).
-    #[inline]
     pub(crate) fn is_unfinished(&self, question: TableKey) -> bool
         ensures { result ≡ is_unfinished question self.now }
     {
@@ -27,7 +25,6 @@ impl VatState {
     }
 
     /// Whether a Finish of a question has passed since its last opening.
-    #[inline]
     pub fn is_finished(&self, question: TableKey) -> bool
         ensures { result ≡ is_finished question self.now }
     {
@@ -35,7 +32,6 @@ impl VatState {
     }
 
     /// Whether a question is opened and no Return has passed since (rpc.capnp, `Return.answerId`).
-    #[inline]
     pub(crate) fn is_unreturned(&self, question: TableKey) -> bool
         ensures { result ≡ is_unreturned question self.now }
     {
@@ -53,7 +49,6 @@ impl VatState {
 
     /// Whether a Return that takes a question's results has passed since its last opening, late or not (rpc.capnp,
     /// `Return.takeFromOtherQuestion`).
-    #[inline]
     pub(crate) fn is_taken(&self, question: TableKey) -> bool
         ensures { result ≡ is_taken question self.now }
     {

@@ -46,7 +46,6 @@ enum Brought {
 }
 
 /// Whether a descriptor is senderHosted, where it is that or senderPromise.
-#[inline]
 fn hosted_in(descriptor: &Descriptor) -> Option<bool>
     ensures { result ≡ hosted_in descriptor.now }
 {
@@ -66,7 +65,6 @@ fn all_hosted(alloc: Global, described: &[Descriptor]) -> Result<Vec<Option<bool
 }
 
 /// Whether one of these descriptors is a senderHosted or senderPromise.
-#[inline]
 fn has_import(described: &[Descriptor]) -> bool
     ensures { result ≡ list_any (λ d. is_some (hosted_in d)) described.now }
 {
@@ -87,7 +85,6 @@ fn names_back(descriptor: Option<&Descriptor>) -> bool
 }
 
 /// Whether one of these descriptors names what is its receiver's.
-#[inline]
 fn has_back(described: &[Descriptor]) -> bool
     ensures { result ≡ has_back described.now }
 {
@@ -144,7 +141,6 @@ pub(crate) fn arriving_over(event: &DecodedRecord) -> Option<u32>
 }
 
 /// Which results are their receiver's, each with its path.
-#[inline]
 fn fields_back(alloc: Global, payload: &Payload) -> Result<Vec<(bool, Path)>, AllocError>
     ensures { IfOk result (λ fields. fields.items
         ≡ map (field_back payload.now.descriptors) payload.now.fields) }
@@ -188,7 +184,6 @@ fn back_of(alloc: Global, event: &DecodedRecord) -> Result<Back, AllocError>
 }
 
 /// Whether what stands beside a path is the receiver's, the first time that the path stands there.
-#[inline]
 fn back_among(fields: &[(bool, Path)], path: &[u16]) -> bool
     ensures { result ≡ back_among path.now fields.now }
 {
@@ -202,7 +197,6 @@ fn back_among(fields: &[(bool, Path)], path: &[u16]) -> bool
 
 impl Back {
     /// Whether what stands at a path is the receiver's.
-    #[inline]
     fn has(&self, path: &[u16]) -> bool
         ensures { result ≡ back_in self.now path.now }
     {
@@ -215,7 +209,6 @@ impl Back {
 
 impl Brought {
     /// What a record brings that brings nothing back, by these descriptors.
-    #[inline]
     fn of_imports(
         alloc: Global,
         connection: u32,
@@ -234,7 +227,6 @@ impl Brought {
 
     /// What a record brings over a connection.
     #[tactic(auto, using(crate::proofs::Importing::brings_none))]
-    #[inline]
     fn new(alloc: Global, connection: u32, event: &DecodedRecord) -> Result<Brought, AllocError>
         ensures connection { IfOk result (λ brought. connection_in brought ≡ connection) }
         ensures hosted { IfOk result
@@ -255,7 +247,6 @@ impl Brought {
     }
 
     /// The connection.
-    #[inline]
     fn connection(&self) -> u32
         ensures { result ≡ connection_in self.now }
     {
@@ -266,7 +257,6 @@ impl Brought {
     }
 
     /// Which descriptors are senderHosted, by place.
-    #[inline]
     fn hosted(&self) -> &[Option<bool>]
         ensures { result.now ≡ hosted_by self.now }
     {
@@ -278,7 +268,6 @@ impl Brought {
     }
 
     /// Whether what stands at a path is this vat's.
-    #[inline]
     fn has_back(&self, path: &[u16]) -> bool
         ensures { result ≡ back_by self.now path.now }
     {
@@ -297,7 +286,6 @@ pub(crate) struct Arrivals {
 
 impl Arrivals {
     /// Before any message.
-    #[inline]
     pub(crate) fn new(alloc: Global) -> Arrivals
         ensures imports { (number place : ℕ) → arrival_at result number place ≡ None }
         ensures back { (number : ℕ) (path : List ℕ) → back_at result number path ≡ false }
@@ -322,7 +310,6 @@ impl Arrivals {
     }
 
     /// The connection over which the import at this place of the record of this number came in, if it did.
-    #[inline]
     pub(crate) fn over(&self, number: usize, place: usize) -> Option<u32>
         ensures { result ≡ option_map (λ a. a.connection) (arrival_at self.now number place) }
     {
@@ -333,7 +320,6 @@ impl Arrivals {
     }
 
     /// Whether the import at this place of the record of this number came in as senderHosted.
-    #[inline]
     pub(crate) fn is_hosted(&self, number: usize, place: usize) -> bool
         ensures { result ≡ option_map_or (λ a. a.hosted) (arrival_at self.now number place) false }
     {
@@ -344,7 +330,6 @@ impl Arrivals {
     }
 
     /// Whether the record of this number brought back what it turned at this path.
-    #[inline]
     pub(crate) fn brings_back(&self, number: usize, path: &[u16]) -> bool
         ensures { result ≡ back_at self.now number path.now }
     {
@@ -355,7 +340,6 @@ impl Arrivals {
     }
 
     /// The record of this number brought this over a connection. Where memory is refused, nothing changes.
-    #[inline]
     pub(crate) fn put(
         &mut self,
         alloc: Global,
@@ -377,7 +361,6 @@ impl Arrivals {
     }
 
     /// The record of this number brought nothing.
-    #[inline]
     pub(crate) fn forget(&mut self, number: usize)
         ensures imports { (n place : ℕ) → arrival_at self.new n place
             ≡ (if number == n then None else arrival_at self.old n place) }

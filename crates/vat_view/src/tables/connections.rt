@@ -108,7 +108,6 @@ fn mark(marks: &mut BTreeMap<u32, bool>, connection: Option<u32>)
 
 impl Connections {
     /// Before any call is asked and any connection aborted.
-    #[inline]
     pub(crate) fn new(alloc: Global) -> Connections
         ensures asked { (c : ℕ) → asked_at result c ≡ None }
         ensures aborted { (k : ℕ) → aborted_at result k ≡ false }
@@ -122,7 +121,6 @@ impl Connections {
     }
 
     /// The connection on which this vat asked its question for a call.
-    #[inline]
     pub(crate) fn asked_on(&self, call: u64) -> Option<u32>
         ensures { result ≡ asked_at self.now call }
     {
@@ -133,7 +131,6 @@ impl Connections {
     }
 
     /// Whether a connection was aborted.
-    #[inline]
     pub(crate) fn is_aborted(&self, connection: u32) -> bool
         ensures { result ≡ aborted_at self.now connection }
     {
@@ -141,7 +138,6 @@ impl Connections {
     }
 
     /// Whether this vat sent an abort on a connection.
-    #[inline]
     pub(crate) fn is_aborted_here(&self, connection: u32) -> bool
         ensures { result ≡ aborted_here_at self.now connection }
     {
@@ -149,7 +145,6 @@ impl Connections {
     }
 
     /// Makes room for a call that is asked. What the table says stays as it is, where memory is refused too.
-    #[inline]
     fn room_for_asked(&mut self, asked: Option<(u64, u32)>) -> Result<(), AllocError>
         ensures same { (c : ℕ) → asked_at self.new c ≡ asked_at self.old c }
         ensures aborted { self.new.aborted ≡ self.old.aborted }
@@ -254,7 +249,6 @@ impl Connections {
     }
 
     /// A call is asked, for which there is room.
-    #[inline]
     fn note_asked(&mut self, asked: Option<(u64, u32)>)
         requires { IsTrue (has_asked self.old asked) }
         ensures same { (c : ℕ) → asked_at self.new c

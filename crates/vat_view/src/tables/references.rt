@@ -31,7 +31,6 @@ pub(crate) struct Binding {
 }
 
 /// From a reference or call to itself, by no turn.
-#[inline]
 pub(crate) fn own_leap(reference: u64) -> Shortcut
     ensures { result ≡ own_leap reference }
 {
@@ -51,7 +50,6 @@ pub(crate) struct BoundReferences {
 
 impl BoundReferences {
     /// Before any reference is bound.
-    #[inline]
     pub(crate) fn new(alloc: Global) -> BoundReferences
         ensures { (r : ℕ) → bound_at result r ≡ None }
     {
@@ -101,7 +99,6 @@ impl BoundReferences {
     }
 
     /// From now on this is ahead of a reference, if that one is bound.
-    #[inline]
     pub(crate) fn remember(&mut self, reference: u64, ahead: Shortcut)
         ensures views { (q : ℕ) → bound_at self.new q ≡ bound_at self.old q }
         ensures len { bound_len self.new ≡ bound_len self.old }
@@ -117,7 +114,6 @@ impl BoundReferences {
     }
 
     /// Where it is said so, each reference is ahead of itself alone from now on.
-    #[inline]
     pub(crate) fn drop_ahead(&mut self, drops: bool)
         ensures views { (q : ℕ) → bound_at self.new q ≡ bound_at self.old q }
         ensures ahead { IsOwnOrOld self.old self.new }
@@ -130,7 +126,6 @@ impl BoundReferences {
     }
 
     /// Whether this reference has a view.
-    #[inline]
     pub(crate) fn has(&self, reference: u64) -> bool
         ensures { result ≡ is_some (bound_at self.now reference) }
     {
@@ -138,7 +133,6 @@ impl BoundReferences {
     }
 
     /// How many references are bound.
-    #[inline]
     pub(crate) fn len(&self) -> usize
         ensures { result ≡ bound_len self.now }
     {
@@ -162,7 +156,6 @@ impl BoundReferences {
     }
 
     /// These references have these views. Where memory is refused, some of them may.
-    #[inline]
     fn bind_several(&mut self, list: Vec<(u64, View)>) -> Result<(), AllocError>
         ensures ok { OnOk result
             ((q : ℕ) → bound_at self.new q ≡ bound_by q list.items (bound_at self.old q)) }
@@ -178,7 +171,6 @@ impl BoundReferences {
     }
 
     /// These references have these views. Where memory is refused, some of them may.
-    #[inline]
     pub(crate) fn bind_each(&mut self, list: ShortList<(u64, View)>) -> Result<(), AllocError>
         ensures ok { OnOk result
             ((q : ℕ) → bound_at self.new q ≡ bound_by q list (bound_at self.old q)) }
@@ -195,7 +187,6 @@ impl BoundReferences {
     }
 
     /// This reference has no view.
-    #[inline]
     fn unbind(&mut self, reference: u64)
         ensures views { (q : ℕ) → bound_at self.new q
             ≡ (if reference == q then None else bound_at self.old q) }
@@ -205,7 +196,6 @@ impl BoundReferences {
     }
 
     /// These references have no view.
-    #[inline]
     pub(crate) fn unbind_each(&mut self, references: &[u64])
         ensures views { (q : ℕ) → bound_at self.new q
             ≡ (if contains q references.now then None else bound_at self.old q) }

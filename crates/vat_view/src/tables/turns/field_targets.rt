@@ -31,7 +31,6 @@ impl Model for FieldTargets {
 }
 
 /// The reference at a path, by fields in the order of their paths.
-#[inline]
 fn target_of(sorted: &[(Option<u64>, Path)], path: &[u16]) -> Option<u64>
     requires { IsSortedBy is_before sorted.now }
     ensures { result ≡ target_among path.now sorted.now }
@@ -49,7 +48,6 @@ fn target_of(sorted: &[(Option<u64>, Path)], path: &[u16]) -> Option<u64>
 
 impl FieldTargets {
     /// What stands at these paths.
-    #[inline]
     pub(crate) fn new(fields: Vec<(Option<u64>, Path)>) -> Result<FieldTargets, AllocError>
         ensures { IfOk result (λ targets. (path : List ℕ) → target_among path targets ≡ target_among path fields.items) }
     {
@@ -63,7 +61,6 @@ impl FieldTargets {
     }
 
     /// The reference at this path, if there is one.
-    #[inline]
     pub(crate) fn at(&self, path: &[u16]) -> Option<u64>
         ensures { result ≡ target_among path.now self.now }
     {

@@ -24,7 +24,6 @@ pub(crate) enum GoalKey {
 }
 
 /// The digest of a path that goes on with this field.
-#[inline]
 fn digest_step(digest: u64, field: u16) -> u64
     ensures { result ≡ digest_step digest field }
 {

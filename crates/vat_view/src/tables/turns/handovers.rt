@@ -37,7 +37,6 @@ pub(crate) struct Handovers {
 
 impl Handovers {
     /// Before any record.
-    #[inline]
     pub(crate) fn new(alloc: Global) -> Handovers
         ensures handovers { (c : ℕ) → handover_in result c ≡ None }
         ensures ahead { (c : ℕ) → call_ahead_in result c ≡ None }
@@ -60,7 +59,6 @@ impl Handovers {
     }
 
     /// The call that is ahead of this one: itself, where it wasn't answered by another.
-    #[inline]
     pub(crate) fn ahead(&self, call: u64) -> Shortcut
         ensures { result ≡ unwrap_or (call_ahead_in self.now call) (own_leap call) }
     {
@@ -71,7 +69,6 @@ impl Handovers {
     }
 
     /// From now on this is ahead of a call, if that one was answered by another.
-    #[inline]
     pub(crate) fn remember(&mut self, call: u64, ahead: Shortcut)
         ensures handovers { (c : ℕ) → handover_in self.new c ≡ handover_in self.old c }
         ensures len { handovers_len self.new ≡ handovers_len self.old }
@@ -91,7 +88,6 @@ impl Handovers {
     }
 
     /// Where it is said so, each call is ahead of itself alone from now on.
-    #[inline]
     pub(crate) fn drop_ahead(&mut self, drops: bool)
         ensures handovers { (c : ℕ) → handover_in self.new c ≡ handover_in self.old c }
         ensures room { (call : Option ℕ) → has_room_for_handover self.new call
@@ -106,7 +102,6 @@ impl Handovers {
     }
 
     /// How many calls have an entry.
-    #[inline]
     pub(crate) fn len(&self) -> usize
         ensures { result ≡ handovers_len self.now }
     {
@@ -114,7 +109,6 @@ impl Handovers {
     }
 
     /// Makes room for this call, if there is one. What the table says stays as it is, where memory is refused too.
-    #[inline]
     pub(crate) fn make_room(&mut self, call: Option<u64>) -> Result<(), AllocError>
         ensures same { (c : ℕ) → handover_in self.new c ≡ handover_in self.old c }
         ensures same_ahead { (c : ℕ) → call_ahead_in self.new c ≡ call_ahead_in self.old c }
@@ -127,7 +121,6 @@ impl Handovers {
     }
 
     /// This answered a call by another, for which there is room.
-    #[inline]
     pub(crate) fn note(&mut self, call: u64, handover: Handover)
         requires room { IsTrue (has_room_for_handover self.old (Some call)) }
         ensures handovers { (c : ℕ) → handover_in self.new c

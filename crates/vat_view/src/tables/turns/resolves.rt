@@ -18,7 +18,6 @@ pub(crate) struct Resolves {
 
 impl Resolves {
     /// Before any promise is resolved.
-    #[inline]
     pub(crate) fn new(alloc: Global) -> Resolves
         ensures { (i : TableKey) → resolve_at result i ≡ None }
     {
@@ -40,7 +39,6 @@ impl Resolves {
 
     /// Makes room for the promise that a record resolves. What the table says stays as it is, where memory is refused
     /// too.
-    #[inline]
     pub(crate) fn room_for(&mut self, resolved: Option<TableKey>) -> Result<(), AllocError>
         ensures same { (i : TableKey) → resolve_at self.new i ≡ resolve_at self.old i }
         ensures room { OnOk result (IsTrue (has_room_to_resolve self.new resolved)) }
@@ -56,7 +54,6 @@ impl Resolves {
     }
 
     /// The record of this number resolved this promise, for which there is room.
-    #[inline]
     pub(crate) fn note_resolve(&mut self, resolved: Option<TableKey>, number: usize)
         requires { IsTrue (has_room_to_resolve self.old resolved) }
         ensures { (i : TableKey) → resolve_at self.new i

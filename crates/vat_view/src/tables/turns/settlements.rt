@@ -32,7 +32,6 @@ pub(crate) struct Settling {
 }
 
 /// The call that a record answers by another.
-#[inline]
 fn handed_call(settled: Option<Unsettled>, by: Option<u64>) -> Option<u64>
     ensures { result ≡ handed_call settled by }
 {
@@ -55,7 +54,6 @@ pub(crate) struct Settlements {
 }
 
 /// Makes room for the end of this promise.
-#[inline]
 fn make_room_for_promise(table: &mut RisingTable<Ended>, promise: u64) -> Result<(), AllocError>
     ensures same { (k : ℕ) → ended_in table.new k ≡ ended_in table.old k }
     ensures room { OnOk result (IsTrue (is_some (entry_at table.new promise))) }
@@ -67,7 +65,6 @@ fn make_room_for_promise(table: &mut RisingTable<Ended>, promise: u64) -> Result
 }
 
 /// Makes room for the number of the record that settled this call.
-#[inline]
 fn make_room_in(table: &mut RisingTable<Option<u32>>, call: u64) -> Result<(), AllocError>
     ensures same { (k : ℕ) → number_in table.new k ≡ number_in table.old k }
     ensures room { OnOk result (IsTrue (is_some (entry_at table.new call))) }
@@ -79,7 +76,6 @@ fn make_room_in(table: &mut RisingTable<Option<u32>>, call: u64) -> Result<(), A
 }
 
 /// Makes room for where this call's results are turned. It takes no memory where that is nowhere.
-#[inline]
 fn make_room_for_turned(
     table: &mut RisingTable<Turned>,
     call: u64,
@@ -95,7 +91,6 @@ fn make_room_for_turned(
 }
 
 /// The record of this number settled this call, for which there is room.
-#[inline]
 fn note_in(table: &mut RisingTable<Option<u32>>, call: u64, number: u32)
     requires { IsTrue (is_some (entry_at table.old call)) }
     ensures { (k : ℕ) → number_in table.new k
@@ -105,7 +100,6 @@ fn note_in(table: &mut RisingTable<Option<u32>>, call: u64, number: u32)
 }
 
 /// A promise ended so, for which there is room.
-#[inline]
 fn note_promise(table: &mut RisingTable<Ended>, promise: u64, number: u32, to: Option<u64>)
     requires { IsTrue (is_some (entry_at table.old promise)) }
     ensures { (k : ℕ) → ended_in table.new k
@@ -115,7 +109,6 @@ fn note_promise(table: &mut RisingTable<Ended>, promise: u64, number: u32, to: O
 }
 
 /// This call's results are turned so, for which there is room.
-#[inline]
 fn note_turned(table: &mut RisingTable<Turned>, call: u64, turned: Turned)
     requires { IsTrue (has_room_for_turned table.old call turned) }
     ensures { (k : ℕ) → turned_in table.new k
@@ -125,7 +118,6 @@ fn note_turned(table: &mut RisingTable<Turned>, call: u64, turned: Turned)
 }
 
 /// The number of the record that settled this call, if one did.
-#[inline]
 fn number_in(table: &RisingTable<Option<u32>>, call: u64) -> Option<usize>
     ensures { result ≡ number_in table.now call }
 {
@@ -137,7 +129,6 @@ fn number_in(table: &RisingTable<Option<u32>>, call: u64) -> Option<usize>
 
 impl Settlements {
     /// Before anything is settled.
-    #[inline]
     pub(crate) fn new(alloc: Global) -> Settlements
         ensures settlers { (v : View) → settled_at result v ≡ None }
         ensures handed { (c : ℕ) → handover_at result c ≡ None }
@@ -164,7 +155,6 @@ impl Settlements {
     }
 
     /// The number of the record that settled this promise, if one did.
-    #[inline]
     pub(crate) fn of_promise(&self, promise: u64) -> Option<usize>
         ensures { result ≡ option_map (λ s. s.0) (settled_at self.now (Promise promise)) }
     {
@@ -197,7 +187,6 @@ impl Settlements {
     }
 
     /// The reference to which the record that settled this import turned it, if one did.
-    #[inline]
     pub(crate) fn import_target(&self, number: usize, place: usize) -> Option<u64>
         ensures { result ≡ option_and_then (λ s. s.1) (settled_at self.now (Import number place)) }
     {
@@ -208,7 +197,6 @@ impl Settlements {
     }
 
     /// The number of the record that settled this import, if one did.
-    #[inline]
     pub(crate) fn of_import(&self, number: usize, place: usize) -> Option<usize>
         ensures { result ≡ option_map (λ s. s.0) (settled_at self.now (Import number place)) }
     {
@@ -227,7 +215,6 @@ impl Settlements {
     }
 
     /// The reference to which the field of a call at this path is turned, if it is to one.
-    #[inline]
     pub(crate) fn field_target(&self, call: u64, path: &[u16]) -> Option<u64>
         ensures { result ≡ target_in path.now (turned_in self.now.turned call) }
     {
@@ -238,7 +225,6 @@ impl Settlements {
     }
 
     /// The last record that answered this call by another, if one did.
-    #[inline]
     pub(crate) fn handover_of(&self, call: u64) -> Option<Handover>
         ensures { result ≡ handover_at self.now call }
     {
@@ -246,7 +232,6 @@ impl Settlements {
     }
 
     /// The call that is ahead of this one: itself, where it wasn't answered by another.
-    #[inline]
     pub(crate) fn call_ahead(&self, call: u64) -> Shortcut
         ensures { result ≡ unwrap_or (call_ahead_in self.now.handovers call) (own_leap call) }
     {
@@ -254,7 +239,6 @@ impl Settlements {
     }
 
     /// From now on this is ahead of a call, if that one was answered by another.
-    #[inline]
     pub(crate) fn remember_call(&mut self, call: u64, ahead: Shortcut)
         ensures same { SaysSameTurns self.old self.new }
         ensures len { handovers_len self.new.handovers ≡ handovers_len self.old.handovers }
@@ -265,7 +249,6 @@ impl Settlements {
     }
 
     /// Where it is said so, each call is ahead of itself alone from now on.
-    #[inline]
     pub(crate) fn drop_calls_ahead(&mut self, drops: bool)
         ensures same { SaysSameTurns self.old self.new }
         ensures ahead { IsOwnOrOldCall self.old.handovers self.new.handovers }
@@ -280,7 +263,6 @@ impl Settlements {
     }
 
     /// How many calls have an entry that says so, or room for one.
-    #[inline]
     pub(crate) fn handovers_len(&self) -> usize
         ensures { result ≡ handovers_len self.now.handovers }
     {
@@ -288,7 +270,6 @@ impl Settlements {
     }
 
     /// The call by whose results the record of this number settled this call, if it did so.
-    #[inline]
     pub(crate) fn call_behind(&self, call: u64, number: usize) -> Option<u64>
         ensures { result ≡ by_handover number (handover_at self.now call) }
     {
@@ -299,7 +280,6 @@ impl Settlements {
     }
 
     /// Whether a record settled before what a record settles.
-    #[inline]
     pub(crate) fn has(&self, settled: Option<Unsettled>) -> bool
         ensures { result ≡ is_some (option_and_then (λ p. settled_at self.now (waiting p)) settled) }
     {
@@ -312,7 +292,6 @@ impl Settlements {
     }
 
     /// Makes room for a call that is settled. What the table says stays as it is, where memory is refused too.
-    #[inline]
     fn make_room_for_results(&mut self, call: u64, turned: &Turned) -> Result<(), AllocError>
         ensures same { (v : View) → settled_at self.new v ≡ settled_at self.old v }
         ensures handovers { self.new.handovers ≡ self.old.handovers }
@@ -325,7 +304,6 @@ impl Settlements {
     }
 
     /// Makes room for an import that is resolved. What the table says stays as it is, where memory is refused too.
-    #[inline]
     fn make_room_for_import(&mut self, number: usize, place: usize) -> Result<(), AllocError>
         ensures same { (v : View) → settled_at self.new v ≡ settled_at self.old v }
         ensures handovers { self.new.handovers ≡ self.old.handovers }
@@ -342,7 +320,6 @@ impl Settlements {
 
     /// Makes room for the record that settled something. What the table says stays as it is, where memory is refused
     /// too.
-    #[inline]
     fn make_room_to_settle(&mut self, settling: &Settling) -> Result<(), AllocError>
         ensures same { (v : View) → settled_at self.new v ≡ settled_at self.old v }
         ensures handovers { self.new.handovers ≡ self.old.handovers }
@@ -360,7 +337,6 @@ impl Settlements {
 
     /// Makes room for a call that is answered by another, if there is one. What the table says stays as it is, where
     /// memory is refused too.
-    #[inline]
     fn make_room_for_handover(&mut self, call: Option<u64>) -> Result<(), AllocError>
         ensures same { (v : View) → settled_at self.new v ≡ settled_at self.old v }
         ensures same_handed { (c : ℕ) → handover_at self.new c ≡ handover_at self.old c }
@@ -374,7 +350,6 @@ impl Settlements {
 
     /// Makes room for what the record of this number settles. What the table says stays as it is, where memory is
     /// refused too; a number that is too great, which no log in memory reaches, is answered so.
-    #[inline]
     pub(crate) fn make_room(&mut self, settling: &Settling, number: usize) -> Result<(), AllocError>
         ensures same { SaysSameTurns self.old self.new }
         ensures ahead { IsOwnOrOldCall self.old.handovers self.new.handovers }
@@ -391,7 +366,6 @@ impl Settlements {
     }
 
     /// The record of this number settled a call, for which there is room, and turned its fields so.
-    #[inline]
     fn note_results(&mut self, call: u64, number: u32, turned: Turned)
         requires room { IsTrue (is_some (entry_at self.old.results call)) }
         requires room_turned { IsTrue (has_room_for_turned self.old.turned call turned) }
@@ -405,7 +379,6 @@ impl Settlements {
     }
 
     /// The record of this number resolved an import, for which there is room, to this reference or to nothing.
-    #[inline]
     fn note_import(&mut self, brought: usize, place: usize, number: u32, to: Option<u64>)
         requires { IsTrue (is_some (get pending_cmp self.old.imports (ImportToResolve brought place))) }
         ensures settlers { (v : View) → settled_at self.new v
@@ -420,7 +393,6 @@ impl Settlements {
     }
 
     /// The record of this number settled this, for which there is room.
-    #[inline]
     fn note_settled(&mut self, settling: Settling, number: u32)
         requires { IsTrue (has_room_to_settle self.old settling) }
         ensures settlers { (v : View) → settled_at self.new v
@@ -441,7 +413,6 @@ impl Settlements {
     }
 
     /// The record of this number answered a call by another, for which there is room, if it did so.
-    #[inline]
     fn note_handover(&mut self, settled: Option<Unsettled>, by: Option<u64>, number: usize)
         requires { IsTrue (has_room_for_handover self.old.handovers (handed_call settled by)) }
         ensures handed { (c : ℕ) → handover_at self.new c
@@ -455,7 +426,6 @@ impl Settlements {
     }
 
     /// The record of this number settled this, for which there is room.
-    #[inline]
     pub(crate) fn note(&mut self, settling: Settling, number: usize)
         requires room { IsTrue (has_room_to_settle self.old settling) }
         requires room_handed { IsTrue (has_room_for_handover self.old.handovers

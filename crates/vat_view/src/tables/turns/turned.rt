@@ -40,7 +40,6 @@ impl Turned {
     }
 
     /// Whether every view is turned nowhere, by its kind.
-    #[inline]
     pub(crate) fn is_nowhere(&self) -> bool
         ensures { result ≡ is_nowhere self.now }
     {
@@ -80,7 +79,6 @@ impl Ended {
     }
 
     /// The number of the record that ended it, if one did.
-    #[inline]
     pub(crate) fn number(self) -> Option<usize>
         ensures { result ≡ option_map (λ settled. settled.0) (ended self) }
     {
@@ -91,7 +89,6 @@ impl Ended {
     }
 
     /// The reference to which it turned, if it did.
-    #[inline]
     pub(crate) fn target(self) -> Option<u64>
         ensures { result ≡ option_and_then (λ settled. settled.1) (ended self) }
     {

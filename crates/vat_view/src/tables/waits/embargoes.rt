@@ -26,7 +26,6 @@ pub(crate) struct Embargoes {
 
 impl Embargoes {
     /// Before any record.
-    #[inline]
     pub(crate) fn new(alloc: Global) -> Embargoes
         ensures { AreWaiting [] result }
     {
@@ -38,7 +37,6 @@ impl Embargoes {
 
     /// Makes room for this call that a record receives, by the tables before it. What the tables say stays as it is,
     /// where memory is refused too.
-    #[inline]
     fn make_room(
         &mut self,
         bound: &BoundReferences,
@@ -107,7 +105,6 @@ impl Embargoes {
     }
 
     /// A record passed that asks for the echo of this loopback, for which there is room.
-    #[inline]
     pub(crate) fn begin(&mut self, looped: Option<(TableKey, Unechoed)>)
         requires { IsTrue (room_at self.old.loopbacks looped) }
         ensures { IsChangedBy (change_of_loopbacks looped) self.old self.new }

@@ -27,7 +27,6 @@ pub(crate) struct Unechoed {
 }
 
 /// Whether a record asks for an echo.
-#[inline]
 pub(crate) fn asks_for_echo(event: &DecodedRecord) -> bool
     ensures { result ≡ is_some (sender_loopback event.now) }
 {
@@ -82,7 +81,6 @@ pub(crate) struct Loopbacks {
 
 impl Loopbacks {
     /// Before any record.
-    #[inline]
     pub(crate) fn new(alloc: Global) -> Loopbacks
         ensures { (i : TableKey) → loopback_at result i ≡ None }
     {
@@ -103,7 +101,6 @@ impl Loopbacks {
     }
 
     /// Whether a senderLoopback waits under this number.
-    #[inline]
     pub(crate) fn has(&self, number: TableKey) -> bool
         ensures { result ≡ is_some (loopback_at self.now number) }
     {
@@ -128,7 +125,6 @@ impl Loopbacks {
 
     /// Makes room for the loopback for which a record asks. What the table says stays as it is, where memory is refused
     /// too.
-    #[inline]
     pub(crate) fn room_for(
         &mut self,
         looped: &Option<(TableKey, Unechoed)>,
@@ -147,7 +143,6 @@ impl Loopbacks {
     }
 
     /// This loopback waits, for which there is room.
-    #[inline]
     pub(crate) fn begin(&mut self, looped: Option<(TableKey, Unechoed)>)
         requires { IsTrue (room_at self.old looped) }
         ensures { (i : TableKey) → loopback_at self.new i
@@ -162,7 +157,6 @@ impl Loopbacks {
     }
 
     /// The loopback of this number has its echo.
-    #[inline]
     pub(crate) fn end(&mut self, echoed: Option<TableKey>)
         ensures { (i : TableKey) → loopback_at self.new i
             ≡ (if names i echoed then None else loopback_at self.old i) }

@@ -21,7 +21,6 @@ pub(crate) struct QueuedCall {
 
 impl QueuedCall {
     /// A call that was received so, with a goal of this heading.
-    #[inline]
     pub(crate) fn new(call: u64, receipt: Receipt, heading: GoalKey) -> QueuedCall
         ensures { result ≡ queued_under call receipt heading }
     {

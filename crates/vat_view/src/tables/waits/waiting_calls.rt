@@ -96,7 +96,6 @@ pub(crate) fn heading_taken(calls: &Calls, taken: Option<u64>) -> GoalKey
 }
 
 /// Whether a call was received on this connection before the record of this number.
-#[inline]
 fn came_before(receipt: Receipt, connection: u32, number: usize) -> bool
     ensures { result ≡ ((receipt.connection == connection) && nat_lt receipt.number number) }
 {
@@ -113,7 +112,6 @@ pub(crate) struct WaitingCalls {
 
 impl WaitingCalls {
     /// Before any record.
-    #[inline]
     pub(crate) fn new(alloc: Global) -> WaitingCalls
         ensures { (c : ℕ) → receipt_at result c ≡ None }
     {
@@ -124,7 +122,6 @@ impl WaitingCalls {
     }
 
     /// Whether this call holds up the echo of a loopback of this connection.
-    #[inline]
     fn holds(&self, calls: &Calls, connection: u32, looped: &Unechoed, call: u64) -> bool
         ensures { result ≡ held_by calls.now connection looped.now call (receipt_at self.now call) }
     {
@@ -166,7 +163,6 @@ impl WaitingCalls {
 
     /// Whether a received call that is at the vat holds up the echo of a loopback of this connection: it was received
     /// there before the loopback, and goes where the loopback's target went.
-    #[inline]
     pub(crate) fn holds_up(&self, calls: &Calls, connection: u32, looped: &Unechoed) -> bool
         ensures { AreQueued self.now calls.now
             → Decides result (Holding self.now calls.now connection looped.now) }
@@ -176,7 +172,6 @@ impl WaitingCalls {
 
     /// Makes room for the call that a record receives. What the table says stays as it is, where memory is refused
     /// too.
-    #[inline]
     pub(crate) fn room_for(&mut self, received: Option<(u64, Receipt)>) -> Result<(), AllocError>
         ensures same { (c : ℕ) → receipt_at self.new c ≡ receipt_at self.old c }
         ensures stay { Stay self.old self.new }
@@ -193,7 +188,6 @@ impl WaitingCalls {
     }
 
     /// This call joins the queue. What the table says of calls stays as it is, where memory is refused too.
-    #[inline]
     pub(crate) fn join(&mut self, queued: QueuedCall) -> Result<(), AllocError>
         ensures same { (c : ℕ) → receipt_at self.new c ≡ receipt_at self.old c }
         ensures stay { Stay self.old self.new }
@@ -205,7 +199,6 @@ impl WaitingCalls {
     }
 
     /// This call is received, for which there is room.
-    #[inline]
     pub(crate) fn begin(&mut self, received: Option<(u64, Receipt)>)
         requires { IsTrue (space_at self.old received) }
         ensures begun { (c : ℕ) → receipt_at self.new c
@@ -221,7 +214,6 @@ impl WaitingCalls {
     }
 
     /// This call leaves the vat, which stands under this heading in the queue.
-    #[inline]
     pub(crate) fn end(&mut self, heading: GoalKey, taken: Option<u64>)
         ensures gone { (c : ℕ) → receipt_at self.new c
             ≡ (if is c taken then None else receipt_at self.old c) }

@@ -6,7 +6,6 @@ ghost use Rattle.vat_log.specs.Fits.{Fits};
 ghost use Rattle.vat_log.specs.Log.{Log};
 ghost use Rattle.vat_log.specs.Migrated.{migrated_version};
 ghost use Rattle.vat_log.specs.declared.body.Body.{Body};
-ghost use Rattle.vat_log.specs.declared.body.Body.TheVariants.{Send, Receive};
 ghost use Rattle.log_ends.specs.Ends.{IsEnd};
 ghost use Rattle.log_ends.specs.Joining.{IsPaired};
 ghost use Rattle.log_ends.specs.Numbers.{new_number_of, PutsEnd, AreNumbers, HasVatAt, HasNoVat};
@@ -14,10 +13,9 @@ ghost use Rattle.log_ends.specs.Renumbering.{renumbered_body, renumbered_log, Va
 ghost use Rattle.log_ends.specs.declared.log_end.LogEnd.{LogEnd};
 
 use crate::log_end::{EndPair, LogEnd};
-use bytes::Bytes;
 use std::alloc::{AllocError, Global};
 use std::collections::BTreeMap;
-use vat_log::{Body, LogWriter, Record, References, VatLog};
+use vat_log::{Body, LogWriter, Record, VatLog};
 
 /// An end has this number, if it is in the log at this place.
 fn put_end(
@@ -59,46 +57,13 @@ fn number_of(table: &BTreeMap<u32, u32>, connection: u32) -> u32
     table.get(&connection).copied().unwrap_or(0)
 }
 
-/// A SEND on a connection.
-fn sending(
-    connection: u32,
-    call: u64,
-    references: &References,
-    frame: &Bytes,
-) -> Result<Record, AllocError>
-    requires { Fits (Send connection call references.now frame.now) }
-    ensures { IfOk result (λ entry. entry ≡ Send connection call references.now frame.now) }
+/// The record that has this body.
+fn record_of(body: Body) -> Record
+    requires { Fits body }
+    ensures { result ≡ body }
 {
-    let body = Body::Send {
-        connection,
-        call,
-        references: references.copy()?,
-        frame: frame.clone()?,
-    };
     match Record::new(body) {
-        Ok(entry) => Ok(entry),
-        Err(_) => unreachable!(),
-    }
-}
-
-/// A RECV on a connection.
-fn receiving(
-    connection: u32,
-    call: u64,
-    references: &References,
-    frame: &Bytes,
-) -> Result<Record, AllocError>
-    requires { Fits (Receive connection call references.now frame.now) }
-    ensures { IfOk result (λ entry. entry ≡ Receive connection call references.now frame.now) }
-{
-    let body = Body::Receive {
-        connection,
-        call,
-        references: references.copy()?,
-        frame: frame.clone()?,
-    };
-    match Record::new(body) {
-        Ok(entry) => Ok(entry),
+        Ok(entry) => entry,
         Err(_) => unreachable!(),
     }
 }
@@ -113,13 +78,23 @@ fn renumbered_record(table: &BTreeMap<u32, u32>, entry: &Record) -> Result<Recor
             call,
             references,
             frame,
-        } => sending(number_of(table, *connection), *call, references, frame),
+        } => Ok(record_of(Body::Send {
+            connection: number_of(table, *connection),
+            call: *call,
+            references: references.copy()?,
+            frame: frame.clone()?,
+        })),
         Body::Receive {
             connection,
             call,
             references,
             frame,
-        } => receiving(number_of(table, *connection), *call, references, frame),
+        } => Ok(record_of(Body::Receive {
+            connection: number_of(table, *connection),
+            call: *call,
+            references: references.copy()?,
+            frame: frame.clone()?,
+        })),
         _ => entry.copy(),
     }
 }

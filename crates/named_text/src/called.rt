@@ -1,7 +1,7 @@
 //! What is called, with its names.
 
 use schema_names::{SchemaInterface, SchemaNames};
-use std::fmt::{self, Display, Formatter};
+use std::fmt::{self, Formatter};
 
 /// What names stand in.
 #[derive(Clone, Copy, PartialEq, Eq)]
@@ -70,10 +70,4 @@ fn put_name<W: fmt::Write>(f: &mut Formatter<W>, name: &str, form: Form) -> fmt:
         put_letter(f, *letter)?;
     }
     Ok(())
-}
-
-impl Display for Called<'_> {
-    fn fmt<W: fmt::Write>(&self, f: &mut Formatter<W>) -> fmt::Result {
-        self.put(f, Form::Plain)
-    }
 }

@@ -39,7 +39,6 @@ impl<'a> Frame<'a> {
     /// specification ("Serialization Over a Stream"). Else the first fault: [`FrameError::Short`] with fewer than 4
     /// bytes, [`FrameError::TooManySegments`], `Short` where the sizes, the padding or the segments don't fit,
     /// [`FrameError::Trailing`], [`FrameError::NoRoot`]. The padding may hold anything. It takes no memory.
-    #[inline]
     pub fn read(bytes: &'a [u8]) -> Result<Frame<'a>, FrameError>
         // Which segments, or which fault.
         ensures exact { result ≡ segments_of bytes.now }

@@ -51,7 +51,6 @@ impl Debug for Path {
 }
 
 /// How few numbers are kept; None where they are many.
-#[inline]
 fn few(fields: &[u16]) -> Option<Kept>
     ensures { IfSome result (λ kept. numbers_of kept ≡ fields.now) }
 {
@@ -92,7 +91,6 @@ impl Path {
 
     /// The path of the numbers that are lent. The only error is that memory ran out; a path of at most four numbers takes
     /// none.
-    #[inline]
     pub fn from_slice(alloc: Global, fields: &[u16]) -> Result<Path, AllocError>
         ensures { IfOk result (λ path. path ≡ fields.now) }
     {
@@ -118,7 +116,6 @@ impl Path {
     }
 
     /// The numbers, the outermost struct's first.
-    #[inline]
     pub fn as_slice(&self) -> &[u16]
         ensures { result.now ≡ self.now }
     {

@@ -57,7 +57,6 @@ pub fn words_before(bytes: &[u8], segment: u64) -> u64
 
 /// How many bytes the frame that stands first takes, or the first fault, whatever stands after it.
 #[tactic(auto, using(crate::proofs::Frames::sum_all), unfolding(crate::specs::Segments::first_len_of))]
-#[inline]
 pub fn first_len_in(bytes: &[u8]) -> Result<u64, FrameError>
     ensures exact { result ≡ first_len_of bytes.now }
     ensures table { OnOk result (table_len (segment_count bytes.now) ≤ length bytes.now) }

@@ -96,7 +96,6 @@ impl Pointer {
 
     /// What a word says as a pointer.
     #[tactic(auto, unfolding(crate::specs::Pointers::pointer_of))]
-    #[inline]
     pub fn of(word: u64) -> Pointer
         ensures { result ≡ pointer_of word }
     {

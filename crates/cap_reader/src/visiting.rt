@@ -61,7 +61,6 @@ fn visit(spot: Spot, depth: u32, limits: &mut Limits) -> Result<StructAt, ReadEr
 
 /// The struct to which a struct pointer leads.
 #[tactic(auto, unfolding(crate::specs::Reading::pay_for))]
-#[inline]
 pub fn enter(
     frame: &Frame,
     segment: u32,
@@ -159,7 +158,6 @@ fn struct_at(
 
 /// The list of structs to which a composite list pointer leads, whose content has so many words behind its tag.
 #[tactic(auto, unfolding(crate::specs::Tree::elements_behind))]
-#[inline]
 pub fn composite(
     frame: &Frame,
     segment: u32,
@@ -255,7 +253,6 @@ fn list_at(frame: &Frame, segment: u32, at: u64, depth: u32) -> Result<Option<Li
 ///
 /// Each of [`ReadError`] but `NoZero` and `OutOfMemory`, in the order that is told there. The words left are as they
 /// were.
-#[inline]
 pub fn root(frame: &Frame, limits: &mut Limits) -> Result<StructAt, ReadError>
     ensures value { Runs (sections_at frame.now) result limits.new.words
         (run (root_in (root_tree limits.old.depth frame.now)) limits.old.words) }
@@ -338,7 +335,6 @@ impl ListAt {
     /// # Errors
     ///
     /// `TooDeep` or else `TooMuch`, and no other. The words left are as they were.
-    #[inline]
     pub fn element(&self, i: u32, limits: &mut Limits) -> Result<StructAt, ReadError>
         requires { i < list_len self.now }
         // In any frame, so in the list's own.

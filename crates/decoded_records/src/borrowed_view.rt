@@ -26,7 +26,6 @@ pub enum BorrowedView<'a> {
 
 impl<'a> BorrowedView<'a> {
     /// This view, lent.
-    #[inline]
     pub fn of(view: &'a View) -> BorrowedView<'a>
         ensures { as_view result ≡ view.now }
     {
@@ -55,7 +54,6 @@ impl<'a> BorrowedView<'a> {
     }
 
     /// Whether another view is the same.
-    #[inline]
     pub fn is_same(self, other: BorrowedView<'_>) -> bool
         ensures { IsTrue result ↔ (as_view self.entry ≡ as_view other.entry) }
     {

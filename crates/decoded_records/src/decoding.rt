@@ -81,7 +81,6 @@ impl DecodedRecord {
     /// # Errors
     ///
     /// Why the frame isn't read, or that memory ran out.
-    #[inline]
     pub fn read(
         alloc: Global,
         body: &Body,

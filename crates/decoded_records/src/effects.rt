@@ -20,7 +20,6 @@ use std::alloc::{AllocError, Global};
 use std::slice;
 
 /// The question that a record opens.
-#[inline]
 pub fn question_opened(event: &DecodedRecord) -> Option<TableKey>
     ensures { result ≡ question_opened event.now }
 {
@@ -43,7 +42,6 @@ pub fn question_opened(event: &DecodedRecord) -> Option<TableKey>
 }
 
 /// The question that a record returns.
-#[inline]
 pub fn question_returned(event: &DecodedRecord) -> Option<TableKey>
     ensures { result ≡ question_returned event.now }
 {
@@ -63,7 +61,6 @@ pub fn question_returned(event: &DecodedRecord) -> Option<TableKey>
 
 /// The question that a record returns lightly: by a Return that says that no Finish is needed (rpc.capnp,
 /// `Return.noFinishNeeded`).
-#[inline]
 pub fn question_returned_lightly(event: &DecodedRecord) -> Option<TableKey>
     ensures { result ≡ question_returned_lightly event.now }
 {
@@ -86,7 +83,6 @@ pub fn question_returned_lightly(event: &DecodedRecord) -> Option<TableKey>
 }
 
 /// The question that a record finishes.
-#[inline]
 pub fn question_finished(event: &DecodedRecord) -> Option<TableKey>
     ensures { result ≡ question_finished event.now }
 {
@@ -124,7 +120,6 @@ pub fn question_released(event: &DecodedRecord) -> Option<TableKey>
 
 /// The question whose results a record takes: a Return with takeFromOtherQuestion names one of its own sender's
 /// questions.
-#[inline]
 pub fn question_taken(event: &DecodedRecord) -> Option<TableKey>
     ensures { result ≡ question_taken event.now }
 {
@@ -143,7 +138,6 @@ pub fn question_taken(event: &DecodedRecord) -> Option<TableKey>
 }
 
 /// Whether a record is a Call whose results are to be sent elsewhere: sendResultsTo is yourself.
-#[inline]
 pub fn asks_elsewhere(event: &DecodedRecord) -> bool
     ensures { result ≡ asks_elsewhere event.now }
 {
@@ -160,7 +154,6 @@ pub fn asks_elsewhere(event: &DecodedRecord) -> bool
 }
 
 /// The promise that a record resolves.
-#[inline]
 pub fn promise_resolved(event: &DecodedRecord) -> Option<TableKey>
     ensures { result ≡ promise_resolved event.now }
 {
@@ -196,7 +189,6 @@ pub fn has_message(event: &DecodedRecord) -> bool
 }
 
 /// The descriptors of a message, by place, counted from 0; a Resolve's stands at place 0.
-#[inline]
 pub fn descriptors_of(message: &RpcMessage) -> &[Descriptor]
     ensures { result.now ≡ descriptors_of message.now }
 {
@@ -215,7 +207,6 @@ pub fn descriptors_of(message: &RpcMessage) -> &[Descriptor]
 }
 
 /// The descriptors of a record.
-#[inline]
 pub fn descriptors(event: &DecodedRecord) -> &[Descriptor]
     ensures { result.now ≡ descriptors event.now }
 {
@@ -226,7 +217,6 @@ pub fn descriptors(event: &DecodedRecord) -> &[Descriptor]
 }
 
 /// The number that a descriptor of a record introduces.
-#[inline]
 pub fn number_introduced(event: &DecodedRecord, descriptor: &Descriptor) -> Option<TableKey>
     ensures { result ≡ number_introduced event.now descriptor.now }
 {
@@ -283,7 +273,6 @@ pub fn introductions(
 }
 
 /// The references noted beside a record.
-#[inline]
 pub fn references(event: &DecodedRecord) -> &[u64]
     ensures { result.now ≡ references event.now }
 {
@@ -294,7 +283,6 @@ pub fn references(event: &DecodedRecord) -> &[u64]
 }
 
 /// Whether a descriptor isn't none.
-#[inline]
 pub fn is_cap(descriptor: &Descriptor) -> bool
     ensures { result ≡ is_cap descriptor.now }
 {
@@ -310,7 +298,6 @@ pub fn is_promise(descriptor: &Descriptor) -> bool
 
 /// What a descriptor at a place of a record introduces, with its origin, where so many references were noted before
 /// it.
-#[inline]
 pub fn origin_by(
     number: usize,
     event: &DecodedRecord,
@@ -357,7 +344,6 @@ fn many_origins(
 
 /// What a record of this number introduces, with the origins; a late Return's introductions aren't counted. Most records
 /// have one descriptor at most, and then it takes no memory. The only error is that memory ran out.
-#[inline]
 pub fn origins(
     alloc: Global,
     late: bool,
@@ -382,7 +368,6 @@ pub fn origins(
 }
 
 /// The references that a record newly binds.
-#[inline]
 pub fn new_references(event: &DecodedRecord) -> &[u64]
     ensures { result.now ≡ new_references event.now }
 {
@@ -400,7 +385,6 @@ pub fn new_references(event: &DecodedRecord) -> &[u64]
 }
 
 /// The number that a record echoes.
-#[inline]
 pub fn receiver_loopback(event: &DecodedRecord) -> Option<TableKey>
     ensures { result ≡ receiver_loopback event.now }
 {

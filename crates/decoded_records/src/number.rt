@@ -21,7 +21,6 @@ pub enum Number {
 
 impl Number {
     /// The number with its connection, and whether this vat gave it out.
-    #[inline]
     pub fn on(self, connection: u32) -> TableKey
         ensures { result ≡ id_of connection self }
     {

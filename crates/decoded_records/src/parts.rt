@@ -15,7 +15,6 @@ use rpc_view::{Descriptor, Loopback, RpcMessage, Target};
 
 impl DecodedRecord {
     /// The question that it opens: a Bootstrap's or a Call's.
-    #[inline]
     pub fn question_opened(&self) -> Option<TableKey>
         ensures { result ≡ question_opened self.now }
     {
@@ -23,7 +22,6 @@ impl DecodedRecord {
     }
 
     /// The question that it returns.
-    #[inline]
     pub fn question_returned(&self) -> Option<TableKey>
         ensures { result ≡ question_returned self.now }
     {
@@ -38,7 +36,6 @@ impl DecodedRecord {
     }
 
     /// The question that it finishes.
-    #[inline]
     pub fn question_finished(&self) -> Option<TableKey>
         ensures { result ≡ question_finished self.now }
     {
@@ -46,7 +43,6 @@ impl DecodedRecord {
     }
 
     /// The question whose results it takes: one of its own sender's.
-    #[inline]
     pub fn question_taken(&self) -> Option<TableKey>
         ensures { result ≡ question_taken self.now }
     {
@@ -80,7 +76,6 @@ impl DecodedRecord {
     }
 
     /// The promise that it resolves: one of its sender's exports.
-    #[inline]
     pub fn promise_resolved(&self) -> Option<TableKey>
         ensures { result ≡ promise_resolved self.now }
     {
@@ -110,7 +105,6 @@ impl DecodedRecord {
     }
 
     /// Its descriptors, by place, counted from 0; a Resolve's stands at place 0.
-    #[inline]
     pub fn descriptors(&self) -> &[Descriptor]
         ensures { result.now ≡ descriptors self.now }
     {
@@ -118,7 +112,6 @@ impl DecodedRecord {
     }
 
     /// The references noted beside it.
-    #[inline]
     pub fn references(&self) -> &[u64]
         ensures { result.now ≡ references self.now }
     {
@@ -126,7 +119,6 @@ impl DecodedRecord {
     }
 
     /// The references that it newly binds: of HOST, VOW, FIELD and RECV.
-    #[inline]
     pub fn new_references(&self) -> &[u64]
         ensures { result.now ≡ new_references self.now }
     {
@@ -134,7 +126,6 @@ impl DecodedRecord {
     }
 
     /// The call that it newly binds.
-    #[inline]
     pub fn new_call(&self) -> Option<u64>
         ensures { option_to_list result ≡ new_calls self.now }
     {
@@ -156,7 +147,6 @@ impl DecodedRecord {
     }
 
     /// The question that its target names: one of the sender's.
-    #[inline]
     pub fn question_targeted(&self) -> Option<TableKey>
         ensures { result ≡ question_targeted self.now }
     {
@@ -179,7 +169,6 @@ impl DecodedRecord {
     }
 
     /// The question that one of its descriptors names: one of the sender's.
-    #[inline]
     pub fn question_described(&self, descriptor: &Descriptor) -> Option<TableKey>
         ensures { result ≡ question_described self.now descriptor.now }
     {
@@ -197,7 +186,6 @@ impl DecodedRecord {
     }
 
     /// The number that its target names: one of the receiver's exports.
-    #[inline]
     pub fn number_targeted(&self) -> Option<TableKey>
         ensures { result ≡ number_targeted self.now }
     {
@@ -220,7 +208,6 @@ impl DecodedRecord {
     }
 
     /// The number that one of its descriptors uses: receiverHosted names one of the receiver's exports.
-    #[inline]
     pub fn number_described(&self, descriptor: &Descriptor) -> Option<TableKey>
         ensures { result ≡ number_described self.now descriptor.now }
     {
@@ -238,7 +225,6 @@ impl DecodedRecord {
     }
 
     /// The number that it releases: one of the receiver's exports.
-    #[inline]
     pub fn number_released(&self) -> Option<TableKey>
         ensures { result ≡ number_released self.now }
     {

@@ -69,7 +69,6 @@ impl TableKeys {
     }
 
     /// The numbers, in their order.
-    #[inline]
     pub fn as_slice(&self) -> &[TableKey]
         ensures { result.now ≡ self.now }
     {

@@ -43,7 +43,6 @@ impl View {
     }
 
     /// A second view that is the same. The only error is that memory ran out.
-    #[inline]
     pub fn copy(&self) -> Result<View, AllocError>
         ensures { IfOk result (λ copied. copied ≡ self.now) }
     {

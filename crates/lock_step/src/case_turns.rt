@@ -49,7 +49,6 @@ impl Model for CaseTurns {
 
 impl CaseTurns {
     /// A case with these links, before any turn. The only error is that memory ran out.
-    #[inline]
     pub fn new(alloc: Global, links: &[Link]) -> Result<CaseTurns, AllocError>
         ensures { IfOk result (λ case. case ≡ Some (record { links = links.now; in_order = []; all = []; is_stuck = false })) }
     {
@@ -128,12 +127,10 @@ impl Turns for CaseTurns {
 
     ghost taken = { λ case. option_map turned case };
 
-    #[inline]
     fn may_come(&self, vat: u32, body: &Body) -> bool {
         self.is_stuck || self.turns.may_follow(vat, body)
     }
 
-    #[inline]
     fn is_crowded(&self) -> bool {
         self.under_way() > CROWD
     }
@@ -148,7 +145,6 @@ impl Turns for CaseTurns {
     ///
     /// Out of memory, now or at an earlier record: once one is refused, so is each after it. A vat's record behind
     /// 4,294,967,295 others is refused too.
-    #[inline]
     fn take(&mut self, vat: u32, body: &Body) -> Result<(), AllocError> {
         self.take_all(vat, body)
     }

@@ -51,7 +51,6 @@ impl Model for FrameQueue {
 
 impl FrameQueue {
     /// Before any frame. It takes no memory.
-    #[inline]
     pub fn new(alloc: Global) -> FrameQueue
         ensures sent { result.sent ≡ [] }
         ensures received { result.received ≡ [] }
@@ -70,7 +69,6 @@ impl FrameQueue {
     /// # Errors
     ///
     /// Out of memory, and then nothing changes. A frame of 2^32 bytes or more that is to wait is answered so too.
-    #[inline]
     pub fn send(&mut self, frame: &Bytes) -> Result<(), AllocError>
         ensures ok { OnOk result (self.new ≡ with_sent frame.now self.old) }
         ensures err { OnErr result (self.new ≡ self.old) }
@@ -92,7 +90,6 @@ impl FrameQueue {
     /// # Errors
     ///
     /// Out of memory, and then nothing changes. A frame of 2^32 bytes or more that is to wait is answered so too.
-    #[inline]
     pub fn receive(&mut self, frame: &Bytes) -> Result<(), AllocError>
         ensures ok { OnOk result (self.new ≡ with_received frame.now self.old) }
         ensures err { OnErr result (self.new ≡ self.old) }
@@ -111,7 +108,6 @@ impl FrameQueue {
 
     /// The least message that was received and isn't the one sent, counted from 0, if this were all: one that was received
     /// before it is sent is such a message too.
-    #[inline]
     pub fn fault(&self) -> Option<u64>
         ensures exact { result ≡ first_fault self.now.received self.now.sent }
         ensures none { IfNone result (IsPrefix self.now.received self.now.sent) }

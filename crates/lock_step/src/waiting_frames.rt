@@ -47,7 +47,6 @@ fn compact(bytes: &mut Vec<u8>, begin: usize) -> usize
 
 impl WaitingFrames {
     /// No frames. It takes no memory.
-    #[inline]
     pub(crate) fn new(alloc: Global) -> WaitingFrames
         ensures { result ≡ [] }
     {

@@ -55,7 +55,6 @@ fn next_of<P: Pieces>(
 }
 
 /// A record that was read is judged, and stands behind those that are ahead.
-#[inline]
 fn keep(
     alloc: Global,
     entry: Record,
@@ -102,7 +101,6 @@ impl<P: Pieces> Model for LogLane<P> {
 
 impl<P: Pieces> LogLane<P> {
     /// The lane of a log of which only the header was read.
-    #[inline]
     pub fn new(alloc: Global, stream: LogStream<P>) -> LogLane<P>
         requires { stream.log.records ≡ [] }
         ensures { result ≡ Some (record { read = stream; ahead = []; ending = None }) }
@@ -236,12 +234,10 @@ impl<P: Pieces> turn_taking::CaseLane for LogLane<P> {
         self.stream.vat()
     }
 
-    #[inline]
     fn first(&self) -> Option<&Record> {
         self.ahead.first()
     }
 
-    #[inline]
     fn leave(&mut self) {
         self.ahead.leave();
     }
@@ -252,7 +248,6 @@ impl<P: Pieces> turn_taking::CaseLane for LogLane<P> {
 
     /// Reads what one reading gives, and on until a record is there. Where one is, nothing is read behind 2^20 bytes of frames,
     /// nor where the last reading gave so little that the next may have to wait. Those that were taken are let go.
-    #[inline]
     fn fill(&mut self, alloc: Global, enough: usize) {
         if self.has_enough(enough) {
             return;

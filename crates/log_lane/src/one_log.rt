@@ -19,7 +19,6 @@ use vat_rules::{SlimFinding, VatAudit};
 /// # Errors
 ///
 /// The first fault of the log; or that its bytes can't be read, or that memory was refused.
-#[inline]
 pub fn audit_stream<P: Pieces>(
     alloc: Global,
     stream: &mut LogStream<P>,

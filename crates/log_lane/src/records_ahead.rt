@@ -9,7 +9,6 @@ use std::marker::Model;
 use vat_log::{Body, Record};
 
 /// How many bytes the frame of a record has, if it has one.
-#[inline]
 fn frame_length(stored: &Record) -> usize {
     match stored.body() {
         Body::Send { frame, .. } | Body::Receive { frame, .. } => frame.len(),
@@ -56,7 +55,6 @@ impl Model for RecordsAhead {
 
 impl RecordsAhead {
     /// None.
-    #[inline]
     pub(crate) fn new(alloc: Global) -> RecordsAhead
         ensures { result ≡ [] }
     {
@@ -80,7 +78,6 @@ impl RecordsAhead {
     }
 
     /// The first.
-    #[inline]
     pub(crate) fn first(&self) -> Option<&Record>
         ensures { option_copied result ≡ slice_get self.now 0 }
     {
@@ -88,7 +85,6 @@ impl RecordsAhead {
     }
 
     /// The first is taken.
-    #[inline]
     pub(crate) fn leave(&mut self)
         ensures { self.new ≡ drop 1 self.old }
     {
@@ -98,7 +94,6 @@ impl RecordsAhead {
     }
 
     /// Those that were taken are let go.
-    #[inline]
     pub(crate) fn let_taken_go(&mut self)
         ensures { self.new ≡ self.old }
     {

@@ -59,7 +59,6 @@ impl SlimLog {
 impl CaseLog for SlimLog {
     ghost log = { λ found. found.log };
 
-    #[inline]
     fn vat(&self) -> u32 {
         self.finding.vat()
     }

@@ -66,7 +66,6 @@ fn add(set: &mut BTreeSet<u32>, known: Option<u32>, body: &Body) -> Result<Optio
 
 impl UsedConnections {
     /// Those of no record. It takes no memory.
-    #[inline]
     pub fn new(alloc: Global) -> UsedConnections
         ensures { result ≡ [] }
     {

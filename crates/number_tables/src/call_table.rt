@@ -69,7 +69,6 @@ impl Calls {
     }
 
     /// The goal with which this call came to the vat, if it is there still, and came with one.
-    #[inline]
     pub fn goal(&self, call: u64) -> Option<&View>
         ensures { option_copied result ≡ goal_in (call_state_at self.now call) }
     {

@@ -33,7 +33,6 @@ pub struct ExportsImports {
 
 impl ExportsImports {
     /// Before any number is held.
-    #[inline]
     pub fn new(alloc: Global) -> ExportsImports
         ensures { (i : TableKey) → held_count_at result i ≡ 0 }
     {
@@ -48,7 +47,6 @@ impl ExportsImports {
     }
 
     /// How often this number is held.
-    #[inline]
     pub fn count_of(&self, number: TableKey) -> u64
         ensures { result ≡ held_count_at self.now number }
     {
@@ -59,7 +57,6 @@ impl ExportsImports {
     }
 
     /// Where the life of this number began, if it is held.
-    #[inline]
     pub fn origin_of(&self, number: TableKey) -> Option<Origin>
         ensures { result ≡ held_origin self.now number }
     {
@@ -88,7 +85,6 @@ impl ExportsImports {
     }
 
     /// This number is held so much less often, down to 0.
-    #[inline]
     pub fn lower(&mut self, number: TableKey, by: u64)
         ensures counts { (i : TableKey) → held_count_at self.new i
             ≡ held_count_at self.old i - (if same_id i number then by else 0) }

@@ -26,7 +26,6 @@ pub(crate) struct NumberLife {
 impl NumberLife {
     /// A number that is held so often, and whose life began so. A record's number or a place of 2^32 or more, which no
     /// log reaches, is answered as out of memory is.
-    #[inline]
     pub(crate) fn new(count: u64, origin: Origin) -> Result<NumberLife, AllocError>
         ensures count { IfOk result (λ life. life.count ≡ count) }
         ensures origin { IfOk result (λ life. begun_at life ≡ origin) }

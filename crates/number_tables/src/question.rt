@@ -62,7 +62,6 @@ impl QuestionState {
     }
 
     /// Whether both its Return and its Finish have passed, so that it stands for its call no longer.
-    #[inline]
     pub(crate) fn is_over(&self) -> bool
         ensures { result ≡ (self.now.returned && self.now.finished) }
     {

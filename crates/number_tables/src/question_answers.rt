@@ -68,7 +68,6 @@ pub fn is_taken(questions: &Questions, question: TableKey) -> bool
 }
 
 /// The call of a question's last opening.
-#[inline]
 pub fn opening_call(questions: &Questions, question: TableKey) -> Option<u64>
     ensures { result ≡ opening_call_in (question_at questions.now question) }
 {
@@ -79,7 +78,6 @@ pub fn opening_call(questions: &Questions, question: TableKey) -> Option<u64>
 }
 
 /// The call of a question that isn't over.
-#[inline]
 pub fn call_of(questions: &Questions, question: TableKey) -> Option<u64>
     ensures { result ≡ call_by (question_at questions.now question) }
 {
@@ -90,7 +88,6 @@ pub fn call_of(questions: &Questions, question: TableKey) -> Option<u64>
 }
 
 /// Whether a record is a late Return.
-#[inline]
 pub fn is_late(questions: &Questions, event: &DecodedRecord) -> bool
     ensures { result ≡ late_by (question_at questions.now) event.now }
 {

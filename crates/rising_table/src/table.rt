@@ -111,7 +111,6 @@ fn search_from_end<V>(row: &[(u64, V)], key: u64) -> Result<usize, usize>
 
 /// Where a number is in a row, or where it would go. Mostly it is where it would be if none were left out before it. One
 /// below all of the row is in the tree, as those of a connection are whose first number came late.
-#[inline]
 fn search<V>(row: &[(u64, V)], key: u64) -> Result<usize, usize>
     requires { AreRising row.now }
     ensures found { IfOk result (IsAt row.now key) }
@@ -126,7 +125,6 @@ fn search<V>(row: &[(u64, V)], key: u64) -> Result<usize, usize>
 
 impl<V: Drop> RisingTable<V> {
     /// Before there is any. It takes no memory.
-    #[inline]
     pub fn new(alloc: Global) -> RisingTable<V>
         ensures { result ≡ [] }
     {

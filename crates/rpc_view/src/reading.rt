@@ -25,7 +25,6 @@ use std::alloc::Global;
 
 /// The message at the root pointer of a frame.
 #[tactic(auto, using(crate::proofs::Running::run_then), unfolding(crate::specs::Message::message_in, crate::specs::Message::body_in, cap_reader::specs::Reading::pay_for, cap_reader::specs::Reading::and_then))]
-#[inline]
 fn message(
     alloc: Global,
     frame: &Frame,
@@ -60,7 +59,6 @@ fn message(
 /// faults the one is answered that comes first in the order `BadTag`, `Level`, `LaterField`; then what its pointers
 /// hold, a capability table before the content, and each entry of a table, and each operation of a transform, with what
 /// it holds before the next one.
-#[inline]
 pub fn read_message(
     alloc: Global,
     frame: &Frame,

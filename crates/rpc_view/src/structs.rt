@@ -60,7 +60,6 @@ pub fn list_in(
 }
 
 /// The struct of an element of a list, counted from 0.
-#[inline]
 pub fn element_in(
     frame: &Frame,
     list: &ListAt,

@@ -12,7 +12,6 @@ use std::alloc::{AllocError, Global};
 use std::thread::{self, Threads};
 
 /// Reads ahead in the lanes that have fewer than so many records ahead, in as many of them at once as there are workers.
-#[inline]
 pub(crate) fn fill_round<R: Threads + Sync, L: CaseLane + Send>(
     rt: &R,
     alloc: Global,
@@ -40,7 +39,6 @@ pub(crate) fn fill_round<R: Threads + Sync, L: CaseLane + Send>(
 }
 
 /// Whether memory was refused to a lane.
-#[inline]
 pub(crate) fn are_refused<L: CaseLane>(lanes: &[L]) -> bool
     ensures { result ≡ list_any (λ lane. is_none (L.so_far lane)) lanes.now }
 {
@@ -56,7 +54,6 @@ const ENOUGH: usize = 4096;
 /// # Errors
 ///
 /// Out of memory.
-#[inline]
 pub fn take_in_step<R: Threads + Sync, L: CaseLane + Send, T: Turns>(
     rt: &R,
     alloc: Global,

@@ -12,7 +12,6 @@ use std::alloc::{AllocError, Global};
 use std::thread::Threads;
 
 /// Whether a record is ahead in any of the lanes.
-#[inline]
 pub(crate) fn are_left<L: CaseLane>(lanes: &[L]) -> bool
     ensures none { AreThere (map L.so_far lanes.now) → result ≡ false → AreEmpty (map L.so_far lanes.now) }
     ensures some { AreThere (map L.so_far lanes.now) → result ≡ true → (i : ℕ) × (lane : LaneSoFar)

@@ -49,7 +49,6 @@ impl Debug for References {
 
 impl References {
     /// The list of these. It takes no memory.
-    #[inline]
     pub fn new(items: Vec<u64>) -> References
         ensures { result ≡ items.items }
     {
@@ -71,7 +70,6 @@ impl References {
     }
 
     /// The references, in their order.
-    #[inline]
     pub fn as_slice(&self) -> &[u64]
         ensures { result.now ≡ self.now }
     {
@@ -82,7 +80,6 @@ impl References {
     }
 
     /// A second list of the same references. The only error is that memory ran out.
-    #[inline]
     pub fn copy(&self) -> Result<References, AllocError>
         ensures { IfOk result (λ copied. copied ≡ self.now) }
     {
@@ -144,7 +141,6 @@ fn copied_results(items: &Vec<(u64, Path)>) -> Result<Vec<(u64, Path)>, AllocErr
 
 impl ResultReferences {
     /// The list of these. It takes no memory.
-    #[inline]
     pub fn new(mut items: Vec<(u64, Path)>) -> ResultReferences
         ensures { result ≡ items.items }
     {
@@ -168,7 +164,6 @@ impl ResultReferences {
     }
 
     /// The results, each a reference with its path, in their order.
-    #[inline]
     pub fn as_slice(&self) -> &[(u64, Path)]
         ensures { result.now ≡ self.now }
     {
@@ -179,7 +174,6 @@ impl ResultReferences {
     }
 
     /// A second list of the same results. The only error is that memory ran out.
-    #[inline]
     pub fn copy(&self) -> Result<ResultReferences, AllocError>
         ensures { IfOk result (λ copied. copied ≡ self.now) }
     {

@@ -68,7 +68,6 @@ impl Record {
 
     /// The record that begins at this place, where so many stand in front of it, and the place after it.
     #[tactic(auto, unfolding(crate::specs::Windows::record_at, crate::specs::Fits::record_limit))]
-    #[inline]
     pub(crate) fn next(
         alloc: Global,
         version: LogVersion,

@@ -54,7 +54,6 @@ fn story_of(gathered: Gathered) -> Story
 
 /// The edition of rpc.capnp by which a log with this header is judged: its version says it.
 #[tactic(auto, using(crate::proofs::Editions::later_if, crate::proofs::Editions::first_if))]
-#[inline]
 pub fn edition_of_header(header: LogHeader) -> Edition
     ensures { result ≡ edition_of_version header.version }
 {

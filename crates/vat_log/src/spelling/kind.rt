@@ -46,7 +46,6 @@ fn kind_of(byte: u8) -> Option<RecordKind>
 
 /// The kind of the record that begins at this place.
 #[tactic(auto, unfolding(crate::specs::Reading::kind_at))]
-#[inline]
 pub(crate) fn read_kind(bytes: &[u8], at: usize) -> Result<RecordKind, LogError>
     requires { at < length bytes.now }
     ensures { GivesInMemory (λ kind. kind) result (kind_at bytes.now at) }

@@ -47,7 +47,6 @@ fn view_of_named(
 }
 
 /// What an export or import number stands for, if a record names one.
-#[inline]
 fn view_of_number(state: &VatState, number: Option<TableKey>) -> Result<Option<View>, AllocError>
     ensures { IfOk result
         (λ v. v ≡ option_and_then (λ i. view_of_number i state.now) number) }
@@ -142,7 +141,6 @@ fn number_in_role(
 }
 
 /// What the numbers of a record stand for that may be applied next, apart from its references.
-#[inline]
 pub(crate) fn facts_before(
     alloc: Global,
     state: &VatState,

@@ -65,7 +65,6 @@ impl PlainFacts {
     }
 
     /// What the number in this role stands for.
-    #[inline]
     pub(crate) fn in_role(&self, wanted: Role) -> Option<&View>
         ensures { option_copied result ≡ in_role wanted self.now }
     {
@@ -83,7 +82,6 @@ impl PlainFacts {
     }
 
     /// What its target stands for.
-    #[inline]
     pub(crate) fn target(&self) -> Option<&View>
         ensures { option_copied result ≡ self.now.target }
     {
@@ -98,7 +96,6 @@ impl PlainFacts {
     }
 
     /// What its descriptors stand for, by place.
-    #[inline]
     pub(crate) fn caps(&self) -> &[Option<View>]
         ensures { result.now ≡ self.now.caps }
     {

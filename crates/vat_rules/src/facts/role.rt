@@ -20,7 +20,6 @@ pub(crate) enum Role {
 }
 
 /// The view of the number in a role, if it is in this one.
-#[inline]
 pub(crate) fn view_in_role(role: Role, view: &View, wanted: Role) -> Option<&View>
     ensures { option_copied result ≡ view_in_role (Some (role, view.now)) wanted }
 {

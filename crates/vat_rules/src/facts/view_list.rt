@@ -33,7 +33,6 @@ impl Model for ViewList {
 
 impl ViewList {
     /// All of these. It takes no memory.
-    #[inline]
     pub(crate) fn new(mut items: Vec<Option<View>>) -> ViewList
         ensures { result ≡ items.items }
     {
@@ -57,7 +56,6 @@ impl ViewList {
     }
 
     /// What they stand for, in their order.
-    #[inline]
     pub(crate) fn as_slice(&self) -> &[Option<View>]
         ensures { result.now ≡ self.now }
     {

@@ -54,7 +54,6 @@ pub(crate) fn became(state: &VatState, from: Option<&View>, to: Option<&View>) -
 }
 
 /// Whether the one view goes for the other, as the edition has it: it leads there, or both are one.
-#[inline]
 pub(crate) fn goes_for(
     edition: Edition,
     state: &VatState,

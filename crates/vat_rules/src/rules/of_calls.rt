@@ -97,7 +97,6 @@ pub(crate) fn goes_to_goal(
 }
 
 /// Whether a call was delivered here or is that of a received Bootstrap, and has no answer or fault.
-#[inline]
 fn awaits_answer(state: &VatState, call: u64) -> bool
     ensures { result ≡ (is_served call state.now && not (is_settled call state.now)) }
 {

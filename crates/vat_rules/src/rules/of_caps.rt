@@ -49,7 +49,6 @@ fn is_light_without_caps(event: &DecodedRecord) -> bool
 }
 
 /// Whether there is a descriptor and it isn't none.
-#[inline]
 pub(crate) fn is_cap_at(descriptor: Option<&Descriptor>) -> bool
     ensures { result ≡ is_cap_at (option_copied descriptor.entry) }
 {
@@ -60,7 +59,6 @@ pub(crate) fn is_cap_at(descriptor: Option<&Descriptor>) -> bool
 }
 
 /// Whether there is a descriptor and it names a number of its sender's own.
-#[inline]
 pub(crate) fn is_own_number(descriptor: Option<&Descriptor>) -> bool
     ensures { result ≡ is_own_number (option_copied descriptor.entry) }
 {
@@ -104,7 +102,6 @@ fn ends_hosted(state: &VatState, view: Option<&View>) -> bool
 }
 
 /// The view of these at a place, if one is there.
-#[inline]
 pub(crate) fn view_at(views: &[Option<View>], place: usize) -> Option<&View>
     ensures { option_copied result ≡ view_at place views.now }
 {
@@ -116,7 +113,6 @@ pub(crate) fn view_at(views: &[Option<View>], place: usize) -> Option<&View>
 
 /// Whether a noted reference goes for what the descriptor at this place stands for, one of these, and leads to one that is
 /// hosted where that says so.
-#[inline]
 fn notes_view(
     edition: Edition,
     state: &VatState,

@@ -16,7 +16,6 @@ use rpc_view::{CallHead, Outcome, ReturnHead, RpcMessage};
 use std::alloc::AllocError;
 
 /// A call that comes to the vat.
-#[inline]
 fn arriving_call(goal: Option<View>, interface: u64, method: u16) -> CallState
     ensures { result ≡ arriving_call goal interface method }
 {

@@ -26,7 +26,6 @@ pub(crate) fn view_of_reference(
 }
 
 /// What a number stands for, of this vat or of its peer, whose life began so.
-#[inline]
 pub(crate) fn view_from(
     bound: &BoundReferences,
     ours: bool,
@@ -59,7 +58,6 @@ pub(crate) fn view_of_number(
 }
 
 /// The field at a path of the call of a question that isn't over.
-#[inline]
 pub(crate) fn field_of(
     questions: &Questions,
     question: TableKey,

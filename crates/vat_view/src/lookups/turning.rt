@@ -13,7 +13,6 @@ use rpc_view::{Outcome, RpcMessage};
 use std::alloc::{AllocError, Global};
 
 /// The reference noted for the descriptor at a place of a record.
-#[inline]
 fn reference_at(event: &DecodedRecord, place: usize) -> Option<u64>
     ensures { result ≡ reference_at event.now place }
 {

@@ -12,7 +12,6 @@ use number_tables::ExportsImports;
 use rpc_view::Descriptor;
 
 /// Whether the last Resolve of a number came in its life, by the records where that began and where it stands.
-#[inline]
 pub(crate) fn resolved_since(origin: Option<Origin>, last: Option<usize>) -> bool
     ensures { result ≡ resolved_since origin last }
 {

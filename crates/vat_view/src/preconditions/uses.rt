@@ -13,7 +13,6 @@ use crate::state::VatState;
 use decoded_records::{DecodedRecord, TableKey, has_message, is_cap};
 
 /// Whether three tests all hold; a function of its own, so that the proof sees one `&&`.
-#[inline]
 pub(crate) fn all_three(first: bool, second: bool, third: bool) -> bool
     ensures { result ≡ ((first && second) && third) }
 {
@@ -28,7 +27,6 @@ pub(crate) fn both(first: bool, second: bool) -> bool
 }
 
 /// Whether a question, if there is one, is opened and not finished.
-#[inline]
 fn is_unfinished(state: &VatState, question: Option<TableKey>) -> bool
     ensures { result ≡ passes_if (λ q. is_unfinished q state.now) question }
 {
@@ -86,7 +84,6 @@ fn takes_once(state: &VatState, event: &DecodedRecord) -> bool
 }
 
 /// Whether a number, if there is one, is in life.
-#[inline]
 fn is_in_life(state: &VatState, number: Option<TableKey>) -> bool
     ensures { result ≡ passes_if (λ i. is_in_life i state.now) number }
 {
@@ -151,7 +148,6 @@ impl VatState {
     /// and one whose results it takes was opened by a Call whose results are to be sent elsewhere, and they weren't
     /// taken since (rpc.capnp, `Return.answerId`, `Return.takeFromOtherQuestion`, `Finish.questionId` and
     /// `PromisedAnswer.questionId`).
-    #[inline]
     pub fn uses_questions(&self, event: &DecodedRecord) -> bool
         ensures { Decides result (UsesQuestions self.now event.now) }
     {
@@ -163,7 +159,6 @@ impl VatState {
 
     /// Whether each export or import number that it uses is in life (rpc.capnp, `MessageTarget.importedCap`,
     /// `CapDescriptor.receiverHosted` and `Release.id`).
-    #[inline]
     pub fn uses_numbers(&self, event: &DecodedRecord) -> bool
         ensures { Decides result (UsesNumbers self.now event.now) }
     {

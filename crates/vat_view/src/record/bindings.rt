@@ -34,7 +34,6 @@ fn tabled_introductions<'a>(
 
 /// What a record of this number introduces, with the place of the first of each; a late Return's introductions aren't
 /// counted.
-#[inline]
 pub(crate) fn introduced_by<'a>(
     alloc: Global,
     late: bool,
@@ -106,7 +105,6 @@ pub(crate) fn view_by(
 }
 
 /// The reference noted for a descriptor, where so many were noted before it.
-#[inline]
 pub(crate) fn reference_by(
     references: &[u64],
     before: usize,

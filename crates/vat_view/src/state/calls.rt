@@ -12,7 +12,6 @@ use std::alloc::AllocError;
 /// What can be asked of calls.
 impl VatState {
     /// Whether a call is bound.
-    #[inline]
     pub(crate) fn is_bound_call(&self, call: u64) -> bool
         ensures { result ≡ is_bound_call self.now call }
     {
@@ -25,7 +24,6 @@ impl VatState {
     /// # Errors
     ///
     /// Out of memory.
-    #[inline]
     pub fn request_of(&self, call: u64) -> Result<Option<Request>, AllocError>
         requires { IsTrue (is_at_vat call self.now) }
         ensures { IfOk result (λ asks. asks ≡ request_of call self.now) }
@@ -40,7 +38,6 @@ impl VatState {
     /// # Errors
     ///
     /// Out of memory.
-    #[inline]
     pub fn goal_of(&self, call: u64) -> Result<Option<View>, AllocError>
         requires { IsTrue (is_at_vat call self.now) }
         ensures { IfOk result (λ goal. goal ≡ goal_of call self.now) }
@@ -50,7 +47,6 @@ impl VatState {
 
     /// Whether a call is at the vat: it came, and wasn't delivered, faulted, sent on, or answered by a sent Return with
     /// exception or canceled since.
-    #[inline]
     pub fn is_at_vat(&self, call: u64) -> bool
         ensures { result ≡ is_at_vat call self.now }
     {
@@ -58,7 +54,6 @@ impl VatState {
     }
 
     /// Whether a call was delivered here, or is that of a received Bootstrap.
-    #[inline]
     pub fn is_served(&self, call: u64) -> bool
         ensures { result ≡ is_served call self.now }
     {
@@ -66,7 +61,6 @@ impl VatState {
     }
 
     /// Whether a call has an answer or fault.
-    #[inline]
     pub fn is_settled(&self, call: u64) -> bool
         ensures { result ≡ is_settled call self.now }
     {
@@ -86,7 +80,6 @@ impl VatState {
 
     /// Whether a call's results are known: by ANSWER, by ANSWERBY, or by a received Return that isn't late and brings
     /// them or takes those of another question.
-    #[inline]
     pub fn is_known(&self, call: u64) -> bool
         ensures { result ≡ is_known call self.now }
     {

@@ -43,7 +43,6 @@ impl VatState {
 impl VatState {
     /// Whether a senderLoopback went under a number and its echo hasn't passed since: of a number of ours it is
     /// outstanding, of the peer's it is pending.
-    #[inline]
     pub fn awaits_echo(&self, number: TableKey) -> bool
         ensures { result ≡ is_some (loopback_of number self.now) }
     {
@@ -52,7 +51,6 @@ impl VatState {
 
     /// What the target of the senderLoopback that waits for its echo under a number stood for then, if one waits and
     /// its target stood for something.
-    #[inline]
     pub fn embargoed_view(&self, number: TableKey) -> Option<&View>
         ensures { option_copied result ≡ embargoed_view number self.now }
     {

@@ -15,7 +15,6 @@ use rpc_view::Edition;
 /// What can be asked of walks from view to view.
 impl VatState {
     /// Whether a view goes on nowhere: it has neither turned nor stopped. It takes no memory.
-    #[inline]
     pub fn stays(&self, view: &View) -> bool
         ensures { IsTrue result ↔ (next self.now view.now ≡ stays) }
     {
@@ -36,7 +35,6 @@ impl VatState {
     /// Whether a view leads to another, by 0 or more turns. Each of its walks, four at most, comes to at most as many views
     /// as one more than the references bound, times one more than the calls that were answered by others. It takes no
     /// memory.
-    #[inline]
     pub fn leads(&self, from: &View, to: &View) -> bool
         ensures { IsTrue result ↔ Leads self.now from.now to.now }
     {
@@ -49,7 +47,6 @@ impl VatState {
     }
 
     /// Whether a view leads to another by 1 or more turns; a view of a circle leads so to itself. It takes no memory.
-    #[inline]
     pub fn leads_by_turns(&self, from: &View, to: &View) -> bool
         ensures { IsTrue result ↔ LeadsByTurns self.now from.now to.now }
     {
@@ -83,7 +80,6 @@ impl VatState {
 
     /// The end of a view: the view to which it leads and which goes on nowhere. It has none where its walk stops or
     /// goes in a circle. It takes no memory.
-    #[inline]
     pub fn end<'a>(&'a self, view: &'a View) -> Option<BorrowedView<'a>>
         ensures { MatchOption result ((end : View) → IsEnd self.now view.now end → ⊥)
             (λ end. IsEnd self.now view.now (as_view end)) }

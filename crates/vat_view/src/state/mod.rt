@@ -157,7 +157,6 @@ impl VatState {
     /// # Errors
     ///
     /// Out of memory, and then the state is as it was.
-    #[inline]
     pub fn apply(&mut self, event: &DecodedRecord) -> Result<(), AllocError>
         requires refers { Refers self.old event.now }
         requires uses { UsesQuestions self.old event.now }

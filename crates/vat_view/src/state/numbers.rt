@@ -25,7 +25,6 @@ impl VatState {
     }
 
     /// Whether the present life of an export or import number began with a senderPromise, where it is in life.
-    #[inline]
     pub fn began_promised(&self, number: TableKey) -> Option<bool>
         ensures { result ≡ option_map began_promised (birth number self.now) }
     {
@@ -36,7 +35,6 @@ impl VatState {
     }
 
     /// Whether a Resolve passed in the present life of an export or import number.
-    #[inline]
     pub fn is_resolved(&self, number: TableKey) -> bool
         ensures { result ≡ is_resolved number self.now }
     {
@@ -47,7 +45,6 @@ impl VatState {
     }
 
     /// Whether a reference is bound.
-    #[inline]
     pub(crate) fn is_bound(&self, reference: u64) -> bool
         ensures { result ≡ is_bound self.now reference }
     {
@@ -59,7 +56,6 @@ impl VatState {
     /// # Errors
     ///
     /// Out of memory.
-    #[inline]
     pub fn view_of_target(&self, event: &DecodedRecord) -> Result<Option<View>, AllocError>
         ensures { IfOk result (λ view. view ≡ view_of_target self.now event.now) }
     {
@@ -127,7 +123,6 @@ impl VatState {
     /// # Errors
     ///
     /// Out of memory.
-    #[inline]
     pub fn gives_back_held(&self, event: &DecodedRecord) -> Result<bool, AllocError>
         ensures { IfOk result (λ held. Decides held (GivesBackHeld self.now event.now)) }
     {

@@ -40,7 +40,6 @@ impl VatState {
 
     /// Whether a question's last opening is a Call whose results are to be sent elsewhere, as in a tail call (rpc.capnp,
     /// `Call.sendResultsTo.yourself`).
-    #[inline]
     pub fn is_tail(&self, question: TableKey) -> bool
         ensures { result ≡ is_tail (opening question self.now) }
     {
@@ -58,7 +57,6 @@ impl VatState {
     /// The call for which a question stands: that of its last opening, until both Return and Finish have passed, also
     /// where a Return said that no Finish is needed. A Return that takes the results of another question names that
     /// question's call so (rpc.capnp, `Return.takeFromOtherQuestion`).
-    #[inline]
     pub fn call_of(&self, question: TableKey) -> Option<u64>
         ensures { result ≡ call_of question self.now }
     {
@@ -66,7 +64,6 @@ impl VatState {
     }
 
     /// The call of a question's last opening, over or not, if it was ever opened.
-    #[inline]
     pub fn opening_call(&self, question: TableKey) -> Option<u64>
         ensures { result ≡ call_at (opening question self.now) }
     {
@@ -75,7 +72,6 @@ impl VatState {
 
     /// Whether a record is a late Return: a Finish with releaseResultCaps true has passed before it, for the same
     /// opening of its question.
-    #[inline]
     pub fn is_late(&self, event: &DecodedRecord) -> bool
         ensures { result ≡ is_late self.now event.now }
     {

@@ -74,7 +74,6 @@ fn has_import(described: &[Descriptor]) -> bool
 }
 
 /// Whether a descriptor names what is its receiver's.
-#[inline]
 fn names_back(descriptor: Option<&Descriptor>) -> bool
     ensures { result ≡ names_back (option_copied descriptor.entry) }
 {

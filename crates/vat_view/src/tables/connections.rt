@@ -23,7 +23,6 @@ pub(crate) struct Connections {
 }
 
 /// The call for which a record asks a question of this vat's, with the connection.
-#[inline]
 pub(crate) fn call_sent_on(event: &DecodedRecord) -> Option<(u64, u32)>
     ensures { result ≡ call_sent_on event.now }
 {
@@ -40,7 +39,6 @@ pub(crate) fn call_sent_on(event: &DecodedRecord) -> Option<(u64, u32)>
 }
 
 /// The connection that a record aborts.
-#[inline]
 pub(crate) fn connection_aborted(event: &DecodedRecord) -> Option<u32>
     ensures { result ≡ aborted_by event.now }
 {
@@ -55,7 +53,6 @@ pub(crate) fn connection_aborted(event: &DecodedRecord) -> Option<u32>
 }
 
 /// The connection on which a record sends an abort.
-#[inline]
 pub(crate) fn abort_sent_on(event: &DecodedRecord) -> Option<u32>
     ensures { result ≡ abort_sent_on event.now }
 {
@@ -66,7 +63,6 @@ pub(crate) fn abort_sent_on(event: &DecodedRecord) -> Option<u32>
 }
 
 /// Whether a connection is marked.
-#[inline]
 fn is_marked(marks: &BTreeMap<u32, bool>, connection: u32) -> bool
     ensures { result ≡ marked_at marks.now connection }
 {
@@ -77,7 +73,6 @@ fn is_marked(marks: &BTreeMap<u32, bool>, connection: u32) -> bool
 }
 
 /// Makes room to mark a connection. No mark changes, where memory is refused too.
-#[inline]
 fn make_room(marks: &mut BTreeMap<u32, bool>, connection: Option<u32>) -> Result<(), AllocError>
     ensures same { (k : ℕ) → marked_at marks.new k ≡ marked_at marks.old k }
     ensures room { OnOk result (IsTrue (has_room marks.new connection)) }
@@ -93,7 +88,6 @@ fn make_room(marks: &mut BTreeMap<u32, bool>, connection: Option<u32>) -> Result
 }
 
 /// Marks a connection, for which there is room.
-#[inline]
 fn mark(marks: &mut BTreeMap<u32, bool>, connection: Option<u32>)
     requires { IsTrue (has_room marks.old connection) }
     ensures { (k : ℕ) → marked_at marks.new k ≡ (is k connection || marked_at marks.old k) }

@@ -60,7 +60,6 @@ impl BoundReferences {
     }
 
     /// The view of this reference.
-    #[inline]
     pub(crate) fn of(&self, reference: u64) -> Option<&View>
         ensures { option_copied result ≡ bound_at self.now reference }
     {
@@ -71,7 +70,6 @@ impl BoundReferences {
     }
 
     /// The reference that is ahead of this one, if this one is bound.
-    #[inline]
     pub(crate) fn ahead(&self, reference: u64) -> Option<Shortcut>
         ensures { result ≡ ahead_at self.now reference }
     {
@@ -83,7 +81,6 @@ impl BoundReferences {
     }
 
     /// The view of the reference that is ahead of this one, if this one is bound, and by how many turns.
-    #[inline]
     pub(crate) fn view_ahead(&self, reference: u64) -> Option<(&View, u64)>
         ensures { option_map (λ there. (there.0.now, there.1)) result ≡ view_ahead_at self.now reference }
     {

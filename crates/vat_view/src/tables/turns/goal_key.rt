@@ -33,7 +33,6 @@ fn digest_step(digest: u64, field: u16) -> u64
 }
 
 /// The digest of a path.
-#[inline]
 pub(crate) fn digest(path: &[u16]) -> u64
     ensures { result ≡ digest_of path.now }
 {
@@ -42,7 +41,6 @@ pub(crate) fn digest(path: &[u16]) -> u64
 }
 
 /// The heading of a call with this goal.
-#[inline]
 pub(crate) fn goal_key_of(goal: Option<&View>) -> GoalKey
     ensures { result ≡ goal_key_of (option_copied goal.entry) }
 {

@@ -48,7 +48,6 @@ impl Handovers {
     }
 
     /// The last record that answered this call by another, if one did.
-    #[inline]
     pub(crate) fn of(&self, call: u64) -> Option<Handover>
         ensures { result ≡ handover_in self.now call }
     {

@@ -27,7 +27,6 @@ impl Resolves {
     }
 
     /// The number of the record that last resolved this promise, if one did.
-    #[inline]
     pub(crate) fn of(&self, promise: TableKey) -> Option<usize>
         ensures { result ≡ resolve_at self.now promise }
     {

@@ -144,7 +144,6 @@ impl Settlements {
     }
 
     /// Whether a record settled this promise.
-    #[inline]
     pub(crate) fn has_promise(&self, promise: u64) -> bool
         ensures { result ≡ is_some (settled_at self.now (Promise promise)) }
     {
@@ -165,7 +164,6 @@ impl Settlements {
     }
 
     /// The reference to which the record that settled this promise turned it, if one did.
-    #[inline]
     pub(crate) fn promise_target(&self, promise: u64) -> Option<u64>
         ensures { result ≡ option_and_then (λ s. s.1) (settled_at self.now (Promise promise)) }
     {
@@ -207,7 +205,6 @@ impl Settlements {
     }
 
     /// The number of the record that settled this call, if one did.
-    #[inline]
     pub(crate) fn of_call(&self, call: u64) -> Option<usize>
         ensures { result ≡ number_in self.now.results call }
     {

@@ -60,7 +60,6 @@ pub(crate) enum Ended {
 
 impl Ended {
     /// The record of this number turned it to this reference, or nowhere.
-    #[inline]
     pub(crate) fn by(number: u32, to: Option<u64>) -> Ended
         ensures { ended result ≡ Some (number, to) }
     {
@@ -71,7 +70,6 @@ impl Ended {
     }
 
     /// Whether it ended.
-    #[inline]
     pub(crate) fn is_over(self) -> bool
         ensures { result ≡ is_some (ended self) }
     {

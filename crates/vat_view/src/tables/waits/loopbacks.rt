@@ -90,7 +90,6 @@ impl Loopbacks {
     }
 
     /// The senderLoopback that waits under this number, if one does.
-    #[inline]
     pub(crate) fn of(&self, number: TableKey) -> Option<&Unechoed>
         ensures { option_copied result ≡ loopback_at self.now number }
     {
@@ -108,7 +107,6 @@ impl Loopbacks {
     }
 
     /// What the target of the senderLoopback that waits under this number stood for then.
-    #[inline]
     pub(crate) fn embargoed_view(&self, number: TableKey) -> Option<&View>
         ensures { option_copied result ≡ loopback_target_in (loopback_at self.now number) }
     {

@@ -235,6 +235,20 @@ def try_bad_input(a, b):
     must("two empty files", (status, line) == (0, "yes frames 0 0 delivered 0") and has(notes, "a is empty"), line, notes)
 
 
+def try_too_long(a, b):
+    """A frame of more than 67,108,864 bytes by its table is too long, whether or not it is cut off."""
+    longest, longer = (struct.pack("<II", 0, words) for words in (8388607, 8388608))
+    n = len(frames_of(a))
+    for name, rest in (("a table", longer), ("a word more", longer + bytes(8)), ("whole", longer + bytes(8 * 8388608))):
+        status, line, notes = wire(a + rest, b)
+        must(f"too long, {name}", (status, line) == (2, f"too long end A message {n}"), line)
+        must(f"too long, {name}: the limit is noted", has(notes, "a frame in it at most 67108864 bytes"), notes)
+        status, line, _ = wire(b, a + rest)
+        must(f"too long, {name}, of B", (status, line) == (2, f"too long end B message {n}"), line)
+    status, line, notes = wire(a + longest, b)
+    must("the longest frame, cut off", status == 0 and has(notes, "a: 8 bytes behind the last whole frame"), line, notes)
+
+
 def try_streams(a, b):
     with tempfile.TemporaryDirectory() as room:
         put(room, a=a, b=b)
@@ -288,6 +302,7 @@ def sample(name):
 def main():
     a, b = sample("library.client"), sample("library.server")
     try_bad_input(a, b)
+    try_too_long(a, b)
     try_streams(a, b)
     try_folder(a, b)
     try_bytes("library", a, b)

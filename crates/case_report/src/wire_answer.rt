@@ -20,8 +20,10 @@ pub struct WireLogs {
 pub struct WireAnswer {
     /// The line.
     pub line: WireLine,
-    /// The two logs; none where a file isn't cut into frames, or a log would be too long.
+    /// The two logs; none where a file isn't cut into frames, or a log is full.
     pub logs: Option<WireLogs>,
+    /// The log that has as many records as a log may have, where that is why the line says too long.
+    pub full: Option<Arc<VatLog>>,
     /// The frames of the first file, and of the second, that are whole.
     pub frames: [u64; 2],
     /// The bytes behind the last whole frame of the first file, and of the second.

@@ -39,14 +39,15 @@ pub enum WireLine {
         /// Its number.
         message: u64,
     },
-    /// A log would have more records than its limit, or the message's frame is longer than a frame may be.
+    /// The message's frame is longer than a frame may be, whether or not it is cut off; or a log that has as many records as a
+    /// log may have would go on with it.
     TooLong {
         /// Who sent the message.
         end: End,
         /// Its number.
         message: u64,
     },
-    /// The message isn't judged. What stands before it is explained.
+    /// The message isn't judged. In the log whose record stands for it the records before break no rule.
     Outside {
         /// Who sent the message.
         end: End,

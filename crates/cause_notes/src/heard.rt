@@ -170,6 +170,7 @@ impl Heard {
         self.wire = Some(WireAnswer {
             line: answer.line,
             logs: answer.logs.as_ref().and_then(shared),
+            full: None,
             frames: answer.frames,
             left: answer.left,
             waiting: answer.waiting,

@@ -66,12 +66,7 @@ fn asked_of_carrying(message: &RpcMessage) -> &'static [Rule]
 }
 
 /// Whether a record has a message that carries no capability: it notes no reference and has no descriptor.
-<<<<<<< HEAD
-#[inline]
 pub(crate) fn is_bare(event: &DecodedRecord) -> bool
-=======
-fn is_bare(event: &DecodedRecord) -> bool
->>>>>>> 39b7d422cc7cafd714b984ace2eb6d54e69274b3
     ensures { IsTrue result → IsBare event.now }
 {
     let DecodedRecord::Wire { references, .. } = event else {

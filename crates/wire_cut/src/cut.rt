@@ -5,6 +5,7 @@ ghost use Rattle.wire_cut.specs.Frames.{AreFrames};
 ghost use Rattle.wire_cut.specs.declared.cut.CutFault.TheVariants.{OutOfMemory};
 ghost use Rattle.wire_cut.specs.Glue.{IsNextFrame, IsCutFault};
 
+use crate::table::is_too_long;
 use bytes::Bytes;
 use cap_frame::{Frame, FrameError};
 use std::alloc::{AllocError, AllocFailed, Global};
@@ -24,6 +25,8 @@ pub enum CutFault {
     /// Where the frame of this number, counted from 0, should begin, no frame does: its table has too many segments. So it
     /// is with packed streams, and with those that are encrypted.
     TooManySegments(u64),
+    /// The frame of this number, counted from 0, is longer than a frame may be, whether or not it is cut off.
+    TooLong(u64),
     /// Out of memory.
     OutOfMemory,
 }
@@ -53,12 +56,17 @@ enum Next {
     Cut,
     /// What can't be a frame: its table has too many segments.
     TooMany,
+    /// A frame, whole or cut off, that is longer than a frame may be.
+    TooLong,
 }
 
 /// Cuts off the frame that stands first, if a whole one does.
 fn cut_next(rest: &mut Bytes) -> Result<Next, AllocError>
     ensures { IfOk result (IsNextFrame rest.old rest.new) }
 {
+    if is_too_long(rest.as_slice()) {
+        return Ok(Next::TooLong);
+    }
     match Frame::first_len(rest.as_slice()) {
         Ok(len) => Ok(Next::Whole(rest.split_to(len)?)),
         Err(FrameError::Short) => Ok(Next::Cut),
@@ -69,11 +77,12 @@ fn cut_next(rest: &mut Bytes) -> Result<Next, AllocError>
 }
 
 /// The frames of a file, which share its bytes: each is a frame by the stream framing of the Cap'n Proto encoding specification
-/// ("Serialization Over a Stream"). A frame that is cut off by the end of the file is left out.
+/// ("Serialization Over a Stream"), and no longer than a frame may be. A frame that is cut off by the end of the file is left out.
 ///
 /// # Errors
 ///
-/// `TooManySegments` with the number of the first frame that can't begin where it stands; or out of memory.
+/// `TooManySegments` with the number of the first frame that can't begin where it stands, or `TooLong` with that of the first
+/// one that is longer than a frame may be, also where it is cut off; or out of memory.
 pub fn cut_frames(alloc: Global, bytes: &Bytes) -> Result<WireFile, CutFault>
     ensures ok { IfOk result (λ file. AreFrames bytes.now file.frames.items file.left) }
     ensures err { IfErr result (IsCutFault bytes.now) }
@@ -88,6 +97,7 @@ pub fn cut_frames(alloc: Global, bytes: &Bytes) -> Result<WireFile, CutFault>
                 return Ok(WireFile { frames, left });
             }
             Next::TooMany => return Err(CutFault::TooManySegments(frames.len() as u64)),
+            Next::TooLong => return Err(CutFault::TooLong(frames.len() as u64)),
         }
     }
 }

@@ -9,6 +9,7 @@ mod cut;
 mod end;
 mod lack;
 mod overtaking;
+mod table;
 
 pub use cut::{CutFault, WireFile, cut_frames};
 pub use end::End;

@@ -3,7 +3,7 @@
 //!
 //! It stands on `wire_plan`, which tells what each file says when all of it is looked at, and on `vat_log`. What is made up is
 //! judged by the audit, and nothing is claimed of it here but this: the frames that a log sends are those of its end's file
-//! from the first one on, and those that it receives are the other file's.
+//! from the first one on, and those that it receives are the other file's; and a log that is called full is so.
 #![tactic(auto)]
 
 mod blame;

@@ -1,7 +1,10 @@
 //! Making the two logs.
 
-ghost use Rattle.std.specs.Prelude.{IfOk, List, ℕ};
-ghost use Rattle.wire_ends.specs.Made.{HasMade};
+ghost use Rattle.std.specs.Prelude.{IfOk, IfSome};
+ghost use Rattle.std.specs.Arc.{arc_value};
+ghost use Rattle.wire_steps.specs.Parts.{EndsFull};
+ghost use Rattle.wire_ends.specs.Made.{HasMade, IsFullLog};
+ghost use Rattle.wire_ends.specs.Glue.{IsMessageAt};
 
 use crate::blame::{Blame, borrow_all, find_blame};
 use crate::both_ends::{Stuck, run_both};
@@ -14,7 +17,7 @@ use std::sync::Arc;
 use vat_log::VatLog;
 use wire_cut::{End, Lack, Overtaking, Waiting};
 use wire_plan::{WirePlan, plan_wire};
-use wire_steps::{LogFault, TooLongAt, log_of};
+use wire_steps::{EarlyEnd, EndLog, NextMessage, NoRoom, log_of};
 
 /// The vat that sent the first file.
 const VAT_OF_A: u32 = 1;
@@ -31,6 +34,8 @@ pub struct MadeLogs {
     pub log_of_b: Arc<VatLog>,
     /// All frames of both files are in both.
     pub is_whole: bool,
+    /// The message at which a log ends, since the next record would list more than a record may.
+    pub unlisted: Option<(End, u64)>,
     /// Which message is to blame, if the explanation stops.
     pub blame: Option<Blame>,
     /// Of each end the message that waits, and what it lacks.
@@ -44,8 +49,8 @@ pub struct MadeLogs {
 pub enum Making {
     /// The logs.
     Made(MadeLogs),
-    /// A log would be too long at this message.
-    TooLong(End, u64),
+    /// This log, of one of both ends, has as many records as a log may have, and the message would come next in it.
+    Full(End, u64, Arc<VatLog>),
 }
 
 /// Sends what is blamed nevertheless, so that the audit can name it.
@@ -167,17 +172,44 @@ fn make_up_frames(
     Ok(made)
 }
 
-/// The message at which an end's log would be too long.
-fn no_log(end: End, fault: LogFault) -> Result<Making, AllocError>
-    // Without logs nothing is said of them, whatever the frames are.
-    ensures { (a b : List (List ℕ)) → IfOk result (HasMade a b) }
+/// The message of either end that comes next in an end's log.
+fn message_at(end: End, next: NextMessage) -> (End, u64)
+    ensures { IsMessageAt end next result }
 {
-    match fault {
-        LogFault::TooLong(TooLongAt::Own(message)) => Ok(Making::TooLong(end, message as u64)),
-        LogFault::TooLong(TooLongAt::Peers(message)) => {
-            Ok(Making::TooLong(end.other(), message as u64))
-        }
-        LogFault::OutOfMemory => Err(AllocError),
+    match next {
+        NextMessage::Own(message) => (end, message as u64),
+        NextMessage::Peers(message) => (end.other(), message as u64),
+    }
+}
+
+/// Where an end's log is full: the message that would come next, of either end.
+#[tactic(auto, using(crate::proofs::Full::full_before))]
+fn full_at(end: End, made: &EndLog) -> Option<(End, u64)>
+    requires { EndsFull made.now.early (arc_value made.now.log) }
+    ensures { IfSome result
+        (λ message. IsFullLog end (arc_value made.now.log) message.0 message.1) }
+{
+    match made.early {
+        Some(
+            EarlyEnd {
+                next,
+                why: NoRoom::Full,
+            },
+        ) => Some(message_at(end, next)),
+        _ => None,
+    }
+}
+
+/// Where an end's log ends since the next record would list more than a record may: the message that would come next.
+fn unlisted_at(end: End, made: &EndLog) -> Option<(End, u64)> {
+    match made.early {
+        Some(
+            EarlyEnd {
+                next,
+                why: NoRoom::Unlisted,
+            },
+        ) => Some(message_at(end, next)),
+        _ => None,
     }
 }
 
@@ -185,6 +217,7 @@ fn no_log(end: End, fault: LogFault) -> Result<Making, AllocError>
 /// that overtake others through references of their own. The only error is that memory ran out.
 ///
 /// Of what is made up between the frames nothing is promised: the audit judges it.
+#[tactic(auto, using(crate::proofs::Full::full_of_a, crate::proofs::Full::full_of_b))]
 pub fn make_logs(
     alloc: Global,
     a: &[Bytes],
@@ -206,18 +239,20 @@ pub fn make_logs(
         waiting,
         overtaking,
     } = make_up_frames(alloc, a, b, one_reference)?;
-    let of_a = match log_of(alloc, VAT_OF_A, steps_of_a, a, b) {
-        Ok(log) => log,
-        Err(fault) => return no_log(End::A, fault),
-    };
-    let of_b = match log_of(alloc, VAT_OF_B, steps_of_b, b, a) {
-        Ok(log) => log,
-        Err(fault) => return no_log(End::B, fault),
-    };
+    let of_a = log_of(alloc, VAT_OF_A, steps_of_a, a, b)?;
+    if let Some((end, message)) = full_at(End::A, &of_a) {
+        return Ok(Making::Full(end, message, of_a.log));
+    }
+    let of_b = log_of(alloc, VAT_OF_B, steps_of_b, b, a)?;
+    if let Some((end, message)) = full_at(End::B, &of_b) {
+        return Ok(Making::Full(end, message, of_b.log));
+    }
+    let unlisted = unlisted_at(End::A, &of_a).or(unlisted_at(End::B, &of_b));
     Ok(Making::Made(MadeLogs {
         log_of_a: of_a.log,
         log_of_b: of_b.log,
         is_whole: of_a.is_whole && of_b.is_whole,
+        unlisted,
         blame,
         waiting,
         overtaking,

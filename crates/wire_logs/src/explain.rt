@@ -14,6 +14,7 @@ use case_report::{Report, WireAnswer, WireLine, WireLogs};
 use std::alloc::{AllocError, Global};
 use std::sync::{Arc, Wait};
 use std::thread::Threads;
+use vat_log::VatLog;
 use wire_cut::{CutFault, End, WireFile, cut_frames};
 use wire_ends::{MadeLogs, Making, make_logs};
 
@@ -57,13 +58,20 @@ fn report_of<R: Threads + Wait + Sync, G: Gate + Sync>(
 }
 
 /// An answer without logs.
-fn without_logs(line: WireLine, frames: [u64; 2], left: [u64; 2]) -> WireAnswer
+fn without_logs(
+    line: WireLine,
+    full: Option<Arc<VatLog>>,
+    frames: [u64; 2],
+    left: [u64; 2],
+) -> WireAnswer
     ensures line { result.line ≡ line }
     ensures logs { result.logs ≡ None }
+    ensures full { result.full ≡ full }
 {
     WireAnswer {
         line,
         logs: None,
+        full,
         frames,
         left,
         waiting: [None, None],
@@ -71,13 +79,14 @@ fn without_logs(line: WireLine, frames: [u64; 2], left: [u64; 2]) -> WireAnswer
     }
 }
 
-/// The frames of a file, or the line that says where none begins.
+/// The frames of a file, or the line that says where none begins, or one that is too long.
 fn file_of(alloc: Global, bytes: &Bytes, end: End) -> Result<Result<WireFile, WireLine>, AllocError>
     ensures { IfOk result (IsCutOr bytes.now end) }
 {
     match cut_frames(alloc, bytes) {
         Ok(file) => Ok(Ok(file)),
         Err(CutFault::TooManySegments(message)) => Ok(Err(WireLine::BadFrame { end, message })),
+        Err(CutFault::TooLong(message)) => Ok(Err(WireLine::TooLong { end, message })),
         Err(CutFault::OutOfMemory) => Err(AllocError),
     }
 }
@@ -97,8 +106,9 @@ fn explain_frames<R: Threads + Wait + Sync, G: Gate + Sync>(
     let left = [a.left as u64, b.left as u64];
     let made = match make_logs(alloc, &a.frames, &b.frames, one_reference)? {
         Making::Made(made) => made,
-        Making::TooLong(end, message) => {
-            return Ok(without_logs(WireLine::TooLong { end, message }, frames, left));
+        Making::Full(end, message, log) => {
+            let line = WireLine::TooLong { end, message };
+            return Ok(without_logs(line, Some(log), frames, left));
         }
     };
     let report = report_of(rt, alloc, &made, gate)?;
@@ -107,6 +117,7 @@ fn explain_frames<R: Threads + Wait + Sync, G: Gate + Sync>(
         log_of_a,
         log_of_b,
         is_whole: _,
+        unlisted: _,
         blame: _,
         waiting,
         overtaking,
@@ -114,6 +125,7 @@ fn explain_frames<R: Threads + Wait + Sync, G: Gate + Sync>(
     Ok(WireAnswer {
         line,
         logs: Some(WireLogs { log_of_a, log_of_b }),
+        full: None,
         frames,
         left,
         waiting,
@@ -129,6 +141,7 @@ fn explain_frames<R: Threads + Wait + Sync, G: Gate + Sync>(
 /// # Errors
 ///
 /// Out of memory.
+#[tactic(auto, using(crate::proofs::Answering::answers_files))]
 pub fn explain_wire<R: Threads + Wait + Sync, G: Gate + Sync>(
     rt: &R,
     alloc: Global,
@@ -141,11 +154,11 @@ pub fn explain_wire<R: Threads + Wait + Sync, G: Gate + Sync>(
 {
     let of_a = match file_of(alloc, a, End::A)? {
         Ok(file) => file,
-        Err(line) => return Ok(without_logs(line, [0, 0], [0, 0])),
+        Err(line) => return Ok(without_logs(line, None, [0, 0], [0, 0])),
     };
     let of_b = match file_of(alloc, b, End::B)? {
         Ok(file) => file,
-        Err(line) => return Ok(without_logs(line, [0, 0], [0, 0])),
+        Err(line) => return Ok(without_logs(line, None, [0, 0], [0, 0])),
     };
     explain_frames(rt, alloc, &of_a, &of_b, one_reference, gate)
 }

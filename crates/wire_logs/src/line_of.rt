@@ -105,10 +105,13 @@ fn waits(made: &MadeLogs) -> (u64, u64) {
     )
 }
 
-/// The message at which the explanation stops: the one that is blamed, or one that waits.
+/// The message at which the explanation stops: the one at which a log ends, the one that is blamed, or one that waits.
 fn unexplained(made: &MadeLogs) -> WireLine
     ensures { IsUnexplained result }
 {
+    if let Some((end, message)) = made.unlisted {
+        return WireLine::Unexplained { end, message };
+    }
     let (of_a, of_b) = waits(made);
     let is_of_b = match made.blame {
         Some(Blame::One(End::B)) => true,

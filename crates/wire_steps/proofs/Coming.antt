@@ -13,7 +13,7 @@ use Rattle.vat_log.specs.declared.body.Body.TheVariants.{Send, Receive}
 use Rattle.link_check.specs.Prefix.{frames_sent, frames_received, IsPrefix}
 use Rattle.vat_log.specs.Passages.{frame_sent, frame_received, used_by}
 use Rattle.wire_steps.specs.Glue.{HasCome}
-use Rattle.wire_steps.specs.Parts.{HasParts, HasAll, UsesNoOther}
+use Rattle.wire_steps.specs.Parts.{EndsFull, HasParts, HasAll, IsFullBefore, IsNext, UsesNoOther}
 use Rattle.wire_steps.specs.declared.end_log.EndCounts.{EndCounts}
 
 -- a record of which a test gives nothing changes nothing of what it gives

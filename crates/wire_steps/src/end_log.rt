@@ -1,14 +1,15 @@
 //! The log of one end, made of its steps and of the frames of both files.
 
-ghost use Rattle.std.specs.Prelude.{◌≡◌, ◌∷◌, ◌++◌, [], Some, None, true, false, IsTrue, OnOk, IfOk};
+ghost use Rattle.std.specs.Prelude.{◌≡◌, ◌∷◌, ◌++◌, [], Some, None, true, false, IsTrue, OnOk, IfOk, IfErr};
 ghost use Rattle.std.specs.Arc.{arc_value};
 ghost use Rattle.vat_log.specs.Passages.{frame_sent, frame_received, used_by};
-ghost use Rattle.wire_steps.specs.Glue.{HasCome};
-ghost use Rattle.wire_steps.specs.Parts.{HasParts, HasAll};
+ghost use Rattle.wire_steps.specs.Glue.{HasCome, IsEnd, IsRefused};
+ghost use Rattle.wire_steps.specs.Parts.{HasParts, HasAll, EndsFull};
+ghost use Rattle.wire_steps.specs.declared.end_log.Refusal.TheVariants.{OutOfMemory};
 
 use crate::end_steps::EndStep;
 use bytes::Bytes;
-use std::alloc::{AllocError, AllocFailed, Global};
+use std::alloc::{AllocError, Global};
 use std::sync::Arc;
 use vat_log::{Body, LogError, LogWriter, Record, References, VatLog};
 
@@ -22,6 +23,8 @@ pub struct EndLog {
     pub log: Arc<VatLog>,
     /// All frames of both files are in it.
     pub is_whole: bool,
+    /// Where it ends, if it has no room for the next step.
+    pub early: Option<EarlyEnd>,
 }
 
 /// How many frames of both files are in a log.
@@ -33,49 +36,63 @@ pub struct EndCounts {
     pub received: usize,
 }
 
-/// A message at which a log would be too long, by its number.
+/// A message that would come next in a log, by its number.
 #[derive(Clone, Copy)]
-pub enum TooLongAt {
+pub enum NextMessage {
     /// Of the own file.
     Own(usize),
     /// Of the other file.
     Peers(usize),
 }
 
-/// Why there is no log.
+/// Why a log has no room for a step.
+#[derive(Clone, Copy, PartialEq, Eq)]
+pub enum NoRoom {
+    /// The log has as many records as a log may have.
+    Full,
+    /// The step's record would list more than a record may.
+    Unlisted,
+}
+
+/// Where a log ends before its steps do.
 #[derive(Clone, Copy)]
-pub enum LogFault {
-    /// It would have more records than its limit, or a frame is longer than a frame may be: the message of the own file
-    /// that stands next, or of the other one, by its number.
-    TooLong(TooLongAt),
+pub struct EarlyEnd {
+    /// The message that would come next.
+    pub next: NextMessage,
+    /// Why it ends.
+    pub why: NoRoom,
+}
+
+/// Why a step isn't put behind the others.
+#[derive(Clone, Copy)]
+enum Refusal {
+    /// The log has no room for it.
+    NoRoom(NoRoom),
     /// Out of memory.
     OutOfMemory,
 }
 
-impl From<AllocError> for LogFault {
-    fn from(_e: AllocError) -> LogFault {
-        LogFault::OutOfMemory
-    }
-}
+impl From<AllocError> for Refusal {
+    ghost from_gives = { λ _ e. e ≡ OutOfMemory };
 
-impl<T: Drop> From<AllocFailed<T>> for LogFault {
-    fn from(_e: AllocFailed<T>) -> LogFault {
-        LogFault::OutOfMemory
+    fn from(_e: AllocError) -> Refusal {
+        Refusal::OutOfMemory
     }
 }
 
 /// Puts what a record says behind the others.
-fn push(writer: &mut LogWriter, body: Body, at: TooLongAt) -> Result<(), LogFault>
+fn push(writer: &mut LogWriter, body: Body) -> Result<(), Refusal>
     ensures ok { OnOk result (writer.new.records ≡ writer.old.records ++ body ∷ []) }
+    ensures err { IfErr result (IsRefused writer.old writer.new) }
     ensures vat { writer.new.vat ≡ writer.old.vat }
 {
     let Ok(entry) = Record::new(body) else {
-        return Err(LogFault::TooLong(at));
+        return Err(Refusal::NoRoom(NoRoom::Unlisted));
     };
     match writer.push(entry) {
         Ok(()) => Ok(()),
-        Err((LogError::TooLong, _)) => Err(LogFault::TooLong(at)),
-        Err(_) => Err(LogFault::OutOfMemory),
+        Err((LogError::TooLong, _)) => Err(Refusal::NoRoom(NoRoom::Full)),
+        Err(_) => Err(Refusal::OutOfMemory),
     }
 }
 
@@ -98,9 +115,10 @@ fn push_send(
     own: &[Bytes],
     peer: &[Bytes],
     counts: EndCounts,
-) -> Result<EndCounts, LogFault>
+) -> Result<EndCounts, Refusal>
     requires { HasCome own.now peer.now counts writer.old }
     ensures come { IfOk result (λ come. HasCome own.now peer.now come writer.new) }
+    ensures err { IfErr result (IsRefused writer.old writer.new) }
     ensures vat { writer.new.vat ≡ writer.old.vat }
 {
     let _ = peer;
@@ -113,7 +131,7 @@ fn push_send(
         references: noted.1,
         frame: frame.clone()?,
     };
-    push(writer, body, TooLongAt::Own(counts.sent))?;
+    push(writer, body)?;
     Ok(EndCounts {
         sent: counts.sent + 1,
         received: counts.received,
@@ -127,9 +145,10 @@ fn push_receive(
     own: &[Bytes],
     peer: &[Bytes],
     counts: EndCounts,
-) -> Result<EndCounts, LogFault>
+) -> Result<EndCounts, Refusal>
     requires { HasCome own.now peer.now counts writer.old }
     ensures come { IfOk result (λ come. HasCome own.now peer.now come writer.new) }
+    ensures err { IfErr result (IsRefused writer.old writer.new) }
     ensures vat { writer.new.vat ≡ writer.old.vat }
 {
     let _ = own;
@@ -142,7 +161,7 @@ fn push_receive(
         references: noted.1,
         frame: frame.clone()?,
     };
-    push(writer, body, TooLongAt::Peers(counts.received))?;
+    push(writer, body)?;
     Ok(EndCounts {
         sent: counts.sent,
         received: counts.received + 1,
@@ -156,15 +175,16 @@ fn push_step(
     own: &[Bytes],
     peer: &[Bytes],
     counts: EndCounts,
-) -> Result<EndCounts, LogFault>
+) -> Result<EndCounts, Refusal>
     requires { HasCome own.now peer.now counts writer.old }
     ensures come { IfOk result (λ come. HasCome own.now peer.now come writer.new) }
+    ensures err { IfErr result (IsRefused writer.old writer.new) }
     ensures vat { writer.new.vat ≡ writer.old.vat }
 {
     match step {
         EndStep::Note(body) => {
             if !is_frame(&body) {
-                push(writer, body, TooLongAt::Own(counts.sent))?;
+                push(writer, body)?;
             }
             Ok(counts)
         }
@@ -179,19 +199,59 @@ fn push_step(
     }
 }
 
-/// The log of a vat that takes these steps, with the frames of its own file and of the other one.
+/// The message that comes next, by the step that does.
+fn next_message(step: &EndStep, counts: EndCounts) -> NextMessage
+    ensures { IsEnd counts result }
+{
+    match step {
+        EndStep::Note(_) | EndStep::Send(..) => NextMessage::Own(counts.sent),
+        EndStep::Receive(..) => NextMessage::Peers(counts.received),
+    }
+}
+
+/// The log that has come so far, and where it ends early, if it does.
 #[tactic(auto, using(crate::proofs::Coming::come_so_far, crate::proofs::Coming::come_to_the_end))]
+fn ended(
+    alloc: Global,
+    writer: LogWriter,
+    own: &[Bytes],
+    peer: &[Bytes],
+    counts: EndCounts,
+    early: Option<EarlyEnd>,
+) -> Result<EndLog, AllocError>
+    requires come { HasCome own.now peer.now counts writer }
+    requires full { EndsFull early writer }
+    ensures parts { IfOk result (λ made. HasParts own.now peer.now (arc_value made.log)) }
+    ensures whole { IfOk result (λ made. IsTrue made.is_whole → HasAll own.now peer.now (arc_value made.log)) }
+    ensures vat { IfOk result (λ made. (arc_value made.log).vat ≡ writer.vat) }
+    ensures full { IfOk result (λ made. EndsFull made.early (arc_value made.log)) }
+{
+    let is_whole = counts.sent == own.len() && counts.received == peer.len();
+    match writer.finish() {
+        Ok(log) => Ok(EndLog {
+            log: Arc::new(alloc, log)?,
+            is_whole,
+            early,
+        }),
+        Err(_) => Err(AllocError),
+    }
+}
+
+/// The log of a vat that takes these steps, with the frames of its own file and of the other one. It ends where it has no room
+/// for a step. The only error is that memory ran out.
 pub fn log_of(
     alloc: Global,
     vat: u32,
     steps: Vec<EndStep>,
     own: &[Bytes],
     peer: &[Bytes],
-) -> Result<EndLog, LogFault>
+) -> Result<EndLog, AllocError>
     // Whatever the steps are, its frames are those of the two files.
     ensures parts { IfOk result (λ made. HasParts own.now peer.now (arc_value made.log)) }
     ensures whole { IfOk result (λ made. IsTrue made.is_whole → HasAll own.now peer.now (arc_value made.log)) }
     ensures vat { IfOk result (λ made. (arc_value made.log).vat ≡ vat) }
+    // It is called full only where it is.
+    ensures full { IfOk result (λ made. EndsFull made.early (arc_value made.log)) }
 {
     let mut writer = LogWriter::later(alloc, vat);
     let mut counts = EndCounts {
@@ -199,14 +259,15 @@ pub fn log_of(
         received: 0,
     };
     for step in steps {
-        counts = push_step(&mut writer, step, own, peer, counts)?;
+        let next = next_message(&step, counts);
+        match push_step(&mut writer, step, own, peer, counts) {
+            Ok(come) => counts = come,
+            Err(Refusal::NoRoom(why)) => {
+                let early = Some(EarlyEnd { next, why });
+                return ended(alloc, writer, own, peer, counts, early);
+            }
+            Err(Refusal::OutOfMemory) => return Err(AllocError),
+        }
     }
-    let is_whole = counts.sent == own.len() && counts.received == peer.len();
-    match writer.finish() {
-        Ok(log) => Ok(EndLog {
-            log: Arc::new(alloc, log)?,
-            is_whole,
-        }),
-        Err(_) => Err(LogFault::OutOfMemory),
-    }
+    ended(alloc, writer, own, peer, counts, None)
 }

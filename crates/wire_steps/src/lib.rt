@@ -9,5 +9,5 @@
 mod end_log;
 mod end_steps;
 
-pub use end_log::{EndLog, LogFault, TooLongAt, log_of};
+pub use end_log::{EarlyEnd, EndLog, NextMessage, NoRoom, log_of};
 pub use end_steps::{EndStep, Steps};

@@ -165,6 +165,14 @@ fn put_bad_frame(text: &mut NoteText, file: &(String, Bytes), message: u64) {
     );
 }
 
+/// Appends the notes of what is too long at a message of a file.
+fn put_too_long(text: &mut NoteText, file: &(String, Bytes), message: u64) {
+    text.say("a log has at most 4294967295 records, and a frame in it at most 67108864 bytes");
+    if message == 0 {
+        put_bytewise(text, file);
+    }
+}
+
 /// Appends the notes of the bytes of a file that are no frame: those behind the last one, or all.
 fn put_left(text: &mut NoteText, file: &(String, Bytes), frames: u64, left: u64) {
     let (name, bytes) = file;
@@ -198,9 +206,7 @@ fn put_of_line(text: &mut NoteText, files: WireFiles<'_>, found: &WireAnswer) {
         WireLine::Outside { end, message, why } => {
             put_outside(text, at_end(files, end), message, why)
         }
-        WireLine::TooLong { .. } => text.say(
-            "a log has at most 4294967295 records, and a frame in it at most 67108864 bytes",
-        ),
+        WireLine::TooLong { end, message } => put_too_long(text, at_end(files, end), message),
         WireLine::BadFrame { end, message } => { put_bad_frame(text, at_end(files, end), message) }
     }
 }
@@ -211,7 +217,10 @@ pub(crate) fn put_wire(text: &mut NoteText, kept: &[(String, Bytes)], found: &Wi
         return;
     };
     put_of_line(text, [of_a, of_b], found);
-    if !matches!(found.line, WireLine::BadFrame { .. }) {
+    if !matches!(
+        found.line,
+        WireLine::BadFrame { .. } | WireLine::TooLong { .. }
+    ) {
         put_left(text, of_a, found.frames[0], found.left[0]);
         put_left(text, of_b, found.frames[1], found.left[1]);
     }

@@ -72,10 +72,7 @@ impl Tally {
     /// # Errors
     ///
     /// Out of memory, and then it is as it was.
-<<<<<<< HEAD
     #[inline(always)]
-=======
->>>>>>> 39b7d422cc7cafd714b984ace2eb6d54e69274b3
     pub(crate) fn take(
         &mut self,
         alloc: Global,

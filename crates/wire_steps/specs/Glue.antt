@@ -8,8 +8,8 @@ use Rattle.wire_steps.specs.declared.end_log.EndCounts.{EndCounts}
 use Rattle.wire_steps.specs.declared.end_log.NextMessage.{NextMessage}
 use Rattle.wire_steps.specs.declared.end_log.NextMessage.TheVariants.{Own, Peers}
 use Rattle.wire_steps.specs.declared.end_log.NoRoom.TheVariants.{Full, Unlisted}
-use Rattle.wire_steps.specs.declared.end_log.Refusal.{Refusal}
-use Rattle.wire_steps.specs.declared.end_log.Refusal.TheVariants as refusal
+use Rattle.wire_steps.specs.declared.end_log.NotPushed.{NotPushed}
+use Rattle.wire_steps.specs.declared.end_log.NotPushed.TheVariants as refusal
 
 -- so many frames of the own file are sent in it, and so many of the other one received
 pub record HasCome (own peer : List (List ℕ)) (counts : EndCounts) (log : Log) : Type 0 where
@@ -25,12 +25,12 @@ IsEnd counts (Own message) = message ≡ counts.sent
 IsEnd counts (Peers message) = message ≡ counts.received
 
 -- why a log has no room
-abbrev pub IsWhy : Log → Refusal → Type 0
+abbrev pub IsWhy : Log → NotPushed → Type 0
 IsWhy log (refusal.NoRoom Full) = length log.records ≡ record_limit
 IsWhy log (refusal.NoRoom Unlisted) = ⊤
 IsWhy log refusal.OutOfMemory = ⊤
 
 -- a step is refused: the log is as it was
-pub record IsRefused (old new : Log) (why : Refusal) : Type 0 where
+pub record IsRefused (old new : Log) (why : NotPushed) : Type 0 where
   pub kept : new ≡ old
   pub reason : IsWhy old why

@@ -5,7 +5,7 @@ ghost use Rattle.std.specs.Arc.{arc_value};
 ghost use Rattle.vat_log.specs.Passages.{frame_sent, frame_received, used_by};
 ghost use Rattle.wire_steps.specs.Glue.{HasCome, IsEnd, IsRefused};
 ghost use Rattle.wire_steps.specs.Parts.{HasParts, HasAll, EndsFull};
-ghost use Rattle.wire_steps.specs.declared.end_log.Refusal.TheVariants.{OutOfMemory};
+ghost use Rattle.wire_steps.specs.declared.end_log.NotPushed.TheVariants.{OutOfMemory};
 
 use crate::end_steps::EndStep;
 use bytes::Bytes;
@@ -65,34 +65,34 @@ pub struct EarlyEnd {
 
 /// Why a step isn't put behind the others.
 #[derive(Clone, Copy)]
-enum Refusal {
+enum NotPushed {
     /// The log has no room for it.
     NoRoom(NoRoom),
     /// Out of memory.
     OutOfMemory,
 }
 
-impl From<AllocError> for Refusal {
+impl From<AllocError> for NotPushed {
     ghost from_gives = { λ _ e. e ≡ OutOfMemory };
 
-    fn from(_e: AllocError) -> Refusal {
-        Refusal::OutOfMemory
+    fn from(_e: AllocError) -> NotPushed {
+        NotPushed::OutOfMemory
     }
 }
 
 /// Puts what a record says behind the others.
-fn push(writer: &mut LogWriter, body: Body) -> Result<(), Refusal>
+fn push(writer: &mut LogWriter, body: Body) -> Result<(), NotPushed>
     ensures ok { OnOk result (writer.new.records ≡ writer.old.records ++ body ∷ []) }
     ensures err { IfErr result (IsRefused writer.old writer.new) }
     ensures vat { writer.new.vat ≡ writer.old.vat }
 {
     let Ok(entry) = Record::new(body) else {
-        return Err(Refusal::NoRoom(NoRoom::Unlisted));
+        return Err(NotPushed::NoRoom(NoRoom::Unlisted));
     };
     match writer.push(entry) {
         Ok(()) => Ok(()),
-        Err((LogError::TooLong, _)) => Err(Refusal::NoRoom(NoRoom::Full)),
-        Err(_) => Err(Refusal::OutOfMemory),
+        Err((LogError::TooLong, _)) => Err(NotPushed::NoRoom(NoRoom::Full)),
+        Err(_) => Err(NotPushed::OutOfMemory),
     }
 }
 
@@ -115,7 +115,7 @@ fn push_send(
     own: &[Bytes],
     peer: &[Bytes],
     counts: EndCounts,
-) -> Result<EndCounts, Refusal>
+) -> Result<EndCounts, NotPushed>
     requires { HasCome own.now peer.now counts writer.old }
     ensures come { IfOk result (λ come. HasCome own.now peer.now come writer.new) }
     ensures err { IfErr result (IsRefused writer.old writer.new) }
@@ -145,7 +145,7 @@ fn push_receive(
     own: &[Bytes],
     peer: &[Bytes],
     counts: EndCounts,
-) -> Result<EndCounts, Refusal>
+) -> Result<EndCounts, NotPushed>
     requires { HasCome own.now peer.now counts writer.old }
     ensures come { IfOk result (λ come. HasCome own.now peer.now come writer.new) }
     ensures err { IfErr result (IsRefused writer.old writer.new) }
@@ -175,7 +175,7 @@ fn push_step(
     own: &[Bytes],
     peer: &[Bytes],
     counts: EndCounts,
-) -> Result<EndCounts, Refusal>
+) -> Result<EndCounts, NotPushed>
     requires { HasCome own.now peer.now counts writer.old }
     ensures come { IfOk result (λ come. HasCome own.now peer.now come writer.new) }
     ensures err { IfErr result (IsRefused writer.old writer.new) }
@@ -262,11 +262,11 @@ pub fn log_of(
         let next = next_message(&step, counts);
         match push_step(&mut writer, step, own, peer, counts) {
             Ok(come) => counts = come,
-            Err(Refusal::NoRoom(why)) => {
+            Err(NotPushed::NoRoom(why)) => {
                 let early = Some(EarlyEnd { next, why });
                 return ended(alloc, writer, own, peer, counts, early);
             }
-            Err(Refusal::OutOfMemory) => return Err(AllocError),
+            Err(NotPushed::OutOfMemory) => return Err(AllocError),
         }
     }
     ended(alloc, writer, own, peer, counts, None)

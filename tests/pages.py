@@ -43,7 +43,8 @@ OF_OTHERS = {
     "Rust's capnp-rpc": """
         client_hook eagerly_evaluate exports_by_cap get_pipelined_cap_move release_export resolve_op set_sender_hosted
         write_descriptor""",
-    "the reader's": "your_network",
+    "the toolchain's atomic_table": "close_with",
+    "the reader's": "other/X your_network",
     "a build's": "crates/vataudit/out/vataudit",
     "a bug that can't be planted": "taken_number_read_at_the_walk",
 }

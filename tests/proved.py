@@ -7,9 +7,10 @@ usage: tests/proved.py --check        (whether the page is up to date; if it isn
 
 What stands above the page's line <!-- made by tests/proved.py --> is written by hand, and stays. Below it stand the crates, as
 crates.txt has them. Public is what a crate's lib.rt declares, or names by `pub use`. What a call does is the first paragraph of
-its doc comment, as far as whole sentences go in some 300 letters; behind the name of a clause stands the comment above it. A
-clause cites a file of definitions where it has a name that a `ghost use` line takes from there. Of a type stands what is proved
-of all its values: an invariant, what it is shown as, what it is made of an error, and that it keeps a trait of these crates.
+its doc comment, as far as whole sentences go in some 480 letters; behind the name of a clause stands the comment above it. A
+clause cites a file of definitions where it has a name that a `ghost use` line takes from there. A type has a row of its own where
+contracts see it as something else than its fields, or something is proved of all its values: an invariant, what it is shown as,
+what it is made of an error, or that it keeps a trait of these crates.
 It needs python3 alone, and takes a second or two.
 """
 import difflib
@@ -20,7 +21,7 @@ import sys
 ROOT = os.path.realpath(f"{os.path.dirname(os.path.realpath(__file__))}/..")
 PAGE = "docs/PROVED.md"
 LINE = "<!-- made by tests/proved.py -->"
-LONG = 300    # so many letters of a doc comment, and its first sentence however long
+LONG = 480    # so many letters of a doc comment, and its first sentence however long
 
 TOKEN = re.compile(r"""//[^\n]*|"(?:\\.|[^"\\])*"|'(?:\\[^']*|[^'\\])'|[{}()\[\];]""", re.S)
 BLANK = re.compile(r"\s*")
@@ -228,12 +229,12 @@ def implemented(head):
 class Row:
     """A row of the page: of which public item, and its cells."""
 
-    def __init__(self, owner, path, call, does, clauses, cites, is_law=False):
+    def __init__(self, owner, path, call, does, clauses, cites, kind=""):
         self.owner, self.path, self.call, self.does = owner, path, call, does
-        self.clauses, self.cites, self.is_law = clauses, cites, is_law
+        self.clauses, self.cites, self.kind = clauses, cites, kind
 
     def text(self):
-        call = f"{'law ' if self.is_law else ''}[`{self.call}`](../{self.path})"
+        call = f"{self.kind} [`{self.call}`](../{self.path})".strip()
         cells = (call, self.does, self.clauses, ", ".join(self.cites))
         return f"| {' | '.join(cell.replace('|', chr(92) + '|') for cell in cells)} |"
 
@@ -276,13 +277,14 @@ def clauses_said(clauses):
 def call_row(crate, file, uses, item, owner):
     call = item.name if owner == item.name else f"{owner}::{item.name}"
     cites = cites_of(crate, uses, [clause.text for clause in item.clauses])
-    return Row(owner, file.path, call, said(item.doc), clauses_said(item.clauses), cites, item.is_law)
+    return Row(owner, file.path, call, said(item.doc), clauses_said(item.clauses), cites, "law" if item.is_law else "")
 
 
 def type_row(crate, file, item, traits):
-    """What is proved of all values of a type; None where nothing is."""
-    kept, cites = [], []
+    """What is proved of all values of a type; None where nothing is, and contracts see its fields."""
+    kept, cites, is_seen = [], [], False
     for at, trait, one in crate.impls_of(item.name):
+        is_seen = is_seen or trait == "Model"
         uses = {**at.uses, **uses_of(one.body)}
         ghosts = {member.head.split()[1]: member.head for member in items_of(one.body) if member.kind == "ghost"}
         own = [name for name in ("invariant", "output", "from_gives") if name in ghosts]
@@ -294,7 +296,13 @@ def type_row(crate, file, item, traits):
         else:
             continue
         cites += [cite for cite in found if cite not in cites]
-    return Row(item.name, file.path, item.name, said(item.doc), "; ".join(kept), cites) if kept else None
+    if not kept and not is_seen:
+        return None
+    return Row(item.name, file.path, item.name, said(item.doc), "; ".join(kept), cites)
+
+
+def trait_row(file, item):
+    return Row(item.name, file.path, item.name, said(item.doc), "", [], "trait")
 
 
 def methods_of(crate, file, item):
@@ -315,8 +323,11 @@ def rows_of(crate, traits):
     for file, item in crate.declared():
         if item.kind == "fn":
             calls = [(file, file.uses, item)]
+        elif item.kind == "trait":
+            calls = methods_of(crate, file, item)
+            rows.append(trait_row(file, item) if item.name in traits else None)
         else:
-            calls = methods_of(crate, file, item) if item.kind in ("struct", "enum", "trait") else []
+            calls = methods_of(crate, file, item) if item.kind in ("struct", "enum") else []
             rows.append(type_row(crate, file, item, traits))
         for at, uses, call in calls:
             row = call_row(crate, at, uses, call, item.name)
@@ -333,7 +344,7 @@ def in_order(crate, rows):
 
     def place(row):
         found = re.search(rf"`{row.owner}\b", head)
-        return row.is_law, found.start() if found else len(head)
+        return row.kind == "law", found.start() if found else len(head)
 
     return sorted(rows, key=place)
 

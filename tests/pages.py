@@ -7,11 +7,12 @@ usage: tests/pages.py PROGRAM          (the built program)
   printed, notes included; a line `..` stands for lines that are left out. The commands of a page are typed one after another,
   each in a new shell, in a folder that has the files of samples/, and samples/ itself. No other block is run: what needs
   something installed stands in a block with `sh` behind its three backticks.
+- Each command of the program that is named is one of its help, and so is each option behind it.
 - Each link leads to a file, each path names one, and each heading that is named stands in its page. A file may be named
   without its end, and one of a crate as `crate/file`. A part of a path in capitals stands for any name.
 - Each identifier with an underscore or in CamelCase, in backticks or as a crate's name, stands somewhere in the sources.
 - What is written by hand in README.md and docs/ has at most 150,000 bytes. What a script writes doesn't count: PROVED.md behind
-  the line that says so, and in ATTACKS.md what stands between two such lines.
+  the comment that says so, and in ATTACKS.md what stands between two such comments.
 - tests/proved.py --check, which says whether PROVED.md is up to date, passes.
 
 What is wrong is printed with its page, and the last line counts.
@@ -35,7 +36,7 @@ TALLY = {True: 0, False: 0}
 # Words that look like symbols or files of the repository and are none, and whose they are.
 OF_OTHERS = {
     "Cap'n Proto's C++": """
-        CapabilityServerSet ClientInner EmbargoId ImportClient PackedMessage PipelineClient PipelineInner PostReturnRpcPipeline
+        CapabilityServerSet ClientInner EmbargoId ImportClient PipelineClient PipelineInner PostReturnRpcPipeline
         PromiseClient QuestionRef QueuedClient QueuedPipeline RevocableServer RpcConnectionState RpcSystemBase exportsByCap
         getResolutionAtReturnTime handleDisembargo handleReturn receiveCap remoteRefcount resolveExportedPromise resolveOp
         writeDescriptor""",
@@ -184,6 +185,31 @@ def run_commands(page, room):
             must(page.name, fits(shown, came), command, "what it prints isn't what is shown:\n" + "\n".join(came))
 
 
+class Commands:
+    """The commands of the program, each with its options."""
+
+    def __init__(self):
+        text = self.help()
+        self.common = set(re.findall(r"--[a-z-]+", text))
+        named = re.search(r"^Commands:\n((?:  .*\n)+)", text, re.M)[1]
+        names = re.findall(r"^  (\w+)", named, re.M)
+        self.options = {name: set(re.findall(r"--[a-z-]+", self.help(name))) for name in names}
+
+    def help(self, *words):
+        return subprocess.run([PROGRAM, *words, "--help"], capture_output=True).stdout.decode()
+
+    def check(self, page):
+        """Whether each that is named is one, and so its options."""
+        lines = page.spans() + [line for block in page.blocks for line in block.lines]
+        for words in re.findall(r"(?:^|[\s(])vataudit ([^|;>#&)\n]*)", "\n".join(lines), re.M):
+            words = words.split()
+            command = next((word for word in words if re.fullmatch(r"[a-z]+", word)), None)
+            if command:
+                known = self.options.get(command, set()) | self.common
+                options = {word.split("=")[0] for word in words if word.startswith("--") and word != "--"}
+                must(page.name, command in self.options and options <= known, "no such command", f"vataudit {' '.join(words)}")
+
+
 # ---- links, paths and headings
 
 def slug(heading):
@@ -191,7 +217,7 @@ def slug(heading):
 
 
 def page_of(name, pages):
-    """The page that is named so, from the root or from the folder of the page that names it."""
+    """The first page whose path is this one, or ends with it."""
     return next((page for page in pages if page.name == name or page.name.endswith("/" + name)), None)
 
 
@@ -248,24 +274,31 @@ def check_symbols(page, sources):
 
 # ---- what is written by hand
 
+def made_by(script):
+    """What the comment looks like that says what is made by a script."""
+    return rf"<!--[^>]*made by {re.escape(script)}[^>]*-->"
+
+
 def by_hand(page):
     """How many bytes of a page are."""
     text = page.text
     if page.name == "docs/PROVED.md":
-        text = re.split(r"^<!--.*made by tests/proved\.py.*\n", text, maxsplit=1, flags=re.M)[0]
+        text = re.split(made_by("tests/proved.py"), text, maxsplit=1)[0]
     if page.name == "docs/ATTACKS.md":
-        made = r"^<!--.*made by tests/attacks\.sh.*\n"
-        text = re.sub(rf"({made})[\s\S]*?({made})", r"\1\2", text, flags=re.M)
+        mark = made_by("tests/attacks.sh")
+        text = re.sub(rf"{mark}[\s\S]*?{mark}", "", text)
     return len(text.encode())
 
 
 def main():
     files = list(tracked())
     sources = Sources(files)
+    commands = Commands()
     pages = [Page(name) for name in sorted(files) if name.endswith(".md")]
     for page in pages:
         with tempfile.TemporaryDirectory() as room:
             run_commands(page, room)
+        commands.check(page)
         check_links(page, pages)
         check_headings(page, pages)
         check_paths(page, sources)

@@ -3,16 +3,15 @@
 import argparse
 import glob
 import os
-import re
 import resource
-import subprocess
 import sys
 
 sys.dont_write_bytecode = True
-from edit_places import Edit, read  # noqa: E402
+from edit_hashes import Hashes, write, written  # noqa: E402
+from edit_places import Edit  # noqa: E402
 
 ROOT = os.path.realpath(f"{os.path.dirname(os.path.realpath(__file__))}/../..")
-CODE = re.compile(r"crates/([^/]+)/(src|specs)/.*\.(rt|antt)$")
+FILE = "attacks/hashes"
 
 
 def edits_in(folder):
@@ -31,58 +30,62 @@ def apply():
     return 1 if bad or not edits else 0
 
 
-def bare(text, is_spec):
-    """A file less its comments, blanks, and the lines that only say where a file or a name stands."""
-    lines = [re.sub(r"--.*" if is_spec else r"//.*", "", line).strip() for line in text.split("\n")]
-    joined = re.sub(r"\{\n([^{}]*)\}", r"{ \1 }", "\n".join(line for line in lines if line))
-    return "\n".join(line for line in joined.split("\n") if not re.match(r"(pub(\([a-z]+\))? )?(ghost )?(mod|use) ", line))
+class Attacks:
+    """The edits of attacks/, and what is written of those that were refused."""
+
+    def __init__(self):
+        self.edits, self.hashes, self.known = edits_in("attacks"), Hashes(ROOT, are_bare=True), written(FILE)
+        self.now = {it.path: self.hashes.of(it) for it in self.edits}
+
+    def is_due(self, edit):
+        return self.known.get(edit.path) != self.now[edit.path]
+
+    def table(self):
+        """Prints for each crate how many edits it has in the gate and here, and how many of these are due."""
+        gate = edits_in("edits")
+        print("| Crate | In the gate | In attacks/ | Due |\n|---|---|---|---|")
+        for crate in self.hashes.lines:
+            own = [it for it in self.edits if it.crate == crate]
+            counts = [sum(it.crate == crate for it in gate), len(own), sum(map(self.is_due, own))]
+            if any(counts):
+                print(f"| {crate} | " + " | ".join(str(it or "") for it in counts) + " |")
+        print(f"| all | {len(gate)} | {len(self.edits)} | {sum(map(self.is_due, self.edits))} |")
+
+    def refused(self, edit):
+        """Writes the hash of an edit that was refused, if nothing changed meanwhile; those of edits that are gone go."""
+        if Hashes(ROOT, are_bare=True).of(edit) != self.now[edit.path]:
+            print(f"{edit.path}: refused, but a file changed meanwhile, so its hash isn't written", flush=True)
+            return
+        self.known[edit.path] = self.now[edit.path]
+        write(FILE, {path: own for path, own in self.known.items() if path in self.now})
 
 
-def texts_by_crate(names, reader):
-    found = {}
-    for name in names:
-        own = CODE.match(name)
-        text = own and bare(reader(name), own[3] == "antt")
-        if text:
-            found.setdefault(own[1], []).append(text)
-    return {crate: sorted(texts) for crate, texts in found.items()}
-
-
-def changed_since(commit):
-    """The crates whose code or contracts differ from those of a commit."""
-    git = lambda *words: subprocess.run(["git", *words], capture_output=True, text=True, check=True).stdout
-    was = texts_by_crate(git("ls-tree", "-r", "--name-only", commit).split("\n"), lambda name: git("show", f"{commit}:{name}"))
-    now = texts_by_crate(git("ls-files").split("\n"), read)
-    return [crate for crate in sorted(now) if now[crate] != was.get(crate)]
+def arguments():
+    parser = argparse.ArgumentParser(usage="tests/attacks.sh [--jobs N] [--built] [--all] [CRATE..] | --due | --apply")
+    for flag in ("--apply", "--due", "--all", "--built"):
+        parser.add_argument(flag, action="store_true")
+    parser.add_argument("--jobs", type=int, default=0)
+    parser.add_argument("crates", nargs="*")
+    return parser.parse_args()
 
 
 def main():
-    parser = argparse.ArgumentParser(usage="tests/attacks.sh [--jobs N] [--built] [CRATE..] | --since COMMIT | --apply")
-    parser.add_argument("--apply", action="store_true")
-    parser.add_argument("--since")
-    parser.add_argument("--built", action="store_true")
-    parser.add_argument("--jobs", type=int, default=0)
-    parser.add_argument("crates", nargs="*")
-    asked = parser.parse_args()
+    asked = arguments()
     os.chdir(ROOT)
     if asked.apply:
         return apply()
-    edits, crates = edits_in("attacks"), asked.crates
-    if asked.since:
-        try:
-            changed = changed_since(asked.since)
-        except subprocess.CalledProcessError as error:
-            parser.error(error.stderr.strip())
-        crates = [it for it in changed if os.path.isdir(f"attacks/{it}")]
-        print(f"changed: {' '.join(crates)}" if crates else f"no crate with attacks changed since {asked.since}", flush=True)
-    if asked.crates or asked.since:
-        edits = [it for it in edits if it.crate in crates]
-    none = [it for it in asked.crates if it not in {edit.crate for edit in edits}]
+    attacks = Attacks()
+    if asked.due:
+        attacks.table()
+        return 0
+    chosen = [it for it in attacks.edits if not asked.crates or it.crate in asked.crates]
+    none = [it for it in asked.crates if it not in {edit.crate for edit in chosen}]
     print("".join(f"attacks/{it}: no edits there\n" for it in none), end="")
-    return report(edits, asked.jobs, asked.built, len(none))
+    tried = [it for it in chosen if asked.all or attacks.is_due(it)]
+    return report(attacks, tried, asked.jobs, asked.built, len(none))
 
 
-def report(edits, jobs, is_built, told):
+def report(attacks, edits, jobs, is_built, told):
     # (what the kit has is needed only here)
     from planted_edits import REFUSED, jobs_by_memory, try_all
 
@@ -90,7 +93,9 @@ def report(edits, jobs, is_built, told):
 
     def done(edit, said):
         counts[said == REFUSED] += 1
-        if said != REFUSED:
+        if said == REFUSED:
+            attacks.refused(edit)
+        else:
             print(f"{edit.path}: {said}", flush=True)
 
     copies = try_all(ROOT, edits, jobs or jobs_by_memory(), done, is_built)

@@ -125,6 +125,7 @@ pub fn audit<R: Threads + Wait + Sync, G: Gate + Sync>(
 ) -> Result<Report, AuditError>
     // When it is refused, and why.
     ensures err { IfErr result (IsRefusal case workers) }
+    // An audited case isn't refused.
     ensures accepted { OnOk result (refusal_of case workers ≡ None) }
     // What it answers.
     ensures report { IfOk result (IsReport case order) }

@@ -28,7 +28,9 @@ fn run_by(alloc: Global, findings: &Findings, order: &Order) -> Result<Run, Allo
 ///
 /// Out of memory.
 pub fn run_of_findings(alloc: Global, findings: &Findings) -> Result<Option<Run>, AllocError>
+    // It explains the logs, by an order that fits.
     ensures run { IfOk result (λ made. IfSome made (AreExplained findings.now.case.logs)) }
+    // There is none only where a log or a link isn't good, or no order fits.
     ensures none { IfOk result (λ made. made ≡ None → HasNoRun findings.now.case) }
 {
     let case = findings.case();

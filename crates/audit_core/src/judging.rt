@@ -106,6 +106,7 @@ pub(crate) fn judge_lent_unordered(alloc: Global, findings: &Findings) -> Result
 ///
 /// Out of memory.
 pub fn judge(alloc: Global, findings: Findings, order: Order) -> Result<Report, AllocError>
+    // What it answers.
     ensures report { IfOk result (IsReport findings.case (Some order)) }
     // What a yes means.
     ensures headline { IfOk result (YesMeansHeadline findings.case.logs) }
@@ -120,6 +121,7 @@ pub fn judge(alloc: Global, findings: Findings, order: Order) -> Result<Report, 
 ///
 /// Out of memory.
 pub fn judge_unordered(alloc: Global, findings: Findings) -> Result<Report, AllocError>
+    // What it answers.
     ensures report { IfOk result (IsReport findings.case None) }
     // What a yes means.
     ensures headline { IfOk result (YesMeansHeadline findings.case.logs) }

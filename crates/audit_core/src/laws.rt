@@ -18,7 +18,7 @@ ghost use Rattle.vat_log.specs.Migrated.{migrated};
 ghost use Rattle.case_report.specs.declared.report.Report.{Report};
 ghost use Rattle.case_report.specs.declared.report.Report.TheVariants.{Yes};
 
-/// Which order it is doesn't matter: a case that ties up has one line, by whatever order that fits, and where none is given.
+/// A case that ties up has one line, by whatever order that fits, and where none is given: which order it is doesn't matter.
 /// A yes by another order has a run with the steps in another order.
 pub fn a_case_has_one_line()
     ensures { (held : Contents) → IsCase held → tie_fault_of held ≡ None
@@ -38,7 +38,8 @@ pub fn a_case_has_one_report()
         → Explains held.logs order run → Explains held.logs order other → run ≡ other }
 {}
 
-/// Nor does it matter for the graph: the runs of two yeses for a case that ties up have the same edges, in the same order.
+/// A case that ties up has one graph: the runs of two yeses for it, by whatever orders that fit, have the same edges, in the same
+/// order.
 pub fn a_case_has_one_graph()
     ensures { (held : Contents) → IsCase held → tie_fault_of held ≡ None → (given other_given : Option (List ℕ))
         → (vats records delivered under_way other_vats other_records other_delivered other_under_way : ℕ) (run other_run : List Step)

@@ -31,6 +31,7 @@ pub fn audit_with_findings<R: Threads + Wait + Sync, G: Gate + Sync>(
 ) -> Result<(Report, Findings), AuditError>
     // When it is refused, and why.
     ensures err { IfErr result (IsRefusal case workers) }
+    // An audited case isn't refused.
     ensures accepted { OnOk result (refusal_of case workers ≡ None) }
     // What it answers.
     ensures report { IfOk result (λ told. IsReport case order told.0) }

@@ -133,10 +133,12 @@ fn line_of_files<R: Threads + Sync, S: Source>(
     answer_of(source, &names, &order_name, &logs, &order, passed)
 }
 
-/// Audits the case that a source has under a name, by the order that its file names, if it names one, for its line alone: the logs
-/// are read piece by piece, all in one pass, and none of them is kept. So many workers, 1 to 64, read and judge them, the calling
-/// thread among them. All logs are opened before the first is read, and the order is read before them; each file is closed once all were
-/// read, the logs in the order in which they are listed.
+/// Audits the case that a source has under a name, for its line alone: by the order that its file names, or without one, it
+/// answers a report that the case has, without the run. Where it says yes, there is a run with all that a yes means.
+///
+/// The logs are read piece by piece, all in one pass, and none of them is kept. So many workers, 1 to 64, read and judge them,
+/// the calling thread among them. All logs are opened before the first is read, and the order is read before them; each file is
+/// closed once all were read, the logs in the order in which they are listed.
 ///
 /// # Errors
 ///
@@ -150,6 +152,7 @@ pub fn check_files<R: Threads + Sync, S: Source>(
 ) -> Result<Report, CaseFault>
     requires some { 1 ≤ workers }
     requires few { workers ≤ 64 }
+    // What it answers, and what a yes means; or the first fault of the case.
     ensures { ComesChecked S.read_gives source.old name.now result source.new }
 {
     let file = read_case_file(alloc, source, name)?;

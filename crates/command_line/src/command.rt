@@ -282,21 +282,28 @@ fn read_command<'a, S: AsStr>(alloc: Global, words: &'a [S]) -> Result<Command<'
     Ok(command_in(alloc, &matches)?)
 }
 
-/// The command that the words spell, of which the first is the program's name: `vat FILE` or `frames FILE`, where
-/// before or after the last of these may stand `--`, and it may begin with a hyphen only after that or where it is `-`; or, as
-/// `clap` reads them, `check CASE` or `run CASE` with `--workers N` if wanted, a number from 1 to 64, or `graph CASE` with that and
-/// `--dot` if wanted, or `draw CASE --out FILE` with that and `--from I`, `--count N` and `--html` if wanted, or `order CASE --out
-/// FILE`, or `wire A B` with `--one-reference` and `--out FOLDER` if wanted, or `join LOG .. --out FOLDER`, or `frame HEX` with `--later` if wanted, or `migrate FILE --out FILE` with `--later` if wanted, or `salvage FILE --out FILE`, or `records FILE`
-/// with `--from I` and `--count N` if wanted, numbers of 64 bits.
+/// The command that the words spell, of which the first is the program's name, and none but that. Each number and each flag of
+/// it is the one that a word gives, or what stands where none is given.
+///
+/// The words are `vat FILE` or `frames FILE`, where before or after the last of these may stand `--`, and it may begin with a
+/// hyphen only after that or where it is `-`; or, as `clap` reads them, `check CASE` or `run CASE` with `--workers N` if wanted,
+/// a number from 1 to 64, or `graph CASE` with that and `--dot` if wanted, or `draw CASE --out FILE` with that and `--from I`,
+/// `--count N` and `--html` if wanted, or `order CASE --out FILE`, or `wire A B` with `--one-reference` and `--out FOLDER` if
+/// wanted, or `join LOG .. --out FOLDER`, or `frame HEX` with `--later` if wanted, or `migrate FILE --out FILE` with `--later` if
+/// wanted, or `salvage FILE --out FILE`, or `records FILE` with `--from I` and `--count N` if wanted, numbers of 64 bits.
 ///
 /// # Errors
 ///
 /// `clap`'s: what is wrong with the words, a request for help, or out of memory.
 pub fn command_of<'a, S: AsStr>(alloc: Global, words: &'a [S]) -> Result<Command<'a>, Error>
+    // The words spell it.
     ensures ok { IfOk result (λ command. Spells (map S.text words.entry.now) command) }
+    // Where it asks for workers, it asks for 1 to 64.
     ensures workers { IfOk result HasWorkers }
+    // Words of the usual forms are taken, unless memory runs out.
     ensures taken { IsTaken (map S.text words.entry.now)
         → IfErr result (λ e. kind_of e ≡ ErrorKind.OutOfMemory) }
+    // What should be a number and isn't one is refused as such, unless memory runs out.
     ensures refused { HasBadNumber (map S.text words.entry.now) → IsErrAnd result
         (λ e. (kind_of e ≡ ErrorKind.OutOfMemory) ⊎ (kind_of e ≡ ErrorKind.ValueValidation)) }
 {

@@ -27,22 +27,29 @@ pub trait Output {
     /// Writes a line: its text, and behind it the end of the line, or what stands for it.
     fn write_line(&mut self, shown: ShownLine<'_>) -> Result<(), Self::Error>
         requires { can_write self.old }
+        // The line stands behind what was written before.
         ensures line { OnOk result
             (Appends (contents self.old) (contents self.new) (line (shown_text shown.entry))) }
+        // More may be written.
         ensures more { OnOk result (can_write self.new) };
 
     /// Writes bytes.
     fn write_bytes(&mut self, bytes: &[u8]) -> Result<(), Self::Error>
         requires { can_write self.old }
+        // They stand behind what was written before.
         ensures bytes { OnOk result (Appends (contents self.old) (contents self.new) bytes.now) }
+        // More may be written.
         ensures more { OnOk result (can_write self.new) };
 
     /// Hands on what was written and is still held back. Where several files are written it ends one: what is written next
     /// stands in the next.
     fn finish(&mut self) -> Result<(), Self::Error>
         requires { can_write self.old }
+        // What was written stays.
         ensures bytes { OnOk result (Keeps (contents self.old) (contents self.new)) }
+        // Nothing is held back.
         ensures finished { OnOk result (is_finished self.new) }
+        // More may be written.
         ensures more { OnOk result (can_write self.new) };
 }
 

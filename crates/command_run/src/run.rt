@@ -32,7 +32,7 @@ use std::thread::Threads;
 /// The exit status where a write fails, or the command line is wrong.
 pub const FAILED: u8 = 2;
 
-/// Runs a command, as [`answer_command`] does; its last answer is heard.
+/// Runs a command, as [`answer_command`] does; its last answer is heard, and nothing depends on that.
 pub fn answer_heard<
     R: Threads + Wait + Sync,
     G: Watch + Sync,
@@ -51,6 +51,7 @@ pub fn answer_heard<
     requires workers { HasWorkers command.now }
     requires out { O.can_write out.old }
     requires file { F.can_write file.old }
+    // What was written answers the command, all of it, and so does the status; or a write failed.
     ensures { CarriesOut S.read_gives S.holds command.now source.old source.new
         (λ answers. Writes answers (Wrote O.contents O.is_finished)
         (Wrote F.contents F.is_finished) out.old out.new file.old file.new result) }
@@ -127,13 +128,16 @@ pub fn answer_heard<
     }
 }
 
-/// Runs a command: writes its line, or its lines, to `out`, and answers the exit status. It is 0 where the log is good, the
-/// report of a case or what is found of a connection is yes, the message of each frame is said, the records are, or an order
-/// or a new log is made, the whole records of one are saved, or logs are joined; 1 where a record breaks a rule, the report or what is found is a no, no order exists, or an end of a connection has no other end; 2 where a
-/// record or a message isn't judged, a message isn't read, or the input is bad, too long or can't be read; and 3 where memory
-/// ran out. To `file` go the bytes of an order, of a picture, of a new log or of a folder's files alone, before the line. Of
-/// the workers that audit a case one is the calling thread, and `rt` starts the others; the answer is the same for any number
-/// of them.
+/// Runs a command: writes to `out` the lines that answer what reading gave of the names that the command has, each whole and in
+/// their order, and answers the exit status that belongs to them. To `file` go the bytes of an order, of a picture, of a new log
+/// or of a folder's files alone, before the line.
+///
+/// The status is 0 where the log is good, the report of a case or what is found of a connection is yes, the message of each frame
+/// is said, the records are, or an order or a new log is made, the whole records of one are saved, or logs are joined; 1 where a
+/// record breaks a rule, the report or what is found is a no, no order exists, or an end of a connection has no other end; 2
+/// where a record or a message isn't judged, a message isn't read, or the input is bad, too long or can't be read; and 3 where
+/// memory ran out. Of the workers that audit a case one is the calling thread, and `rt` starts the others; the answer is the same
+/// for any number of them.
 ///
 /// # Errors
 ///
@@ -149,6 +153,7 @@ pub fn answer_command<R: Threads + Wait + Sync, S: Source, O: Output, F: Output>
     requires workers { HasWorkers command.now }
     requires out { O.can_write out.old }
     requires file { F.can_write file.old }
+    // What was written answers the command, all of it, and so does the status; or a write failed.
     ensures { CarriesOut S.read_gives S.holds command.now source.old source.new
         (λ answers. Writes answers (Wrote O.contents O.is_finished)
         (Wrote F.contents F.is_finished) out.old out.new file.old file.new result) }
@@ -161,7 +166,8 @@ pub fn answer_command<R: Threads + Wait + Sync, S: Source, O: Output, F: Output>
     answer_heard(&host, command, source, &mut Unheard, out, file)
 }
 
-/// Runs a command over std's writers: as `answer_command`, and the exit status is 2 where a write fails.
+/// Runs a command over std's writers: as `answer_command`, and the exit status is 2 where a write fails. That it is 2 only there
+/// no clause says.
 pub fn run_on<R: Threads + Wait + Sync, S: Source, W: Write, F: Write>(
     rt: &R,
     alloc: Global,
@@ -171,6 +177,7 @@ pub fn run_on<R: Threads + Wait + Sync, S: Source, W: Write, F: Write>(
     file: &mut F,
 ) -> u8
     requires { HasWorkers command.now }
+    // The same, or the status is 2.
     ensures { CarriesOut S.read_gives S.holds command.now source.old source.new
         (λ answers. WritesOrFails answers (Adds W.contents)
         (Adds F.contents) out.old out.new file.old file.new result) }

@@ -220,7 +220,8 @@ impl Openings {
 }
 
 /// The files of the working directory, and standard input under the name `-`, which is read once. Nothing that was read is kept.
-/// Contracts see nothing of it.
+/// What is read under a name is what the host has there, whole and in its order, as far as that is known. Contracts see nothing
+/// else of it.
 #[derive(Drop)]
 pub struct Folder<'a, R> {
     rt: &'a R,

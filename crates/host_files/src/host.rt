@@ -36,11 +36,13 @@ pub trait LogHost: Files + Input + AllocGlobal {
     ///
     /// What the system says.
     fn open_log(&self, name: &str) -> io::Result<Self::LogFile>
+        // What is left to be read of it is what is in the file of just this name, where that is known.
         ensures { IfOk result (λ file. IfSome (Self.LogFile.in_file name.now)
             (λ all. Self.LogFile.remaining file ≡ Some all)) };
 
     /// Standard input, of which nothing was read ahead.
     fn log_input(&self) -> Self::LogInput
+        // What is left to be read of it is what is in the input, where that is known.
         ensures { IfSome Self.LogInput.in_input (λ all. Self.LogInput.remaining result ≡ Some all) };
 }
 

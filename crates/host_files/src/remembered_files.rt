@@ -50,7 +50,8 @@ impl ClosedFile {
     }
 }
 
-/// The files of a [`Folder`](crate::Folder), with what people are told of them. The bytes that it keeps are shared, not copied. Contracts see nothing of it.
+/// The files of a [`Folder`](crate::Folder), with what people are told of them. The bytes that it keeps are shared, not copied.
+/// Contracts see of it what they see of a `Folder`.
 #[derive(Drop)]
 pub struct RememberingFolder<'a, R> {
     rt: &'a R,

@@ -23,12 +23,15 @@ pub fn open_at_end(
     alloc: Global,
     records: &[DecodedRecord],
 ) -> Result<Option<Vec<Open>>, AllocError>
-    // The newest record of a point of a log comes first, so a log's end is its records in reverse.
+    // None is answered just where a record isn't as it should be after those before it.
+    // (The newest record of a point of a log comes first, so a log's end is its records in reverse.)
     ensures none { IfOk result (λ found. MatchOption found
         (Each IsSound (reverse records.now) → ⊥)
         (λ _. Each IsSound (reverse records.now))) }
+    // What is listed is just what is open.
     ensures exact { IfOk result (λ found. IfSome found
         (λ list. (o : Open) → Contains list.items o ↔ IsOpen (reverse records.now) o)) }
+    // Each comes once, in the order of opening.
     ensures in_order { IfOk result (λ found. IfSome found
         (λ list. AllPairs OpensBefore list.items)) }
 {

@@ -200,10 +200,13 @@ impl<P: Pieces> LogLane<P> {
 
     /// What is left of a log that was read whole, which can be asked for once; or why it wasn't, if that is known.
     pub fn take_log(&mut self, alloc: Global) -> Result<SlimLog, Option<ReadFault>>
+        // Nothing changes that a contract sees.
         ensures lane { self.new ≡ self.old }
+        // All bytes came, and spell the log, which was audited within the default limits.
         ensures whole { IfOk result (λ log. (lane : ReadAhead) × (self.old ≡ Some lane)
             × (log.log ≡ lane.read.log) × (log.limits ≡ default_limits)
             × (lane.read.came.is_over ≡ true) × (log_of lane.read.came.bytes ≡ Ok lane.read.log)) }
+        // The fault is that of all bytes, whatever comes behind those that came.
         ensures fault { IfErr result (λ why. IfSome why (λ fault. (lane : ReadAhead) × (self.old ≡ Some lane)
             × StreamStopsBy fault lane.read)) }
     {

@@ -24,11 +24,17 @@ pub fn audit_stream<P: Pieces>(
     stream: &mut LogStream<P>,
 ) -> Result<SlimFinding, ReadFault>
     requires { stream.old.log.records ≡ [] }
+    // What came before still comes first.
     ensures on { ComesOn stream.old.came stream.new.came }
+    // The log that was audited is the one that the bytes spell.
     ensures log { IfOk result (λ finding. log_of stream.new.came.bytes ≡ Ok finding.log) }
+    // These are all bytes.
     ensures over { IfOk result (λ finding. stream.new.came.is_over ≡ true) }
+    // Its frames were read within the default limits.
     ensures limits { IfOk result (λ finding. finding.limits ≡ default_limits) }
+    // What is found is what the rules say of it.
     ensures outcome { IfOk result (λ finding. IsTrueOf finding.log finding.limits finding.outcome) }
+    // The fault is that of all bytes, whatever comes behind those that came.
     ensures err { IfErr result (λ fault. StreamStopsBy fault stream.new) }
 {
     let mut audit = VatAudit::new(alloc, stream.header(), Limits::default());

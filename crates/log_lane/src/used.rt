@@ -84,6 +84,7 @@ impl UsedConnections {
     pub fn take(&mut self, body: &Body) -> Result<(), AllocError>
         ensures ok { OnOk result (self.new ≡ self.old ++ body.now ∷ []) }
         ensures err { OnErr result (self.new ≡ self.old) }
+        // Memory is refused only over a connection that no record before uses.
         ensures another { IfErr result (λ _. UsesAnother self.old body.now) }
     {
         self.last = add(&mut self.set, self.last, body)?;

@@ -129,10 +129,10 @@ fn check_by_turns<R: Threads + Sync, P: Pieces + Send>(
     Ok(line_of(alloc, &case, turns, found)?)
 }
 
-/// Audits a case whose logs come in streams, for its line alone, and reads each log once. Of each only the header was read
-/// before. It keeps none of them, but what is under
-/// way, and what a later record may still name. What it answers is the report of [`audit`](audit_core::audit) of the logs that
-/// came, without its run.
+/// Audits a case whose logs come in streams, for its line alone: it answers a report that the case has of the logs that came, as
+/// [`audit`](audit_core::audit) does, without the run. Where it says yes, there is a run with all that a yes means. Of each log
+/// only the header was read before. Each is read once, and none is kept, but what is under way, and what a later record may still
+/// name.
 ///
 /// # Errors
 ///
@@ -149,6 +149,7 @@ pub fn check_streams<R: Threads + Sync, P: Pieces + Send>(
     requires { AreFresh lanes.old }
     // Its workers are counted first.
     ensures none { workers ≡ 0 → result ≡ Err NoWorkers }
+    // More than 64 are too many.
     ensures many { worker_limit < workers → result ≡ Err TooManyWorkers }
     // Why there is no report.
     ensures err { IfErr result (IsRefusalOf lanes.new links.items workers) }

@@ -111,6 +111,7 @@ pub fn run_as_json<R: Threads + Wait + Sync, S: Source, W: Write, F: Write>(
     file: &mut F,
 ) -> u8
     requires { HasWorkers command.now }
+    // Which files it asks for, which bytes it writes to `file`, and the status, or 2 or 3 in its place.
     ensures { CarriesOut S.read_gives S.holds command.now source.old source.new
         (λ answers. Tells answers (Adds F.contents) file.old file.new result) }
 {
@@ -128,6 +129,7 @@ pub fn run_as_json_with_notes<R: Threads + Wait + Sync, S: SearchingSource, W: W
     file: &mut F,
 ) -> u8
     requires { HasWorkers command.now }
+    // Which files it asks for, which bytes it writes to `file`, and the status, or 2 or 3 in its place.
     ensures { CarriesOut S.read_gives S.holds command.now source.old source.new
         (λ answers. Tells answers (Adds F.contents) file.old file.new result) }
 {

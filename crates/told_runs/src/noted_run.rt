@@ -64,6 +64,7 @@ pub fn run_with_notes<
     file: &mut F,
 ) -> u8
     requires { HasWorkers command.now }
+    // What `run_on` promises.
     ensures { CarriesOut S.read_gives S.holds command.now noted.old.source noted.new.source
         (λ answers. WritesOrFails answers (Adds W.contents)
         (Adds F.contents) out.old out.new file.old file.new result) }

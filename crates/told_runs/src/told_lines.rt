@@ -176,6 +176,7 @@ pub fn run_telling<
     file: &mut F,
 ) -> u8
     requires { HasWorkers command.now }
+    // Which files it asks for, which bytes it writes to `file`, and the status, or 2 or 3 in its place.
     ensures { CarriesOut S.read_gives S.holds command.now noted.old.source noted.new.source
         (λ answers. Tells answers (Adds F.contents) file.old file.new result) }
 {

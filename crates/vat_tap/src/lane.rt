@@ -43,6 +43,7 @@ impl Lane {
     ///
     /// `Full`, with the record, where no slot of the ring is free or the lane has recorded its share. No ticket is drawn then.
     pub fn record(&mut self, entry: Record) -> Result<Ticket, Full>
+        // It stays the same lane of the same tap.
         ensures same { SameLane self.old self.new }
         // The record stands behind the others, at its ticket.
         ensures ok { IfOk result (λ ticket.

@@ -148,11 +148,13 @@ impl Tap {
     ///
     /// A growth of memory was refused.
     pub fn drain(&mut self) -> Result<u64, AllocError>
+        // It stays the same tap, with the same lanes.
         ensures same { SameTap self.old self.new }
         // What was taken of each lane goes on from what was taken before.
         ensures taken { TakesOn self.old.taken self.new.taken }
         // One ring's length of each at most.
         ensures most { TakesAtMost self.old.rings self.old.taken self.new.taken }
+        // So many more than before.
         ensures count { IfOk result (λ count.
             sum_by length self.new.taken ≡ sum_by length self.old.taken + count) }
     {
@@ -175,6 +177,7 @@ impl Tap {
         // Without, they are missing, and the tap is as it was.
         ensures missing { length lanes.items ≢ length self.rings
             → IfErr result (λ refused. (refused.0 ≡ CloseError.Missing) × (refused.1 ≡ self)) }
+        // With them, only memory can be lacking.
         ensures all { length lanes.items ≡ length self.rings
             → IfErr result (λ refused. refused.0 ≡ CloseError.OutOfMemory) }
         // What is handed back.

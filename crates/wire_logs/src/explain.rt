@@ -133,10 +133,14 @@ fn explain_frames<R: Threads + Wait + Sync, G: Gate + Sync>(
     })
 }
 
-/// Explains what the ends of one connection sent: makes the two logs that a sound pair of vats could have written around
-/// these frames, and asks the audit. The first file has what the one end sent, the second what the other end sent, each in
-/// stream framing. With one reference all calls to a target are made through it, and else those that overtake others through
-/// references of their own. The gate is called as by [`audit`]: the case has two logs and one link.
+/// Explains what the ends of one connection sent: makes two logs that a sound pair of vats could have written around these
+/// frames, and answers the line of the audit's report of just these. They have the frames of the two files from the first ones
+/// on, byte for byte, and no others; where the answer is yes, they have all. Without logs it says which file isn't cut into
+/// frames, or has a frame that is too long.
+///
+/// The first file has what the one end sent, the second what the other end sent, each in stream framing. With one reference all
+/// calls to a target are made through it, and else those that overtake others through references of their own. The gate is called
+/// as by [`audit`]: the case has two logs and one link. Of what is made up between the frames nothing is promised.
 ///
 /// # Errors
 ///
@@ -150,6 +154,7 @@ pub fn explain_wire<R: Threads + Wait + Sync, G: Gate + Sync>(
     one_reference: bool,
     gate: &G,
 ) -> Result<WireAnswer, AllocError>
+    // What the line stands on, and what the logs have of the files.
     ensures { IfOk result (IsAnswer a.now b.now) }
 {
     let of_a = match file_of(alloc, a, End::A)? {

@@ -37,7 +37,7 @@ TALLY = {True: 0, False: 0}
 # Words that look like symbols or files of the repository and are none, and whose they are.
 OF_OTHERS = {
     "Cap'n Proto's C++": """
-        CapabilityServerSet ClientInner EmbargoId ImportClient PipelineClient PipelineInner PostReturnRpcPipeline
+        CapabilityServerSet ClientInner ImportClient PipelineClient PipelineInner PostReturnRpcPipeline
         PromiseClient QuestionRef QueuedClient QueuedPipeline RevocableServer RpcConnectionState RpcSystemBase exportsByCap
         getResolutionAtReturnTime handleDisembargo handleReturn receiveCap remoteRefcount resolveExportedPromise resolveOp
         writeDescriptor""",
@@ -47,7 +47,6 @@ OF_OTHERS = {
     "the toolchain's atomic_table": "close_with",
     "the reader's": "other/X your_network",
     "a build's": "crates/vataudit/out/vataudit",
-    "a bug that can't be planted": "taken_number_read_at_the_walk",
 }
 NO_SYMBOLS = {word for words in OF_OTHERS.values() for word in words.split()}
 

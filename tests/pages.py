@@ -7,7 +7,8 @@ usage: tests/pages.py PROGRAM          (the built program)
   printed, notes included; a line `..` stands for lines that are left out. The commands of a page are typed one after another,
   each in a new shell, in a folder that has the files of samples/, and samples/ itself. No other block is run: what needs
   something installed stands in a block with `sh` behind its three backticks.
-- Each command of the program that is named is one of its help, and so is each option behind it.
+- Each command of the program that is named is one of its help, and so is each option behind it. A script of the repository
+  has the options that it is called with.
 - Each link leads to a file, each path names one, and each heading that is named stands in its page. A file may be named
   without its end, and one of a crate as `crate/file`. A part of a path in capitals stands for any name.
 - Each identifier with an underscore or in CamelCase, in backticks or as a crate's name, stands somewhere in the sources.
@@ -36,16 +37,16 @@ TALLY = {True: 0, False: 0}
 # Words that look like symbols or files of the repository and are none, and whose they are.
 OF_OTHERS = {
     "Cap'n Proto's C++": """
-        CapabilityServerSet ClientInner EmbargoId ImportClient PipelineClient PipelineInner PostReturnRpcPipeline
+        CapabilityServerSet ClientInner ImportClient PipelineClient PipelineInner PostReturnRpcPipeline
         PromiseClient QuestionRef QueuedClient QueuedPipeline RevocableServer RpcConnectionState RpcSystemBase exportsByCap
         getResolutionAtReturnTime handleDisembargo handleReturn receiveCap remoteRefcount resolveExportedPromise resolveOp
         writeDescriptor""",
     "Rust's capnp-rpc": """
         client_hook eagerly_evaluate exports_by_cap get_pipelined_cap_move release_export resolve_op set_sender_hosted
         write_descriptor""",
-    "the reader's": "your_network",
+    "the toolchain's atomic_table": "close_with",
+    "the reader's": "other/X your_network",
     "a build's": "crates/vataudit/out/vataudit",
-    "a bug that can't be planted": "taken_number_read_at_the_walk",
 }
 NO_SYMBOLS = {word for words in OF_OTHERS.values() for word in words.split()}
 
@@ -139,6 +140,10 @@ class Page:
         """What stands in backticks."""
         return re.findall(r"`([^`\n]+)`", self.prose)
 
+    def lines(self):
+        """What stands in backticks, and the lines of the blocks."""
+        return self.spans() + [line for block in self.blocks for line in block.lines]
+
     def plain(self):
         """What doesn't."""
         return re.sub(r"`[^`\n]+`", "``", self.prose)
@@ -200,14 +205,24 @@ class Commands:
 
     def check(self, page):
         """Whether each that is named is one, and so its options."""
-        lines = page.spans() + [line for block in page.blocks for line in block.lines]
-        for words in re.findall(r"(?:^|[\s(])vataudit ([^|;>#&)\n]*)", "\n".join(lines), re.M):
+        for words in re.findall(r"(?:^|[\s(])vataudit ([^|;>#&)\n]*)", "\n".join(page.lines()), re.M):
             words = words.split()
             command = next((word for word in words if re.fullmatch(r"[a-z]+", word)), None)
             if command:
                 known = self.options.get(command, set()) | self.common
                 options = {word.split("=")[0] for word in words if word.startswith("--") and word != "--"}
                 must(page.name, command in self.options and options <= known, "no such command", f"vataudit {' '.join(words)}")
+
+
+def check_scripts(page):
+    """Whether the scripts of the repository that are called have the options behind them."""
+    for line in page.lines():
+        called = re.match(r"(?:bash )?((?:tests|packaging|recorders|\.ci)/[\w./-]+) ([^#]*)", line)
+        if called and os.path.isfile(f"{ROOT}/{called[1]}"):
+            with open(f"{ROOT}/{called[1]}", encoding="utf-8") as file:
+                script = file.read()
+            for option in re.findall(r"(?<!\S)--[a-z-]+", called[2]):
+                must(page.name, option in script, "no such option", line)
 
 
 # ---- links, paths and headings
@@ -248,8 +263,8 @@ def check_headings(page, pages):
 def check_paths(page, sources):
     folders = "|".join(("docs", "samples", *(folder for folder in SOURCES if folder != ".ci")))
     named = rf"(?<![\w/.$-])(?:{folders})/[\w./*-]*|(?<![\w/.-])[A-Z]+\.md"
-    lines = [line for block in page.blocks for line in block.lines]
-    for path in sorted(set(re.findall(named, "\n".join([page.plain(), *lines])))):
+    blocks = [line for block in page.blocks for line in block.lines]
+    for path in sorted(set(re.findall(named, "\n".join([page.plain(), *blocks])))):
         path = path.rstrip(".*")
         must(page.name, sources.has_path(path), "no file", path)
 
@@ -299,6 +314,7 @@ def main():
         with tempfile.TemporaryDirectory() as room:
             run_commands(page, room)
         commands.check(page)
+        check_scripts(page)
         check_links(page, pages)
         check_headings(page, pages)
         check_paths(page, sources)

@@ -166,7 +166,7 @@ class File:
 
 
 class Crate:
-    """A crate: its files, and that with its root."""
+    """A crate: its files, its items each with its file, and the modules that its root names."""
 
     def __init__(self, name):
         self.name = name
@@ -177,8 +177,7 @@ class Crate:
         self.root = next(file for file in self.files if file.path in roots)
         self.is_program = self.root.path == roots[1]
         self.items = [(file, item) for file in self.files for item in file.items]
-        modules = {item.head.split()[-1] for item in self.root.items if item.kind == "mod"}
-        self.is_own = lambda path: path.split("::")[0] in modules
+        self.modules = {item.head.split()[-1] for item in self.root.items if item.kind == "mod"}
 
     def declared(self):
         """Its public items with their files, as its root names them; of a program all items of its files."""
@@ -187,7 +186,7 @@ class Crate:
         found = []
         for item in self.root.items:
             use = re.fullmatch(r"pub use ([\w:]+)::(?:\{(.*)\}|(\w+))", item.head, re.S)
-            if use and self.is_own(use[1]):
+            if use and use[1].split("::")[0] in self.modules:
                 found += [self.item_named(name) for name in re.findall(r"\w+", use[2] or use[3])]
             elif item.is_public and item.name:
                 found.append((self.root, item))
@@ -210,7 +209,7 @@ class Crate:
 
 def implemented(head):
     """The trait that an impl is of, or None, and the type."""
-    head = head.removeprefix("impl").strip()
+    head = head.removeprefix("impl").replace("->", "").strip()
     if head.startswith("<"):
         depth = 0
         for at, letter in enumerate(head):
@@ -235,8 +234,8 @@ class Row:
 
     def text(self):
         call = f"{self.kind} [`{self.call}`](../{self.path})".strip()
-        cells = (call, self.does, self.clauses, ", ".join(self.cites))
-        return f"| {' | '.join(cell.replace('|', chr(92) + '|') for cell in cells)} |"
+        cells = [cell.replace("|", "\\|") for cell in (call, self.does, self.clauses, ", ".join(self.cites))]
+        return f"| {' | '.join(cells)} |"
 
 
 def said(doc):
@@ -403,7 +402,11 @@ def main():
     if old.count(LINE) != 1:
         print(f"{PAGE} must have the line {LINE} once")
         return 1
-    new = f"{old.partition(LINE)[0]}{LINE}\n\n{made()}"
+    try:
+        new = f"{old.partition(LINE)[0]}{LINE}\n\n{made()}"
+    except ValueError as why:
+        print(why)
+        return 1
     if sys.argv[1] == "--write":
         with open(f"{ROOT}/{PAGE}", "w", encoding="utf-8") as file:
             file.write(new)

@@ -101,6 +101,13 @@ pub fn result_of(sent: &Sent) -> Thing {
     Thing(sent.pipeline.capability(0))
 }
 
+/// Goes on until nothing is left to do. In futures 0.3.21 `run_until_stalled` stops where a task has woken itself.
+pub fn run(pool: &mut LocalPool) {
+    for _ in 0..100 {
+        pool.run_until_stalled();
+    }
+}
+
 /// A vat with one connection.
 pub struct Vat {
     /// The bootstrap object of the other end.
@@ -136,11 +143,9 @@ impl Vat {
             .expect("it is spawned")
     }
 
-    /// Goes on until nothing is left to do. In futures 0.3.21 `run_until_stalled` stops where a task has woken itself.
+    /// Goes on until nothing is left to do.
     pub fn run(&mut self) {
-        for _ in 0..100 {
-            self.pool.run_until_stalled();
-        }
+        run(&mut self.pool);
     }
 
     /// Why the connection was lost.

@@ -1,6 +1,6 @@
 //! Two calls are made to an object of the vat's own. What the first one calls, later, is delivered before the second.
 use capnp::capability::Promise;
-use found::{ask, object, tell};
+use found::{ask, object, run, tell};
 use futures::executor::LocalPool;
 use futures::task::LocalSpawnExt;
 use futures::FutureExt;
@@ -24,7 +24,7 @@ fn main() {
             .spawn_local(call.promise.map(|_| ()))
             .expect("it is spawned");
     }
-    pool.run_until_stalled();
+    run(&mut pool);
     let got = got.borrow().clone();
     tell(
         got != [1, 2, 3],

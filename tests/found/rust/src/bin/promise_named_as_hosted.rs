@@ -24,11 +24,12 @@ fn main() {
         }
     }
     drop((first, second));
+    let named = named.join(", then ");
     tell(
-        named[1] != "senderPromise 0",
+        named != "senderPromise 0, then senderPromise 0",
         &format!(
-            "the open promise goes out as {}, not each time as senderPromise 0",
-            named.join(", then as ")
+            "the open promise should go out as senderPromise 0 each time; it is {}",
+            named
         ),
     );
 }

@@ -1,8 +1,9 @@
 #!/usr/bin/env bash
 # Renders samples/overtaking_call.svg with librsvg, which knows no variables in style sheets, and sees that it shows dark lines
 # and letters on a light page, and no black field. With a program, sees that it draws just that picture of the sample's case;
-# and that its page of a case of 5,000 records is well formed, has each of them once in the picture and once in the table, that
-# each name in it is the only one, each link leads to one, and nothing is asked of elsewhere.
+# that it marks the calls that never ended, and no others; and that its page of a case of 5,000 records is well formed, has each
+# of them once in the picture and once in the table, that each name in it is the only one, each link leads to one, and nothing
+# is asked of elsewhere.
 # usage: tests/picture.sh [PROGRAM]      (it wants Debian's librsvg2-bin and imagemagick)
 set -uo pipefail
 top=$(realpath "$(dirname "$0")/..")
@@ -25,7 +26,7 @@ if [ -n "${1:-}" ]; then
     (cd "$top/samples" && "$program" --quiet draw overtaking_call.json --out "$room/drawn.svg") >/dev/null
     cmp "$room/drawn.svg" "$sample" || failed=1
     python3 - "$program" "$room" <<'END' || failed=1
-import collections, html.parser, json, os, struct, subprocess, sys
+import collections, html.parser, json, os, re, struct, subprocess, sys
 program, room = sys.argv[1:]
 os.chdir(room)
 ROUNDS = 833                # each of 6 records, and 2 records more
@@ -39,8 +40,12 @@ def message(tag, data, pointers):
     return frame(1 << 32 | 1 << 48, tag, len(data) << 32 | pointers << 48, *data, *[0] * pointers)
 
 
-def passed(kind, call, bytes_sent):
-    return struct.pack("<BIQII", kind, 0, call, 0, len(bytes_sent)) + bytes_sent
+def passed(kind, call, bytes_sent, connection=0):
+    return struct.pack("<BIQII", kind, connection, call, 0, len(bytes_sent)) + bytes_sent
+
+
+def make(call):
+    return struct.pack("<BQQQH", 5, call, 1, 0x1234, 2)
 
 
 first, second = b"", b""
@@ -89,6 +94,23 @@ assert {name for name in page.names if name != "tip"} == rows
 assert {link.removeprefix("#") for link in page.links} == rows
 assert "http" not in text.replace("http://www.w3.org/2000/svg", "") and "@import" not in text
 print(f"passed: a page of {len(rows) // 2} records, {len(text)} bytes")
+
+assert "never ended" not in text
+own = [struct.pack("<BQQ", 1, 1, 1)]            # an object; calls that are made, delivered, and answered or not
+own += [make(1), struct.pack("<BQQ", 7, 1, 1), struct.pack("<BQI", 8, 1, 0)]
+own += [make(2), struct.pack("<BQ", 9, 2), make(3), struct.pack("<BQQ", 12, 3, 2), make(4), struct.pack("<BQQ", 7, 4, 1)]
+own += [passed(10, 5, message(8, [0], 1)), passed(11, 0, message(3, [1 << 48], 1)), passed(10, 0, message(4, [0], 0))]
+own += [passed(10, 6, message(8, [0], 1)), passed(10, 7, message(8, [1], 1)), passed(11, 0, message(3, [1 | 1 << 48], 1), 1)]
+own += [make(8), passed(10, 8, message(8, [2], 1)), passed(10, 0, message(3, [2 | 1 << 48], 1))]
+for vat, log in [(1, b"".join(own)), (2, b"")]:
+    open(f"{vat}.log", "wb").write(b"VATLOG02" + struct.pack("<I", vat) + log)
+json.dump({"logs": ["1.log", "2.log"], "links": [[0, 1, 2], [1, 1, 2]]}, open("case.json", "w"))
+for page in [[], ["--html"]]:
+    subprocess.run([program, "--quiet", "draw", "case.json", "--out", "drawn", *page], stdout=subprocess.DEVNULL)
+    text = open("drawn", encoding="utf-8").read()
+    marked = [int(number) for number in re.findall(">([0-9]+) [^<]*, never ended</text>", text)]
+    assert sorted(marked) == [8, 13, 14, 17] and text.count("never ended") == 4, (page, marked)
+print("passed: the calls that never ended")
 END
 fi
 [ "$failed" = 0 ] && echo "passed: $dark of a thousand pixels are dark"

@@ -1,6 +1,7 @@
 -- What a loop over a list has counted, or has left to look for, one item further.
 use Rattle.std.proofs.Common.{◌≡◌, ◌≢◌, ◌∙◌, ℕ, zero, suc, ◌+◌, ◌-◌, ◌≤◌, Bool, true, false, cond, List, [], ◌∷◌, length, take, drop, Option, Some, None, fold, refl, sym, ap, add-one, arith}
-use Rattle.std.specs.Prelude.{count_by, slice_get}
+use Rattle.std.specs.Prelude.{count_by, slice_get, ◌||◌}
+use Rattle.std.specs.List.{list_any}
 use Rattle.picture.specs.Places.{passes_in, positions_from}
 
 folded_suc : {X Y : Type 0} (f : Y → X → Y) (g : Y → Option X → Y) (xs : List X) (i : ℕ) (start : Y) → ((y : Y) → g y None ≡ y) → ((y : Y) (x : X) → g y (Some x) ≡ f y x)
@@ -86,3 +87,19 @@ dropped (x ∷ xs) (suc i) all = dropped xs i (omega arith)
 -- behind the last item there is none
 pub found_none : {X : Type 0} (p : X → Bool) (xs : List X) (i left : ℕ) (total : Option ℕ) → total ≡ slice_get (positions_from p i (drop i xs)) left → length xs ≤ i → total ≡ None
 found_none p xs i left total so_far all = so_far ∙ ap (λ l. slice_get (positions_from p i l) left) (dropped xs i all) ∙ nothing left
+
+any_suc : {X : Type 0} (p : X → Bool) (xs : List X) (i : ℕ) → list_any p (drop i xs) ≡ (passes_in p (slice_get xs i) || list_any p (drop (suc i) xs))
+any_suc p [] zero = refl
+any_suc p [] (suc i) = refl
+any_suc p (x ∷ xs) zero = refl
+any_suc p (x ∷ xs) (suc i) = any_suc p xs i
+
+-- this item passes
+pub passed : {X : Type 0} (p : X → Bool) (xs : List X) (i : ℕ) (total b : Bool) → total ≡ list_any p (drop i xs) → b ≡ passes_in p (slice_get xs i) → b ≡ true → total ≡ true
+passed p xs i total b so_far is holds = so_far ∙ any_suc p xs i ∙ ap (λ t. t || list_any p (drop (suc i) xs)) (sym is ∙ holds)
+
+-- it doesn't, so one behind it has to
+pub passed_not : {X : Type 0} (p : X → Bool) (xs : List X) (i : ℕ) (total b : Bool) → total ≡ list_any p (drop i xs) → b ≡ passes_in p (slice_get xs i) → b ≡ false
+    → total ≡ list_any p (drop (i + 1) xs)
+passed_not p xs i total b so_far is fails =
+    so_far ∙ any_suc p xs i ∙ ap (λ t. t || list_any p (drop (suc i) xs)) (sym is ∙ fails) ∙ ap (λ k. list_any p (drop k xs)) (sym (add-one i))

@@ -1,5 +1,6 @@
--- The words of a row: the number of its record, what that says in short, and the reason of its exception.
-use Rattle.std.specs.Prelude.{ℕ, ◌-◌, List, [], ◌∷◌, ◌++◌, length, take, Option, Some, None, if◌then◌else◌, nat_lt, codes}
+-- The words of a row: the number of its record, what that says in short, the reason of its exception, and whether it is a call
+-- that never ended.
+use Rattle.std.specs.Prelude.{ℕ, ◌-◌, Bool, List, [], ◌∷◌, ◌++◌, length, take, Option, Some, None, if◌then◌else◌, nat_lt, codes}
 use Rattle.std.specs.Fmt.{decimal}
 use Rattle.std.specs.List.{join_by}
 use Rattle.vat_log.specs.declared.body.Body.{Body}
@@ -62,6 +63,10 @@ said_text (Receive connection call references frame) None = codes "receive, unre
 said_text (Answer call results) None = results_text call results
 said_text event None = body_text event
 
+-- what stands behind a call that never ended
+abbrev pub ending_text : Bool → List ℕ
+ending_text unended = if unended then codes ", never ended" else []
+
 -- the words of a row
-abbrev pub label_text : ℕ → Body → Option RpcMessage → Option (List ℕ) → List ℕ
-label_text number event said reason = decimal number ++ (codes " " ++ (said_text event said ++ short_reason reason))
+abbrev pub label_text : ℕ → Body → Option RpcMessage → Option (List ℕ) → Bool → List ℕ
+label_text number event said reason unended = decimal number ++ (codes " " ++ (said_text event said ++ (short_reason reason ++ ending_text unended)))

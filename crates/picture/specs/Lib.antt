@@ -1,4 +1,5 @@
 pub mod Places
+pub mod Endings
 pub mod Flow
 pub mod Rows
 pub mod ReasonText

@@ -125,7 +125,7 @@ words_begin_at row = record { x = x_of row.column + 14; y = words_y (passage_of 
 
 abbrev pub row_text : Drawn → List ℕ
 row_text row = circle_text (tone_word row.tone) (mark_word row.message) (point_at row.column row.line)
-    ++ words_element (words_begin_at row) (label_text row.place.number row.body row.message row.reason)
+    ++ words_element (words_begin_at row) (label_text row.place.number row.body row.message row.reason row.unended)
 
 -- the name of a record, in the names of its rows
 abbrev pub row_name_text : Place → List ℕ
@@ -232,7 +232,7 @@ picture_text picture = svg_text false picture
 -- how far to the right the words of a row go, and what is left free beside them: a letter is 8 wide at most, and 400 count,
 -- an escaped one as the letters of its name
 abbrev pub row_end : Drawn → ℕ
-row_end row = x_of row.column + 8 * least_of (length (label_text row.place.number row.body row.message row.reason)) 400 + 30
+row_end row = x_of row.column + 8 * least_of (length (label_text row.place.number row.body row.message row.reason row.unended)) 400 + 30
 
 -- the same of a sentence, which has lines
 abbrev pub sentence_end : Option (List ℕ) → ℕ

@@ -1,5 +1,5 @@
 -- What a picture shows of a case: a column for each vat, a row for each record of the window, an arrow for each message.
-use Rattle.std.specs.Prelude.{ℕ, ◌+◌, ◌-◌, ◌/◌, ◌==◌, ◌&&◌, Bool, true, false, List, [], ◌∷◌, length, map, take, Option, Some, None, option_and_then, unwrap_or, if◌then◌else◌, nat_lt, nat_le, slice_get}
+use Rattle.std.specs.Prelude.{ℕ, ◌+◌, ◌-◌, ◌/◌, ◌==◌, ◌&&◌, Bool, true, false, List, [], ◌∷◌, drop, length, map, take, Option, Some, None, option_and_then, unwrap_or, if◌then◌else◌, nat_lt, nat_le, slice_get}
 use Rattle.std.specs.List.{filter_map, range_with_len}
 use Rattle.std.specs.Option.{option_map}
 use Rattle.rpc_view.specs.declared.message.RpcMessage.{RpcMessage}
@@ -18,6 +18,7 @@ use Rattle.case_book.specs.Case.{Contents}
 use Rattle.case_report.specs.declared.report.Report.{Report}
 use Rattle.case_report.specs.declared.report.Report.TheVariants as reports
 use Rattle.report_lines.specs.StepText.{call_of_step}
+use Rattle.picture.specs.Endings.{is_unended}
 use Rattle.picture.specs.Places.{place_of_nth, record_number, step_of_place, log_by_vat, column_of, place_of_frame, place_of_record, mate_of, message_of_body, is_late_return}
 use Rattle.vat_log.specs.Passages.{passage_of}
 use Rattle.picture.specs.declared.record_place.Place.{Place}
@@ -223,7 +224,7 @@ tone_of scene place =
     else (if are_kin scene.maker (maker_at scene.steps place) then Kin else Plain))
 
 -- a row: its record, its column and line, what it says, its message and the reason of its exception, whether it is a late
--- Return, and how it is marked
+-- Return, whether it makes or sends a call that never ended, and how it is marked
 pub record Drawn : Type 0 where
   pub place : Place
   pub column : ℕ
@@ -232,6 +233,7 @@ pub record Drawn : Type 0 where
   pub message : Option RpcMessage
   pub reason : Option (List ℕ)
   pub late : Bool
+  pub unended : Bool
   pub tone : Tone
 
 -- a record of a log is a Return that is late
@@ -248,6 +250,7 @@ drawn scene row place log event = record {
   message = message_of_body (edition_of log) event;
   reason = reason_of_record event;
   late = late_in log place.number event;
+  unended = is_unended (edition_of log) event (message_of_body (edition_of log) event) (drop place.number log.records);
   tone = tone_of scene place;
 }
 

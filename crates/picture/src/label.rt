@@ -2,7 +2,7 @@
 
 ghost use Rattle.std.specs.Prelude.{◌≡◌, Some, false};
 ghost use Rattle.std.specs.Fmt.{WritesOnOk};
-ghost use Rattle.picture.specs.Labels.{results_text, caps_text, label_text, said_text, short_outcome, short_text};
+ghost use Rattle.picture.specs.Labels.{caps_text, ending_text, label_text, results_text, said_text, short_outcome, short_text};
 
 use crate::reason_text::ShortReason;
 use exception_reasons::Reason;
@@ -145,7 +145,15 @@ impl Display for Said<'_> {
     }
 }
 
-/// The words of a row: the number of its record, what that says in short, and the reason of its exception.
+/// What stands behind a call that never ended.
+fn ending_text(unended: bool) -> &'static str
+    ensures { result.now ≡ ending_text unended }
+{
+    if unended { ", never ended" } else { "" }
+}
+
+/// The words of a row: the number of its record, what that says in short, the reason of its exception, and whether it is a call
+/// that never ended.
 #[derive(Clone, Copy)]
 pub struct Label<'a> {
     /// The record's number in its log, counted from 0.
@@ -156,10 +164,12 @@ pub struct Label<'a> {
     pub message: &'a Option<RpcMessage>,
     /// The reason that the frame gives, if it gives one.
     pub reason: &'a Option<Reason>,
+    /// Whether it makes or sends a call that never ended.
+    pub unended: bool,
 }
 
 impl Display for Label<'_> {
-    ghost output = { λ label. Some (label_text label.number label.body.now label.message.now label.reason.now) };
+    ghost output = { λ label. Some (label_text label.number label.body.now label.message.now label.reason.now label.unended) };
 
     fn fmt<W: fmt::Write>(&self, f: &mut Formatter<W>) -> fmt::Result {
         let number = self.number;
@@ -167,7 +177,7 @@ impl Display for Label<'_> {
             body: self.body,
             message: self.message,
         };
-        let reason = ShortReason(self.reason);
-        write!(f, "{number} {said}{reason}")
+        let (reason, ending) = (ShortReason(self.reason), ending_text(self.unended));
+        write!(f, "{number} {said}{reason}{ending}")
     }
 }

@@ -2,9 +2,9 @@
 //!
 //! It stands on `case_report`, whose report a picture is drawn for, on `report_lines`, whose texts stand in it, on
 //! `case_book`, `merge_order`, `run_model`, `vat_log`, `rpc_view` and `exception_reasons`. It opens no file. Where records
-//! stand is said in `specs/Places.antt`, rows and arrows in `specs/Rows.antt`, the words of a row in `specs/Labels.antt` and
-//! `specs/ReasonText.antt`, and what is drawn of all that in `specs/Picture.antt`: [`draw`] makes just these rows and arrows,
-//! and a [`Picture`] is shown as just that text.
+//! stand is said in `specs/Places.antt`, which calls end in `specs/Endings.antt`, rows and arrows in `specs/Rows.antt`, the words
+//! of a row in `specs/Labels.antt` and `specs/ReasonText.antt`, and what is drawn of all that in `specs/Picture.antt`: [`draw`]
+//! makes just these rows and arrows, and a [`Picture`] is shown as just that text.
 //! The Returns that it draws as late are those of the audit, by `vat_rules` and `vat_view`
 //! ([`late_returns_are_the_audits`]).
 #![tactic(auto)]

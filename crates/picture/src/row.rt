@@ -8,6 +8,7 @@ ghost use Rattle.picture.specs.Rows.{drawn, drawn_at, drawn_in, is_place, row_at
 use crate::call_makers::{are_kin, maker_at};
 use crate::label::Label;
 use crate::order::positions::place_at;
+use crate::passing::endings::is_unended;
 use crate::passing::late::is_late;
 use crate::passing::record_messages::message_of;
 use crate::record_place::Place;
@@ -51,6 +52,8 @@ pub struct Row<'a> {
     pub(crate) reason: Option<Reason>,
     /// Whether that is a Return that is late.
     pub(crate) late: bool,
+    /// Whether it makes or sends a call that never ended.
+    pub(crate) unended: bool,
     /// How it is marked.
     pub(crate) tone: Tone,
 }
@@ -68,20 +71,22 @@ impl<'a> Model for Row<'a> {
       message = row.message;
       reason = row.reason;
       late = row.late;
+      unended = row.unended;
       tone = row.tone;
     } };
 }
 
 /// The words of a row.
 pub fn label_of<'a>(row: &'a Row<'_>) -> Label<'a>
-    ensures { label_text result.number result.body.now result.message.now result.reason.now
-        ≡ label_text row.now.place.number row.now.body row.now.message row.now.reason }
+    ensures { label_text result.number result.body.now result.message.now result.reason.now result.unended
+        ≡ label_text row.now.place.number row.now.body row.now.message row.now.reason row.now.unended }
 {
     Label {
         number: row.place.number,
         body: row.body,
         message: &row.message,
         reason: &row.reason,
+        unended: row.unended,
     }
 }
 
@@ -120,6 +125,7 @@ fn drawn<'a>(
 {
     let message = message_of(alloc, body, edition_of(log))?;
     let late = is_late(alloc, log, place.number, body.passage(), &message)?;
+    let unended = is_unended(alloc, log, place.number, body, &message)?;
     Ok(Row {
         place,
         column: column_of(scene.case.logs(), place.vat),
@@ -128,6 +134,7 @@ fn drawn<'a>(
         message,
         reason: record_reason(alloc, body)?,
         late,
+        unended,
         tone: tone_of(scene, place),
     })
 }

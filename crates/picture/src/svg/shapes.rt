@@ -176,7 +176,7 @@ struct Words<'a> {
 }
 
 impl Display for Words<'_> {
-    ghost output = { λ it. Some (words_element it.at (label_text it.label.number it.label.body.now it.label.message.now it.label.reason.now)) };
+    ghost output = { λ it. Some (words_element it.at (label_text it.label.number it.label.body.now it.label.message.now it.label.reason.now it.label.unended)) };
 
     fn fmt<W: fmt::Write>(&self, f: &mut Formatter<W>) -> fmt::Result {
         let Words { at, label } = *self;

@@ -38,12 +38,12 @@ TALLY = {True: 0, False: 0}
 OF_OTHERS = {
     "Cap'n Proto's C++": """
         CapabilityServerSet ClientInner ImportClient PipelineClient PipelineInner PostReturnRpcPipeline
-        PromiseClient QuestionRef QueuedClient QueuedPipeline RevocableServer RpcConnectionState RpcSystemBase exportsByCap
-        getResolutionAtReturnTime handleDisembargo handleReturn receiveCap remoteRefcount resolveExportedPromise resolveOp
+        PromiseClient QuestionRef QueuedClient QueuedPipeline RevocableServer RpcConnectionState RpcServerResponseImpl
+        RpcSystemBase TribbleRaceBlocker exportsByCap getResolutionAtReturnTime handleDisembargo handleReturn receiveCap remoteRefcount resolveExportedPromise resolveOp
         writeDescriptor""",
     "Rust's capnp-rpc": """
-        client_hook eagerly_evaluate exports_by_cap get_pipelined_cap_move release_export resolve_op set_sender_hosted
-        write_descriptor""",
+        ConnectionState client_hook eagerly_evaluate exports_by_cap get_pipelined_cap_move handle_message release_export
+        resolve_exported_promise resolve_op set_sender_hosted write_descriptor write_target""",
     "the toolchain's atomic_table": "close_with",
     "the reader's": "other/X your_network",
     "a build's": "crates/vataudit/out/vataudit",

@@ -34,9 +34,9 @@ _vataudit() {
     COMPREPLY=()
     for ((at = 1; at < COMP_CWORD; at++)); do
         case ${COMP_WORDS[at]} in
-            --help | --version) return ;;
-            --quiet | --json | --reasons) [ -z "$command" ] || return ;;
-            --schema) [ -n "$command" ] || ((at++)) ;;
+            --help | --version | -V) return ;;
+            --quiet | -q | --json | --reasons | --strict) [ -z "$command" ] || return ;;
+            --schema | --allow) [ -n "$command" ] || ((at++)) ;;
             *) [ -n "$command" ] || command=${COMP_WORDS[at]} ;;
         esac
     done
@@ -44,15 +44,19 @@ _vataudit() {
     [ "$word" != = ] || word=
     [ "$before" != = ] || before=${COMP_WORDS[COMP_CWORD - 2]}
     if [ -z "$command" ]; then
-        local options="--quiet --json --reasons --schema --help --version"
+        local options="--quiet --json --reasons --schema --strict --allow --help --version"
         case $before in
             --schema)
                 _vataudit_files "$word" ""
                 return
                 ;;
-            --quiet | --json | --reasons)
-                options="--quiet --json --reasons --schema"
-                options=${options/$before /}
+            --allow)
+                mapfile -t COMPREPLY < <(compgen -W "calls promises loopbacks aborts ends" -- "$word")
+                return
+                ;;
+            --quiet | -q | --json | --reasons | --strict)
+                options="--quiet --json --reasons --schema --strict --allow"
+                options=${options/${before/#-q/--quiet} /}
                 ;;
         esac
         mapfile -t COMPREPLY < <(compgen -W "$commands $options" -- "$word")
@@ -60,6 +64,10 @@ _vataudit() {
     fi
     case $before in
         --workers | --from | --count) return ;;
+        --allow)
+            mapfile -t COMPREPLY < <(compgen -W "calls promises loopbacks aborts ends" -- "$word")
+            return
+            ;;
         --out | --schema)
             _vataudit_files "$word" ""
             return
@@ -67,7 +75,7 @@ _vataudit() {
     esac
     case $word in
         -*)
-            mapfile -t COMPREPLY < <(compgen -W "$(_vataudit_options "$command") --quiet --json --reasons --schema --help" -- "$word")
+            mapfile -t COMPREPLY < <(compgen -W "$(_vataudit_options "$command") --quiet --json --reasons --schema --strict --allow --help" -- "$word")
             [[ ${COMPREPLY[*]} != *= ]] || compopt -o nospace 2>/dev/null
             return
             ;;

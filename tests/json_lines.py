@@ -1,7 +1,7 @@
 #!/usr/bin/env python3
 """Compares what the program prints with --json with what it prints without: each line is made again from its object, by
-what docs/FORMATS.md says of objects; the notes of the last object are those of standard error, those of what is open are made
-again from `open`, and with --quiet there are none of both; standard error stays empty, and the status is the same.
+what docs/FORMATS.md says of objects; the notes of the last object are those of standard error, `open` bears out those of what is
+open, and with --quiet there are none of both; standard error stays empty, and the status is the same.
 
 usage: tests/json_lines.py PROGRAM [FOLDER [COUNT]]     (the built program)
 
@@ -14,6 +14,7 @@ import concurrent.futures
 import json
 import lzma
 import os
+import re
 import shutil
 import subprocess
 import sys
@@ -203,20 +204,9 @@ def line(it):
 
 MOST = 5  # how many of a kind are told
 HOPS = 32  # how many records of a way are told
-
-
-def cut(told, more):
-    """The first of these notes, and how many more there are."""
-    return told[:MOST] + ([more.format(len(told) - MOST)] if len(told) > MOST else [])
-
-
-def of_under_way(it):
-    began = f"connection {it['connection']}, vat {it['vat']} to vat {it['to']}: "
-    if it["messages"] == 1:
-        return began + "1 message was sent and never received"
-    return began + f"{it['messages']} messages were sent and never received, the first of them this"
-
-
+CALL = re.compile(r"call (\d+) of vat (\d+) \(.*?\)(?: waits for .*?| has no Return): it was (sent|received) by record (\d+) as question (\d+) of connection (\d+)(.*)")
+PROMISE = re.compile(r"reference (\d+), vowed by record (\d+) of vat (\d+)")
+HELD = re.compile(r"of vat (\d+): (.*?)(?=; of vat |; and of |$)")
 HOP = {
     "receive": lambda it: f", received by record {it['record']} of vat {it['vat']}",
     "send": lambda it: f", sent on by record {it['record']}",
@@ -237,11 +227,17 @@ def passed(it):
     return "sent" if it["sent"] else "received"
 
 
-def of_question(it):
-    way = "".join(HOP[hop["does"]](hop) for hop in it["way"][:HOPS])
-    stands = ", and so on" if len(it["way"]) > HOPS else STANDS[it["stands"]].format(it["stands_at"])
-    began = f"call {it['call']} of vat {it['vat']} has no Return: it was {passed(it)} by record {it['record']} "
-    return began + f"as question {it['question']} of connection {it['connection']}" + way + stands
+def of_direction(it):
+    began = f"connection {it['connection']}, vat {it['vat']} to vat {it['to']}: "
+    if it["messages"] == 1:
+        return began + f"1 message was sent and never received, by record {it['record']}"
+    return began + f"{it['messages']} messages were sent and never received, from record {it['record']} on"
+
+
+def of_under_way(lists):
+    told = "; ".join(map(of_direction, lists["under_way"][:MOST]))
+    more = len(lists["under_way"]) - MOST
+    return told + (f"; so in {more} more directions" if more > 0 else "")
 
 
 def of_loopback(it):
@@ -249,36 +245,49 @@ def of_loopback(it):
     return began + ", has no echo"
 
 
-def of_promise(it):
-    began = f"the promise of reference {it['reference']}, vowed by record {it['record']} of vat {it['vat']}"
-    return began + ", was neither kept nor broken"
+def is_of_question(it, note):
+    """Whether a note of a call tells of this question, how far its call came and where it stands."""
+    *began, rest = CALL.fullmatch(note).groups()
+    way = "".join(HOP[hop["does"]](hop) for hop in it["way"][:HOPS])
+    stands = ", and so on" if len(it["way"]) > HOPS else STANDS[it["stands"]].format(it["stands_at"])
+    wanted = [it["call"], it["vat"], passed(it), it["record"], it["question"], it["connection"]]
+    behind = rest.removeprefix(way)
+    held_up = (stands + "; vat ", ", where it waits for ", STANDS["delivered"])
+    is_told = behind == stands or behind.startswith(held_up) and it["stands"] in ("waits", "delivered", "ended")
+    return began == list(map(str, wanted)) and rest.startswith(way) and is_told
 
 
-def of_counts(vat, lists):
-    exports = [it for it in lists["numbers"] if it["kind"] == "export"]
-    counts = [
-        (sum(it["sent"] for it in lists["unfinished"]), "question without a Finish", "questions without a Finish"),
-        (len(exports), "export held", "exports held"),
-        (len(lists["numbers"]) - len(exports), "import held", "imports held"),
-        (sum(it["unresolved"] for it in exports), "promise without a Resolve", "promises without a Resolve"),
-    ]
-    shown = ", ".join(f"{count} {one if count == 1 else more}" for count, one, more in counts if count)
-    return [f"open at the end of vat {vat}: {shown}"] if shown else []
+def held_of(note):
+    """How many imports and exports a note of what is held says that each vat holds."""
+    _, began, held = note.rpartition("open at the end ")
+    for vat, parts in HELD.findall(held) if began and not note.startswith("call ") else ():
+        if " more" not in parts:
+            yield int(vat), *(sum(map(int, re.findall(rf"\b(\d+) {kind}s?\b", parts))) for kind in ("import", "export"))
 
 
-def of_vat(vat, lists):
-    told = cut([of_question(it) for it in lists["questions"]], f"vat {vat} has {{}} more questions without a Return")
-    told += cut([of_loopback(it) for it in lists["loopbacks"]], f"vat {vat} has {{}} more loopbacks without an echo")
-    told += cut([of_promise(it) for it in lists["promises"]], f"vat {vat} has {{}} more promises that were neither kept nor broken")
-    return told + of_counts(vat, lists)
-
-
-def of_open(lists):
-    """The notes of what is open, but for those that show a record."""
-    told = cut([of_under_way(it) for it in lists.pop("under_way")], "messages were sent and never received in {} more directions")
-    for vat in sorted({it["vat"] for items in lists.values() for it in items}):
-        told += of_vat(vat, {kind: [it for it in items if it["vat"] == vat] for kind, items in lists.items()})
-    return told
+def wrong_note(lists, notes):
+    """A note of what is open that the object doesn't bear out, or what should be noted and isn't; None where there is neither.
+    A peaceful close has one note, in which what is under way is only counted, and calls that were canceled have none."""
+    is_close = any(note.startswith("a peaceful close: ") for note in notes)
+    told = [note for note in notes if note.startswith("connection ") and "never received" in note]
+    if not is_close and told != ([of_under_way(lists)] if lists["under_way"] else []):
+        return of_under_way(lists)
+    told = [note for note in notes if note.startswith("loopback ")]
+    if told != [of_loopback(it) for it in lists["loopbacks"]][:MOST]:
+        return told
+    questions = iter(lists["questions"])
+    for note in filter(CALL.fullmatch, notes):
+        if not any(is_of_question(it, note) for it in questions):
+            return note
+    promises = {(str(it["reference"]), str(it["record"]), str(it["vat"])) for it in lists["promises"]}
+    for note in notes:
+        if note.startswith("the promise of ") and not promises.issuperset(PROMISE.findall(note)):
+            return note
+        for vat, imports, exports in held_of(note):
+            kinds = [it["kind"] for it in lists["numbers"] if it["vat"] == vat]
+            if imports != kinds.count("import") or exports not in (0, kinds.count("export")):
+                return note
+    return None
 
 
 # ---- runs
@@ -319,8 +328,8 @@ def difference(program, words, folder, given=b""):
         return "notes stand before the last object"
     if (lists is not None) != is_good:
         return f"what is open: {lists}"
-    if lists and of_open(lists) != [note for note in notes if ": record " not in note]:
-        return f"wanted the notes {notes}, came {lists}"
+    if lists and (wrong := wrong_note(lists, notes)):
+        return f"of {lists} comes no {wrong!r}"
     came = [line(it) for it in objects if it]
     if came != lines:
         return f"wanted {lines[:3]}, came {came[:3]}"

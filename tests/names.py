@@ -13,6 +13,9 @@ import subprocess
 import sys
 import tempfile
 
+sys.path.insert(0, os.path.join(os.path.dirname(os.path.abspath(__file__)), "lib"))
+from frames import boot, given
+
 PROGRAM = os.path.realpath(sys.argv[1])
 DATA = os.path.join(os.path.dirname(os.path.dirname(os.path.abspath(__file__))), "trials", "schema_trials", "data")
 STORE = os.path.join(DATA, "store.schema")
@@ -32,9 +35,10 @@ def call(interface, method):
     return frame(POINTER, 2, 0x0003_0003_0000_0000, 1 | method << 32, interface, 0, 8 | 0x0001_0001 << 32, 0, 0, 0, 0)
 
 
-def passage(kind, connection, data):
-    """A frame that is sent (0x0A) or received (0x0B)."""
-    return bytes([kind]) + struct.pack("<IQHI", connection, 0, 0, len(data)) + data
+def passage(kind, connection, data, number=0, references=()):
+    """A frame that is sent (0x0A) or received (0x0B), with the call and the references noted beside it."""
+    beside = struct.pack(f"<IQH{len(references)}QI", connection, number, len(references), *references, len(data))
+    return bytes([kind]) + beside + data
 
 
 def abort(reason):
@@ -54,6 +58,11 @@ ABORTED = b"VATLOG01" + struct.pack("<I", 1) + passage(0x0B, 0, ABORT)
 MADE = (b"VATLOG01" + struct.pack("<I", 1)
         + b"\x01" + struct.pack("<QQ", 1, 7)
         + b"\x05" + struct.pack("<QQQH", 2, 1, STORE_ID, 2))
+ASKED = (b"VATLOG01" + struct.pack("<I", 1)
+         + passage(0x0A, 0, boot(0), 1)
+         + passage(0x0B, 0, given(0, 0), 0, [1])
+         + b"\x05" + struct.pack("<QQQH", 2, 1, STORE_ID, 2)
+         + passage(0x0A, 0, call(STORE_ID, 2), 2))
 
 # reasons, each with what stands behind the opening quotation mark: in a table, and in a picture where that differs
 DRAWN = [(b'<&>"\'\\\n\x7f', '&lt;&amp;&gt;\\"\'\\\\\\x0a\\x7f"', None),
@@ -149,12 +158,35 @@ def main():
         must("another schema", run("--schema", PLAIN, "records", "some.log", folder=room), lines)
         reasons = lines[1].replace("exception\n", 'exception reason "no key\\x0a"\n').replace("abort\n", 'abort reason "no key\\x0a"\n')
         must("reasons", run("records", "some.log", "--reasons", folder=room), (0, reasons, ""))
+        with open(os.path.join(room, "some.frames"), "wb") as it:
+            it.write(EXCEPTION + frame(0) + call(STORE_ID, 2) + ABORT + b"x")
+        status, out, notes = run("frames", "some.frames", folder=room)
+        must("frames", (status, out.count("\n"), out.count("reason")), (2, 5, 0))
+        reasons_of_frames = out.replace("exception\n", 'exception reason "no key\\x0a"\n').replace("abort\n", 'abort reason "no key\\x0a"\n')
+        must("reasons of frames", run("--reasons", "frames", "some.frames", folder=room), (2, reasons_of_frames, notes))
+        must("reasons of frames, and names", run("--reasons", "frames", "some.frames", "--schema", STORE, "--quiet", folder=room),
+             (2, named(reasons_of_frames), ""))
+        must("reasons of no file", run("--reasons", "frames", "no.frames", "--quiet", folder=room), (2, "cannot read\n", ""))
         with open(os.path.join(room, "aborted.log"), "wb") as it:
             it.write(ABORTED)
         with open(os.path.join(room, "closed.log"), "wb") as it:
             it.write(ABORTED + passage(0x0A, 0, ABORT))
-        note = 'note: record 0 of vat 1 received an abort of connection 0: "no key\\x0a"\n'
+        note = 'note: a peaceful close: nothing waits; record 0 of vat 1 received an abort of connection 0: "no key\\x0a"\n'
         must("who aborted", run("vat", "aborted.log", folder=room), (0, "good vat 1 records 1 delivered 0\n", note))
+        with open(os.path.join(room, "asked.log"), "wb") as it:
+            it.write(ASKED)
+        with open(os.path.join(room, "failed.log"), "wb") as it:
+            it.write(ASKED + passage(0x0B, 0, EXCEPTION))
+        held = "open at the end of vat 1: 1 import of Store, by the bootstrap; questions without a Finish: 1 of the bootstrap"
+        waits = f"note: call 2 of vat 1 (Store.list) has no Return: it was sent by record 3 as question 1 of connection 0\nnote: {held}\n"
+        fails = f'note: Store.list failed once, by record 4 of vat 1: "no key\\x0a"\nnote: a peaceful close: nothing waits; {held}, 1 of Store.list\n'
+        for file, records, notes in ("asked.log", 4, waits), ("failed.log", 5, fails):
+            line = f"good vat 1 records {records} delivered 0\n"
+            must(f"notes with names of {file}", run("--schema", STORE, "vat", file, folder=room), (0, line, notes))
+            plain = notes.replace("Store.list", "method 2 of Store").replace("Store", f"interface {STORE_ID:016x}")
+            must(f"notes of {file}", run("vat", file, folder=room), (0, line, plain))
+            told = json.loads(run("--schema", STORE, "--json", "vat", file, folder=room)[1])
+            must(f"notes with names of {file} as JSON", told["notes"], [note.removeprefix("note: ") for note in notes.splitlines()])
         closed = run("vat", "closed.log", folder=room)
         must("the abort before", (closed[1], closed[2].splitlines()[2]),
              ("no vat 1 record 1 rule CLOSED\n", 'note: record 0 received an abort there: "no key\\x0a"'))

@@ -81,12 +81,16 @@ unread="its frame isn't read as a message, for the reason that its line ends wit
 missing="No such file or directory (os error 2)"
 directory="Is a directory (os error 21)"
 
-# what is good has no notes
-must 0 "good vat 2 records 8 delivered 1" "note: open at the end of vat 2: 1 export held" vat pipelined_call.vat2.log
-must 0 "yes vats 2 records 14 delivered 1 under_way 0" "note: open at the end of vat 1: 2 questions without a Finish, 1 import held
-note: open at the end of vat 2: 1 export held" check pipelined_call.json
-open_ends="note: open at the end of vat 1: 2 questions without a Finish, 1 import held
-note: open at the end of vat 2: 1 export held"
+# what is good, and what is open at its end
+asked="method 2 of interface 0000000000001234"
+close="note: a peaceful close: nothing waits; open at the end of"
+questions="questions without a Finish: 1 of the bootstrap, 1 of $asked"
+must 0 "good vat 2 records 8 delivered 1" "$close vat 2: 1 export, by the bootstrap; $questions" vat pipelined_call.vat2.log
+open_ends="$close vat 1: 1 import, by the bootstrap; $questions"
+must 0 "yes vats 2 records 14 delivered 1 under_way 0" "$open_ends" check pipelined_call.json
+must 0 "yes vats 2 records 28 delivered 3 under_way 0" "note: call 3 of vat 1 ($asked) waits for call 3 of vat 2, which waits for call 5 of vat 1: it was sent by record 7 as question 2 of connection 0, received by record 6 of vat 2, sent on by record 10, received by record 12 of vat 1, delivered by record 13, and never answered
+note: open at the end of vat 1: 1 import, by the bootstrap; $questions
+note: open at the end of vat 2: 1 import of interface 0000000000001234, by $asked" check embargoed_calls.json
 must 0 "yes vats 2 records 14 delivered 1 under_way 0" "$open_ends" draw pipelined_call.json --out drawn --count 200
 must 0 "yes vats 2 records 14 delivered 1 under_way 0" "$open_ends" draw pipelined_call.json --out drawn --count 5000 --html
 must 0 "yes vats 2 records 14 delivered 1 under_way 0" "note: --count 201 asks for more rows than are drawn at most: 200
@@ -168,10 +172,23 @@ stopped="note: stopped.log.stopped is there: its recorder stopped before its vat
 must 2 "cannot read" "note: cannot read stopped.log: $missing
 $stopped" vat stopped.log
 mv pipelined_call.vat1.log moved.log
-must 2 "cannot read" "note: cannot read pipelined_call.vat1.log: $missing
-note: below/pipelined_call.vat1.log is there: the names in a case file start in the folder in which vataudit runs, so run it in below" check below/pipelined_call.json
+# the names in a case file are looked for where the program runs, and then beside the case file
+: >below/pipelined_call.vat2.log
+must 0 "yes vats 2 records 14 delivered 1 under_way 0" "$open_ends" check below/pipelined_call.json
+must 0 "yes vats 2 records 14 delivered 1 under_way 0" "$open_ends" draw below/pipelined_call.json --out drawn
+must 0 "order steps 14" "" order below/pipelined_call.json --out made.order
+must 0 "edge vat 1 to obj 2.7 record 4" "" graph below/pipelined_call.json
+rm below/pipelined_call.vat2.log
+mkdir below/below && cp below/pipelined_call.json below/below/deep.json
+must 2 "cannot read" "note: cannot read below/deep.json: $missing" check below/deep.json
+must 2 "cannot read" "note: cannot read pipelined_call.vat1.log: $missing" vat pipelined_call.vat1.log
 must 2 "cannot read" "note: cannot read pipelined_call.vat1.log: $missing" check pipelined_call.json
+must 2 "cannot read" "note: cannot read pipelined_call.vat1.log: $missing" check below/below/deep.json
 mv moved.log pipelined_call.vat1.log
+echo '{"logs": ["gone.log"], "links": []}' >below/gone.json
+: >below/gone.log.stopped
+must 2 "cannot read" "note: cannot read gone.log: $missing
+${stopped/stopped.log/gone.log}" check below/gone.json
 sed "s,pipelined_call,$room/none," pipelined_call.json >below/absolute.json
 must 2 "cannot read" "note: cannot read $room/none.vat1.log: $missing" check below/absolute.json
 must 2 "cannot read" "note: cannot read none.log: $missing" records none.log
@@ -200,10 +217,13 @@ case_of() {
 case_words="is a case file: check, graph, run and order read case files"
 log_words="is a log: vat and records read logs, and a case file names them"
 printf VATLOG01 >cut.log
+head -c 100 pipelined_call.vat2.log >cut_record.log
 field="note: it has 8 bytes, and ends within the field that begins at byte 8"
 bad "bad log Short 8" log cut.log "$field" vat cut.log
 case_of '{"logs": ["pipelined_call.vat1.log", "cut.log", "none.log"], "links": []}'
 bad "bad log Short 8" log cut.log "$field" check tried.json
+bad "bad log Short 97" log cut_record.log "note: it has 100 bytes, and ends within the field that begins at byte 97
+note: vataudit salvage cut_record.log --out NEW writes its whole records to NEW" vat cut_record.log
 { log 7 && printf '\x7f'; } >kind.log
 bad "bad log BadKind 12" log kind.log "note: a record was expected at byte 12, and no record begins so" records kind.log
 { log 7 && number 1 1 && number 8 1 && number 8 5 && printf '\x7f'; } >later.log
@@ -218,6 +238,15 @@ bad "bad log BadMagic" log input.frames "note: its first 8 bytes aren't those of
 bad "bad case" "case file" pipelined_call.vat1.log "note: pipelined_call.vat1.log $log_words" check pipelined_call.vat1.log
 must 2 "bad frame TooManySegments" "note: pipelined_call.vat1.log $log_words" frames pipelined_call.vat1.log
 must 2 "bad frame Short" "note: the last frame of input.frames isn't read: it ends before its segments do" frames input.frames
+printf '\x1f\x8b\x08\0' >gzip.log
+bad "bad log BadMagic" log gzip.log "note: gzip.log is compressed by gzip: gzip -dc writes what is in it" vat gzip.log
+printf '\x28\xb5\x2f\xfd' >zstd.log
+bad "bad log BadMagic" log zstd.log "note: zstd.log is compressed by zstd: zstd -dc writes what is in it" records zstd.log
+printf '\xfd7zXZ\0' >xz.json
+bad "bad case" "case file" xz.json "note: xz.json is compressed by xz: xz -dc writes what is in it" check xz.json
+echo "0 vow reference 1" >text.log
+bad "bad log BadMagic" log text.log "note: text.log is text" vat text.log
+must 2 "bad frame TooManySegments" "note: text.log is text" frames text.log
 printf VATORD01xx >cut.order
 sed 's/}/, "order": "cut.order"}/' pipelined_call.json >cut_order.json
 bad "bad order Short 8" order cut.order "note: it has 10 bytes, and ends within the step that begins at byte 8" check cut_order.json
@@ -283,8 +312,7 @@ unwritten() {
     failed=$((failed + wrong))
 }
 full="No space left on device (os error 28)"
-unwritten "note: open at the end of vat 1: 2 questions without a Finish, 1 import held
-note: open at the end of vat 2: 1 export held
+unwritten "$open_ends
 note: cannot write to standard output: $full" check pipelined_call.json
 unwritten "note: cannot write to standard output: $full" records pipelined_call.vat1.log
 must 2 "" "note: cannot write no_folder/made.order: $missing" order pipelined_call.json --out no_folder/made.order
@@ -317,21 +345,25 @@ bad "bad log Short 8" log cut.log "$field" salvage cut.log --out made
 differs "records, the reader gone" "notes" "$(cat noted)" "" && failed=$((failed + 1)) || passed=$((passed + 1))
 
 # --quiet stands before the command or is the last word, and only once; --out's name and what stands behind -- are names
-for words in "--quiet --quiet vat pipelined_call.vat2.log" "--quiet vat pipelined_call.vat2.log --quiet" "--quiet" "vat --quiet pipelined_call.vat2.log"; do
+for words in "--quiet --quiet vat pipelined_call.vat2.log" "-q vat pipelined_call.vat2.log --quiet" "-q" "--quiet vat pipelined_call.vat2.log --quiet" "--quiet" "vat --quiet pipelined_call.vat2.log"; do
     out=$("$program" $words 2>noted)
     differs "$words" "lines and status" "$out $?" " 2" && failed=$((failed + 1)) || passed=$((passed + 1))
 done
-out=$("$program" vat wrong_object.vat2.log --quiet 2>noted)
-differs "vat wrong_object.vat2.log --quiet" "line, status and notes" "$out $? $(cat noted)" "no vat 2 record 4 rule GOAL 1 " && failed=$((failed + 1)) || passed=$((passed + 1))
+for words in "vat wrong_object.vat2.log --quiet" "vat wrong_object.vat2.log -q" "-q vat wrong_object.vat2.log"; do
+    out=$("$program" $words 2>noted)
+    differs "$words" "line, status and notes" "$out $? $(cat noted)" "no vat 2 record 4 rule GOAL 1 " && failed=$((failed + 1)) || passed=$((passed + 1))
+done
 cp wrong_object.vat2.log ./--quiet
 must 1 "no vat 2 record 4 rule GOAL" "${goal_notes//wrong_object.vat2.log/--quiet}" vat -- --quiet
 rm ./--quiet
 out=$("$program" order pipelined_call.json --out --quiet 2>noted)
 differs "order pipelined_call.json --out --quiet" "lines and status" "$out $?" " 2" && failed=$((failed + 1)) || passed=$((passed + 1))
 
-# --version prints one line, or fails as any line does
-out=$("$program" --version 2>noted)
-differs "--version" "line, status and notes" "${out%,*} $? $(cat noted)" "vataudit $version 0 " && failed=$((failed + 1)) || passed=$((passed + 1))
+# --version and -V print one line, or fail as any line does
+for word in --version -V; do
+    out=$("$program" $word 2>noted)
+    differs "$word" "line, status and notes" "${out%,*} $? $(cat noted)" "vataudit $version 0 " && failed=$((failed + 1)) || passed=$((passed + 1))
+done
 "$program" --version >/dev/full 2>noted
 differs "--version" "status, standard output full" "$?" 2 && failed=$((failed + 1)) || passed=$((passed + 1))
 

@@ -196,7 +196,7 @@ for option in sorted(set(re.findall(r"--[a-z]+", said("--help"))) - set(re.finda
 differ("the completions", offered(""), set(forms) | common)
 for command, form in forms.items():
     options = {re.sub(r"[][]| [A-Z]+", "", it) + "=" * (" " in it) for it in form if "--" in it}
-    differ(f"the completions at {command}", offered(command, "--"), options | {"--quiet", "--json", "--reasons", "--schema", "--help"})
+    differ(f"the completions at {command}", offered(command, "--"), options | {"--quiet", "--json", "--reasons", "--schema", "--strict", "--allow", "--help"})
 print("\n".join(wrong))
 sys.exit(bool(wrong))
 END_OF_LISTS

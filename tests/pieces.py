@@ -82,7 +82,7 @@ def one_log():
             open("one", "wb").write(bytes_of_it)
             line, notes, status = said("vat", "one")
             must(f"vat - of {name}, {len(bytes_of_it)} bytes", said("vat", "-", given=bytes_of_it),
-                 (line, notes.replace("note: one", "note: -").replace(" is one\n", " is -\n"), status))
+                 (line, notes.replace("note: one", "note: -").replace(" is one\n", " is -\n").replace("salvage one ", "salvage - "), status))
     os.remove("one")
 
 

@@ -10,6 +10,7 @@ connection 1 vats 2 and 3. The client asks for the store's item, calls it twice 
 In that of two vats an embargo is needed. Each row that isn't as it must be is named, and the last line counts. docs/RULES.md has a
 table of the causes, which `tests/planted.py PROGRAM --table` prints with all their notes.
 """
+import gzip
 import json
 import os
 import struct
@@ -18,10 +19,11 @@ import sys
 import tempfile
 
 sys.path.insert(0, os.path.join(os.path.dirname(os.path.abspath(__file__)), "lib"))
-from frames import boot, call, finish, frame, given, inner, release, returned, table
+from frames import boot, call, finish, frame, given, inner, piped, release, returned, table
 
 HOST, DELIVER, ANSWER, SEND, RECV, MAKE, FIELD = "host", "deliver", "answer", "send", "recv", "make", "field"
-VOW, FULFIL = "vow", "fulfil"
+VOW, FULFIL, FAULT, ANSWERBY = "vow", "fulfil", "fault", "answerby"
+METHOD = "method 2 of interface 0000000000001234"
 
 
 # --- logs ---
@@ -41,7 +43,7 @@ def spelled(record):
     if kind == FIELD:
         reference, number, path = fields
         return struct.pack(f"<BQQI{len(path)}H", 6, reference, number, len(path), *path)
-    forms = {HOST: ("<BQQ", 1), VOW: ("<BQ", 2), FULFIL: ("<BQQ", 3), MAKE: ("<BQQQH", 5), DELIVER: ("<BQQ", 7)}
+    forms = {HOST: ("<BQQ", 1), VOW: ("<BQ", 2), FULFIL: ("<BQQ", 3), MAKE: ("<BQQQH", 5), DELIVER: ("<BQQ", 7), FAULT: ("<BQ", 9), ANSWERBY: ("<BQQ", 12)}
     return struct.pack(*forms[kind], *fields)
 
 
@@ -230,9 +232,9 @@ def dropped_last():
     """The last of three calls never comes to the store."""
     talk = several("third")
     return talk, talk.yes(), [
-        "note: connection 1, vat 2 to vat 3: 1 message was sent and never received",
+        f"note: connection 1, vat 2 to vat 3: 1 message was sent and never received, by record {talk.at('third sent')[1]}\n",
         record_of(talk, "third sent"),
-        f"note: call 5 of vat 1 has no Return: it was sent by record {talk.at('third to the gateway sent')[1]} as question 3 of connection 0, "
+        f"^note: call 5 of vat 1 ({METHOD}) waits for call 6 of vat 2: it was sent by record {talk.at('third to the gateway sent')[1]} as question 3 of connection 0, "
         f"received by record {talk.at('third to the gateway received')[1]} of vat 2, sent on by record {talk.at('third sent')[1]}, and never received by vat 3",
     ], []
 
@@ -408,7 +410,7 @@ def killed():
     call_item(talk, "second", 2, 4, 5, 4)
     talk.leave_out("second received")
     return talk, talk.yes(), [
-        "note: connection 1, vat 2 to vat 3: 1 message was sent and never received",
+        f"note: connection 1, vat 2 to vat 3: 1 message was sent and never received, by record {talk.at('second sent')[1]}\n",
         record_of(talk, "second sent"),
         f"received by record {talk.at('first received')[1]} of vat 3, delivered by record {talk.at('first delivered')[1]}, and never answered",
         f"sent on by record {talk.at('second sent')[1]}, and never received by vat 3",
@@ -482,9 +484,38 @@ def case_in_another_folder():
             os.replace(os.path.join(folder, name), os.path.join(folder, "there", name))
 
     talk.case, talk.spoil = "there/case.json", spoil
-    return talk, "cannot read", [
-        "note: cannot read vat1.log: ",
-        "note: there/vat1.log is there: the names in a case file start in the folder in which vataudit runs, so run it in there",
+    return talk, talk.yes(), [], []
+
+
+def case_file_moved():
+    """The case file lies in a folder, its logs in another one, and `check` runs beside both."""
+    talk = sound()
+
+    def spoil(folder):
+        for place, names in ("case", ["case.json"]), ("logs", ["vat1.log", "vat2.log", "vat3.log"]):
+            os.makedirs(os.path.join(folder, place), exist_ok=True)
+            for name in names:
+                os.replace(os.path.join(folder, name), os.path.join(folder, place, name))
+
+    talk.case, talk.spoil = "case/case.json", spoil
+    return talk, "cannot read", ["note: cannot read vat1.log: "], []
+
+
+def gzipped():
+    """The store's log was compressed, and keeps its name."""
+    talk = sound()
+
+    def spoil(folder):
+        path = os.path.join(folder, "vat3.log")
+        with open(path, "rb") as log:
+            content = gzip.compress(log.read())
+        with open(path, "wb") as log:
+            log.write(content)
+
+    talk.spoil = spoil
+    return talk, "bad log BadMagic", [
+        "note: the bad log is vat3.log",
+        "note: vat3.log is compressed by gzip: gzip -dc writes what is in it",
     ], []
 
 
@@ -519,6 +550,7 @@ def cut_in_a_record():
     return talk, f"bad log Short {size - len(last)}", [
         "note: the bad log is vat3.log",
         f"note: it has {size - 3} bytes, and ends within the field that begins at byte {size - len(last)}",
+        "note: vataudit salvage vat3.log --out NEW writes its whole records to NEW",
     ], []
 
 
@@ -566,7 +598,7 @@ def received_and_lost():
     talk.leave_out("second returned to the client sent", "second returned to the client received")
     talk.leave_out("second finished by the client sent", "second finished by the client received", "second finished sent", "second finished received")
     return talk, talk.yes(), [
-        "note: call 4 of vat 1 has no Return: it was sent by record ",
+        f"^note: call 4 of vat 1 ({METHOD}) waits for call 5 of vat 2, which waits for call 4 of vat 3: it was sent by record ",
         f"sent on by record {talk.at('second sent')[1]}, received by record {talk.at('second received')[1]} of vat 3, and never delivered, sent on or ended",
     ], ["was sent and never received"]
 
@@ -663,12 +695,12 @@ def turned_back(asked):
     talk.put(1, ANSWER, 1, [(1, [])])
     talk.pass_on(0, 1, 2, given(0, 0), references=((1,), (1,)))
     talk.pass_on(0, 1, 2, boot(0), (2, 2))
-    talk.put(2, VOW, 2)
+    talk.put(2, VOW, 2, mark="vowed")
     talk.put(2, ANSWER, 2, [(2, [])])
     talk.pass_on(0, 2, 1, promised(0, 0), references=((2,), (2,)))
     talk.put(1, MAKE, 3, 2, 0x1234, 2, mark="early made")
     talk.pass_on(0, 1, 2, call(1, 0), (3, 3), mark="early")
-    talk.put(2, FULFIL, 2, 1)
+    talk.put(2, FULFIL, 2, 1, mark="kept")
     talk.pass_on(0, 2, 1, kept(0, 0), references=((1,), (3,)), mark="resolve")
     talk.pass_on(0, 2, 1, call(1, 0), (3, 5), mark="reflected")
     talk.put(1, DELIVER, 5, 7, mark="early delivered")
@@ -706,17 +738,27 @@ def echo_dropped():
     talk = turned_back(True)
     talk.leave_out("echo received", "late delivered")
     return talk, talk.yes(), [
-        "note: connection 0, vat 2 to vat 1: 1 message was sent and never received",
+        f"note: connection 0, vat 2 to vat 1: 1 message was sent and never received, by record {talk.at('echo sent')[1]}\n",
         record_of(talk, "echo sent"),
         f"note: loopback 0 of connection 0, sent by record {talk.at('embargo sent')[1]} of vat 1, has no echo",
     ], []
 
 
-def aborted(reason):
-    """An Abort whose Exception has a reason of these bytes."""
+def exception(reason):
+    """An Exception that has a reason of these bytes."""
     size = len(reason) + 1
     words = reason + bytes(8 - len(reason) % 8)
-    return frame(1, inner(b"", lambda at: (struct.pack("<II", at << 2 | 1, size << 3 | 2), words)))
+    return inner(b"", lambda at: (struct.pack("<II", at << 2 | 1, size << 3 | 2), words))
+
+
+def aborted(reason):
+    """An Abort for a reason of these bytes."""
+    return frame(1, exception(reason))
+
+
+def failed(question, reason):
+    """A Return with an Exception for a reason of these bytes."""
+    return frame(3, inner(struct.pack("<IHHQ", question, 0, 1, 0), exception(reason)))
 
 
 def loopback_refused():
@@ -726,7 +768,7 @@ def loopback_refused():
     talk.leave_out("echo received", "late delivered")
     said = 'by record {}: "expected target->getBrand() == this"\n'.format(talk.at("echo sent")[1])
     return talk, talk.yes(), [
-        "note: vat 2 aborted connection 0 " + said
+        "^note: vat 2 aborted connection 0 " + said
         + f"note: it refuses a loopback whose target led back to its sender, by the records before: its record {talk.at('embargo received')[1]} received that one\n",
     ], []
 
@@ -737,7 +779,7 @@ def aborted_otherwise():
     talk.change("echo sent", frame=aborted(b"no key"))
     talk.leave_out("echo received", "late delivered")
     said = 'by record {}: "no key"\n'.format(talk.at("echo sent")[1])
-    return talk, talk.yes(), ["note: vat 2 aborted connection 0 " + said], ["refuses"]
+    return talk, talk.yes(), ["^note: vat 2 aborted connection 0 " + said], ["refuses"]
 
 
 def resolve_dropped():
@@ -793,6 +835,181 @@ def resolved_beside_another_reference():
     ], ["of its table", "wasn't sent so"]
 
 
+def silent(talk, name):
+    """The store never answers the call of this name."""
+    for mark in (f"{name} returned", f"{name} returned to the client", f"{name} finished by the client", f"{name} finished"):
+        talk.leave_out(f"{mark} sent", f"{mark} received")
+    talk.leave_out(f"{name} answered")
+
+
+def never_answered():
+    """The store's method never returns from the second call."""
+    talk = sound()
+    silent(talk, "second")
+    return talk, talk.yes(), [
+        f"^note: call 4 of vat 1 ({METHOD}) waits for call 5 of vat 2, which waits for call 4 of vat 3: it was sent by record {talk.at('second to the gateway sent')[1]} "
+        f"as question 2 of connection 0, received by record {talk.at('second to the gateway received')[1]} of vat 2, sent on by record {talk.at('second sent')[1]}, "
+        f"received by record {talk.at('second received')[1]} of vat 3, delivered by record {talk.at('second delivered')[1]}, and never answered\n",
+    ], ["peaceful", "never received", "failed"]
+
+
+def canceled():
+    """The client gives up the second call, which the store never answers, and closes its connection in peace."""
+    talk = sound()
+    silent(talk, "second")
+    talk.pass_on(0, 1, 2, finish(2))
+    talk.pass_on(1, 2, 3, finish(2))
+    return talk, talk.yes(), ["^note: a peaceful close: nothing waits; open at the end of vat 1: ", "; 1 canceled call without a Return"], ["waits for"]
+
+
+def fail(talk, name, question, reason):
+    """The store's method fails at the call of this name."""
+    vat, at = talk.at(f"{name} answered")
+    talk.logs[vat][at] = (FAULT, talk.logs[vat][at][1])
+    for mark in (f"{name} returned", f"{name} returned to the client"):
+        for end in ("sent", "received"):
+            talk.change(f"{mark} {end}", frame=failed(question, reason))
+
+
+def failing(names, reason):
+    """The store's method fails at these calls."""
+    talk = sound()
+    for name, question in names.items():
+        fail(talk, name, question, reason)
+    return talk
+
+
+def fails_once():
+    talk = failing({"second": 2}, b"tired")
+    at = talk.at("second returned sent")[1]
+    return talk, talk.yes(), [f'^note: {METHOD} failed once, by record {at} of vat 3: "tired"\nnote: a peaceful close: nothing waits; '], []
+
+
+def fails_twice():
+    talk = failing({"first": 1, "second": 2}, b"tired")
+    one, other = talk.at("first returned sent")[1], talk.at("second returned sent")[1]
+    return talk, talk.yes(), [
+        f'^note: {METHOD} failed twice, first by record {one} of vat 3: "tired", then by record {other} of vat 3: "tired"\nnote: a peaceful close: ',
+    ], []
+
+
+def submitting(question, number):
+    """A Call of the bootstrap object's method 3 whose parameters have the capability senderHosted number."""
+    data = struct.pack("<IHHQQ", question, 3, 0, 0x1234, 0)
+    to = inner(struct.pack("<IHH", 0, 0, 0), None)
+    return frame(2, inner(data, to, inner(b"", inner(b"", 0), table([(1, number)])), None))
+
+
+def kept_parameters(question):
+    """A Return without results that leaves the capabilities of the parameters with its sender."""
+    return frame(3, inner(struct.pack("<IHHQ", question, 1, 0, 0), inner(b"", None, None)))
+
+
+def registry(count):
+    """Vat 1 gives vat 2 so many objects, each by a call of its own."""
+    talk = Conversation()
+    talk.logs, talk.links = {1: [], 2: []}, [[0, 1, 2]]
+    talk.put(2, HOST, 1, 9)
+    talk.pass_on(0, 1, 2, boot(0), (1, 1))
+    talk.put(2, ANSWER, 1, [(1, [])])
+    talk.pass_on(0, 2, 1, given(0, 0), references=((1,), (1,)))
+    for place in range(count):
+        number = 2 + place
+        talk.put(1, HOST, number, 10 + place)
+        talk.put(1, MAKE, number, 1, 0x1234, 3)
+        talk.pass_on(0, 1, 2, submitting(1, place), (number, number), ((number,), (number,)))
+        talk.put(2, DELIVER, number, 9, mark=f"{number} delivered")
+        talk.put(2, ANSWER, number, [], mark=f"{number} answered")
+        talk.pass_on(0, 2, 1, kept_parameters(1), mark=f"{number} returned")
+        talk.pass_on(0, 1, 2, finish(1), mark=f"{number} finished")
+    return talk
+
+
+def kept_capabilities():
+    """Vat 2 keeps the three objects that it was given."""
+    talk = registry(3)
+    return talk, talk.yes(), [
+        "^note: a peaceful close: nothing waits; open at the end of vat 2: 3 imports, by method 3 of interface 0000000000001234; of vat 1: ",
+    ], []
+
+
+def calls_back():
+    """A method of vat 2 calls the object that it was given, and waits for that call, which vat 1 never answers."""
+    talk = registry(1)
+    talk.leave_out("2 answered")
+    for mark in "2 returned", "2 finished":
+        talk.leave_out(f"{mark} sent", f"{mark} received")
+    talk.put(2, MAKE, 5, 2, 0x1234, 2)
+    talk.pass_on(0, 2, 1, call(0, 0), (5, 5), mark="back")
+    talk.put(1, DELIVER, 5, 10, mark="back delivered")
+    return talk, talk.yes(), [
+        f"delivered by record {talk.at('2 delivered')[1]}, and never answered; vat 2 itself waits for its call 5, sent since by record {talk.at('back sent')[1]}\n",
+        f"note: call 5 of vat 2 ({METHOD}) waits for call 5 of vat 1: it was sent by record {talk.at('back sent')[1]} as question 0 of connection 0, "
+        f"received by record {talk.at('back received')[1]} of vat 1, delivered by record {talk.at('back delivered')[1]}, and never answered\n",
+    ], ["peaceful"]
+
+
+def return_lost():
+    """The gateway never passes the second Return on."""
+    talk = sound()
+    talk.leave_out("second returned to the client sent", "second returned to the client received")
+    talk.leave_out("second finished by the client sent", "second finished by the client received", "second finished sent", "second finished received")
+    return talk, talk.yes(), [
+        f"^note: call 4 of vat 1 ({METHOD}) waits for call 5 of vat 2: it was sent by record ",
+        f"sent on by record {talk.at('second sent')[1]}, and never returned\n",
+    ], ["never received"]
+
+
+def finish_forgotten():
+    """Vat 1 sends no Finish of its last call."""
+    talk = registry(2)
+    talk.leave_out("3 finished sent", "3 finished received")
+    return talk, talk.yes(), ["; questions without a Finish: 1 of the bootstrap, 1 of method 3 of interface 0000000000001234"], []
+
+
+def never_kept():
+    """Vat 2 never keeps its promise, for which a call of vat 1 waits."""
+    talk = turned_back(False)
+    talk.leave_out("kept", "early delivered", "late made", "late delivered")
+    for mark in ("resolve", "reflected"):
+        talk.leave_out(f"{mark} sent", f"{mark} received")
+    vowed = talk.at("vowed")[1]
+    return talk, talk.yes(), [
+        f"^note: call 3 of vat 1 ({METHOD}) waits for call 3 of vat 2, which waits for the promise of reference 2 of vat 2: it was sent by record {talk.at('early sent')[1]} "
+        f"as question 1 of connection 0, received by record {talk.at('early received')[1]} of vat 2, where it waits for the promise of reference 2, vowed by record {vowed}\n",
+        f"note: the promise of reference 2, vowed by record {vowed} of vat 2, was neither kept nor broken\n",
+    ], ["peaceful"]
+
+
+def answered_in_a_circle():
+    """Vat 2 says that a call's results are those of a call on these results."""
+    talk = Conversation()
+    talk.logs, talk.links = {1: [], 2: []}, [[0, 1, 2]]
+    talk.put(2, HOST, 1, 9)
+    talk.pass_on(0, 1, 2, boot(0), (1, 1))
+    talk.put(2, ANSWER, 1, [(1, [])])
+    talk.pass_on(0, 2, 1, given(0, 0), references=((1,), (1,)))
+    talk.put(1, MAKE, 2, 1, 0x1234, 2)
+    talk.pass_on(0, 1, 2, call(1, 0), (2, 2))
+    talk.put(1, FIELD, 2, 2, [])
+    talk.put(1, MAKE, 3, 2, 0x1234, 2)
+    talk.pass_on(0, 1, 2, piped(2, 1), (3, 3))
+    talk.put(2, DELIVER, 2, 9)
+    talk.put(2, ANSWERBY, 2, 3)
+    return talk, talk.yes(), [
+        f"^note: call 2 of vat 1 ({METHOD}) waits for call 2 of vat 2, which waits for call 3 of vat 2, which waits for call 3 of vat 2, in a circle: it was sent by ",
+    ], ["peaceful"]
+
+
+def closed_in_peace():
+    """Vat 2 aborts its connection to the client at the end."""
+    talk = sound()
+    talk.pass_on(0, 2, 1, aborted(b"Peer disconnected."), mark="abort")
+    return talk, talk.yes(), [
+        f'^note: a peaceful close: nothing waits; vat 2 aborted connection 0 by record {talk.at("abort sent")[1]}: "Peer disconnected."; open at the end of vat ',
+    ], []
+
+
 PLANTED = [
     ("the first call dropped", dropped_first),
     ("a call in the middle dropped", dropped_middle),
@@ -814,7 +1031,9 @@ PLANTED = [
     ("a case file with a log twice", case_with_a_log_twice),
     ("a case file without a link", case_without_a_link),
     ("a case file with a wrong vat", case_with_a_wrong_vat),
-    ("a case file in another folder", case_in_another_folder),
+    ("a case in another folder", case_in_another_folder),
+    ("a case file moved", case_file_moved),
+    ("a log gzipped", gzipped),
     ("two connections crossed", crossed),
     ("a log of another run", another_run),
     ("a log cut in a record", cut_in_a_record),
@@ -829,6 +1048,17 @@ PLANTED = [
     ("an abort for another reason", aborted_otherwise),
     ("a Release counted up", counted_up),
     ("a received call lost", received_and_lost),
+    ("a call never answered", never_answered),
+    ("a call canceled", canceled),
+    ("a method that calls back", calls_back),
+    ("a Return lost by the gateway", return_lost),
+    ("a call that fails", fails_once),
+    ("calls that fail", fails_twice),
+    ("capabilities kept", kept_capabilities),
+    ("a Finish forgotten", finish_forgotten),
+    ("a promise never kept", never_kept),
+    ("a circle of answers", answered_in_a_circle),
+    ("closed in peace", closed_in_peace),
     ("a HOST forgotten", host_forgotten),
     ("released early", released_early),
     ("delivered out of order", out_of_order),
@@ -846,11 +1076,16 @@ def run(program, talk, folder):
     return ran.stdout.rstrip("\n"), ran.stderr
 
 
+def has(said, note):
+    """Whether this is noted; where a ^ stands before it, first."""
+    return said.startswith(note[1:]) if note.startswith("^") else note in said
+
+
 def faults_of(program, make, folder):
     talk, line, notes, absent = make()
     came, said = run(program, talk, folder)
     faults = [] if came == line else [f"the line is {came!r}, not {line!r}"]
-    faults += [f"no note has {note!r}" for note in notes if note not in said]
+    faults += [f"no note has {note!r}" for note in notes if not has(said, note)]
     faults += [f"a note has {word!r}" for word in absent if word in said]
     return faults, came, said
 
@@ -861,7 +1096,7 @@ def main():
     with tempfile.TemporaryDirectory() as room:
         folder = sys.argv[2] if len(sys.argv) > 2 and sys.argv[2] != "--table" else room
         came, said = run(program, sound(), folder)
-        if not came.startswith("yes vats 3 ") or not all(note.startswith("note: open at the end of vat ") for note in said.splitlines()):
+        if not came.startswith("yes vats 3 ") or not said.startswith("note: a peaceful close: ") or said.count("\n") > 1:
             differ += 1
             print(f"the sound conversation: {came!r} {said!r}")
         for name, make in PLANTED:

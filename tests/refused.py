@@ -38,6 +38,7 @@ COMMANDS = [
     "--reasons records embargoed_calls.vat1.log",
     "frame " + ABORT,
     "frames pipelined_call.vat1.frames",
+    "--reasons frames library.server.frames",
     "migrate pipelined_call.vat1.log --out made",
     "salvage pipelined_call.vat1.log --out made",
     "wire library.client.frames library.server.frames",

@@ -2,8 +2,8 @@
 """Tries `wire` on real and made-up connections: that the two files may change places; that a connection is told yes wherever
 both files are cut at one moment of it, and where one is cut as a note says; that each cut of one file has a line; that the
 logs of --out have just the frames of both files, and that `check` says yes of them; what --one-reference changes; and bad
-input: what is packed or encrypted, begins in the middle, is no file or no frame, and a folder that is there before or can't be
-written.
+input: what is packed, compressed or encrypted, lacks bytes or messages or has them twice, is of two connections, begins in the
+middle, is no file or no frame, and a folder that is there before or can't be written.
 
 usage: tests/wires.py PROGRAM [ROWS [COUNT]]     (the built program)
 
@@ -14,6 +14,7 @@ and `note`, what is noted beside the yes. What isn't as it must be is printed, a
 """
 import base64
 import concurrent.futures
+import gzip
 import json
 import os
 import re
@@ -235,6 +236,52 @@ def try_bad_input(a, b):
     must("two empty files", (status, line) == (0, "yes frames 0 0 delivered 0") and has(notes, "a is empty"), line, notes)
 
 
+def without(content, begin, end):
+    return content[:begin] + content[end:]
+
+
+def try_lost(a, b, other_b):
+    """What is noted of files that lack bytes or messages, have them twice, or are of two connections."""
+    of_a, of_b = frames_of(a), frames_of(b)
+    places = [sum(map(len, of_b[:n])) for n in range(len(of_b))]
+    join = b"".join
+    rows = [
+        ("an abort", a, b, f"b: message {len(of_b) - 1} aborts the connection: \"Peer disconnected.\""),
+        ("8 bytes fewer", a, without(b, places[5] + 40, places[5] + 48),
+         f"b: messages stand again from byte {places[6] - 8} on: bytes are missing behind byte {places[5]}, 8 or more, where message 5 is"),
+        ("8 bytes fewer in A", without(a, len(join(of_a[:6])) + 80, len(join(of_a[:6])) + 88), b,
+         f"a: messages stand again from byte {len(join(of_a[:7])) - 8} on: bytes are missing behind byte {len(join(of_a[:6]))}"),
+        ("100 bytes fewer, of two messages", a, without(b, places[5] - 20, places[5] + 80),
+         f"b: messages stand again from byte {places[6] - 100} on: bytes are missing"),
+        ("begins in a message", a, b[24:], f"b: messages stand from byte {places[1] - 24} on: the capture begins in the middle of one"),
+        ("both begin late", join(of_a[3:]), join(of_b[3:]), "neither file begins with a Bootstrap"),
+        ("ends in a message", a[: len(join(of_a[:8])) + 30], b, f"a ends within message 8, which has {len(of_a[8])} bytes: 30 are there"),
+        ("a Call twice", join(of_a[:9] + of_a[8:]), b, "message 8 of a came twice: message 9 has the same bytes"),
+        ("a Release twice", join(of_a[:6] + of_a[5:]), b, "message 5 of a came twice: message 6 has the same bytes"),
+        ("three messages twice", join(of_a[:9] + of_a[6:]), b,
+         "messages 6 to 8 of a came twice: from message 9 on the same bytes stand once more"),
+        ("a Return twice", a, join(of_b[:4] + of_b[3:]),
+         "a Bootstrap or Call of question 0 may be missing in a: it asks that question 4 times, and it is answered 5 times"),
+        ("a Call fewer", join(of_a[:8] + of_a[9:]), b,
+         "a Bootstrap or Call of question 0 may be missing in a: before message 8 it asks that question 2 times and finishes it 2 times"),
+        ("a Finish fewer", join(of_a[:7] + of_a[8:]), b,
+         "a Finish of question 0 may be missing in a: before message 7 it asks that question 2 times and finishes it 1 times"),
+        ("two connections", a, other_b, "the files are of two connections, or one lacks messages"),
+        ("one file twice", a, a, "both files have the same bytes"),
+        ("gzip", gzip.compress(a), b, "a is compressed by gzip"),
+        ("text", b"0 host reference 1 object 7\n", b, "a is text"),
+    ]
+    for name, one, other, wanted in rows:
+        status, line, notes = wire(one, other)
+        must(f"{name}: the note", has(notes, wanted), line, notes)
+        status, line, _ = wire(one, other, "--quiet")
+        must(f"{name}: a line and its status", LINES.fullmatch(line) and STATUS[line.split(" ")[0]] == status, line)
+    told = sum("messages stand" in note for note in wire(*rows[2][1:3])[2])
+    must("where messages stand again is told once", told == 1, told)
+    for note in (note for row in rows[:1] for note in wire(*row[1:3])[2]):
+        must("of a sound connection nothing is suspected", not re.search("missing|twice|stand", note), note)
+
+
 def try_too_long(a, b):
     """A frame of more than 67,108,864 bytes by its table is too long, whether or not it is cut off."""
     longest, longer = (struct.pack("<II", 0, words) for words in (8388607, 8388608))
@@ -302,13 +349,14 @@ def sample(name):
 def main():
     a, b = sample("library.client"), sample("library.server")
     try_bad_input(a, b)
+    rows = rows_of(f"{ROOT}/tests/wires.json")
+    try_lost(a, b, base64.b64decode(rows[0]["b"]))
     try_too_long(a, b)
     try_streams(a, b)
     try_folder(a, b)
     try_bytes("library", a, b)
     try_bytes("library, exchanged", b, a)
     connections = [("library", a, b, "yes")]
-    rows = rows_of(f"{ROOT}/tests/wires.json")
     for row in rows:
         if "one_reference" in row:
             try_one_reference(row)

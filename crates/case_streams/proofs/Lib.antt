@@ -1,3 +1,4 @@
 mod Closed
 mod Opened
 mod Together
+mod Summing

@@ -1,7 +1,11 @@
 -- What comes of a case, put together of what comes of its files.
-use Rattle.std.proofs.Common.{◌≡◌, ◌⊎◌, inl, inr, ℕ, Bool, false, List, Option, Result, Ok, Err, refl, sym, ap, subst}
-use Rattle.case_report.specs.declared.report.Report.{Report}
+use Rattle.std.proofs.Common.{◌≡◌, ◌∙◌, ◌⊎◌, inl, inr, ℕ, Bool, false, List, [], ◌∷◌, Option, Some, None, Result, Ok, Err, refl, sym, ap, subst}
+use Rattle.std.specs.Prelude.{IsSomeAnd}
 use Rattle.vat_log.specs.Log.{Log}
+use Rattle.vat_log.specs.Reading.{log_of}
+use Rattle.vat_log.specs.declared.error.LogError.{LogError}
+use Rattle.left_open.specs.declared.kinds.Kinds.{Kinds}
+use Rattle.left_open.specs.declared.kinds.LogLeft.{LogLeft}
 use Rattle.case_book.specs.Case.{Contents}
 use Rattle.case_book.specs.declared.link.Link.{Link}
 use Rattle.case_files.specs.CaseFile.{Listed}
@@ -9,10 +13,13 @@ use Rattle.case_files.specs.CaseReading.{CaseComes, ComesOfCase, Done, IsCaseOf,
 use Rattle.case_files.specs.declared.case_fault.CaseFault.{CaseFault}
 use Rattle.case_files.specs.declared.case_fault.CaseFault.TheVariants.{OutOfMemory}
 use Rattle.log_lane.specs.Lanes.{ReadAhead}
-use Rattle.stream_audit.specs.Streamed.{AreReadWhole}
+use Rattle.log_lane.specs.LeftOf.{IsLeftOf}
+use Rattle.stream_audit.specs.Streamed.{AreReadWhole, CameWhole}
+use Rattle.case_streams.specs.Leaving.{AreLeftOf, IsRestlessIn}
+use Rattle.case_streams.specs.declared.file_check.CheckedCase.{CheckedCase}
 use Rattle.case_streams.specs.Checked.{ComesChecked}
 use Rattle.case_files.specs.declared.case_reading.ReadCase.{ReadCase}
-use Rattle.case_streams.specs.Glue.{FileComes, FilesCome, IsSaid, LineComes, SaysLine, with_value}
+use Rattle.case_streams.specs.Glue.{AreLeftIn, AreRestless, FileComes, FilesCome, IsSaid, LineComes, SaysLine, with_value}
 
 -- what comes of a case, with the order that its file names
 abbrev pub with_order : Option (List ℕ) → Result Contents CaseFault → Result ReadCase CaseFault
@@ -70,45 +77,78 @@ module _ {S : Type 0} (gives : Reads S) (old listed_at : S) (name : List ℕ) (l
 
 -- ---- the line
 
+-- what is left of the logs of lanes is left of the logs that came whole
+left_of_whole : (lane : Option ReadAhead) (log : Log) (left : LogLeft) → CameWhole lane log
+    → IsSomeAnd lane (λ l. (log_of l.read.came.bytes ≡ Ok l.read.log) × IsLeftOf l.read.log left) → IsLeftOf log left
+left_of_whole None log left whole is = absurd is
+left_of_whole (Some lane) log left whole is =
+    let same : whole.read ≡ lane = some_same whole.read lane (sym whole.there) in
+    subst (λ (l : Log). IsLeftOf l left) (log_same lane.read.log log (sym is.0 ∙ ap (λ (l : ReadAhead). log_of l.read.came.bytes) (sym same) ∙ whole.spelled)) is.1
+  where
+    some_same : (a b : ReadAhead) → ◌≡◌ {A = Option ReadAhead} (Some a) (Some b) → a ≡ b
+    some_same a b e = cc
+
+    log_same : (a b : Log) → ◌≡◌ {A = Result Log LogError} (Ok a) (Ok b) → a ≡ b
+    log_same a b e = cc
+
+lefts_of_whole : (lanes : List (Option ReadAhead)) (logs : List Log) (lefts : List LogLeft) → AreReadWhole lanes logs → AreLeftIn lanes lefts → AreLeftOf logs lefts
+lefts_of_whole [] [] [] whole is = tt
+lefts_of_whole [] [] (left ∷ lefts) whole is = absurd is
+lefts_of_whole [] (log ∷ logs) lefts whole is = absurd whole
+lefts_of_whole (lane ∷ lanes) [] lefts whole is = absurd whole
+lefts_of_whole (lane ∷ lanes) (log ∷ logs) [] whole is = absurd is
+lefts_of_whole (lane ∷ lanes) (log ∷ logs) (left ∷ lefts) whole is = (left_of_whole lane log left whole.0 is.0, lefts_of_whole lanes logs lefts whole.1 is.1)
+
+restless_in : (strict : Option Kinds) (lanes : List (Option ReadAhead)) (logs : List Log) (restless : Bool) → AreReadWhole lanes logs → AreRestless strict lanes restless → IsRestlessIn strict logs restless
+restless_in None lanes logs restless whole is = is
+restless_in (Some allowed) lanes logs restless whole (lefts, is) = (lefts, (lefts_of_whole lanes logs lefts whole is.0, is.1))
+
 -- what is said of logs that came whole, where all files came
-pub said : {S : Type 0} (gives : Reads S) (names : List (List ℕ)) (name : Option (List ℕ)) (links : List Link) (given : Option (List ℕ)) (flawed : Bool) (old new : S) (lanes : List (Option ReadAhead)) (answer : Result Report CaseFault)
-    → IsSaid lanes links given answer → flawed ≡ false → ((logs : List Log) → AreReadWhole lanes logs → FilesCome gives names name old (Ok (logs, given)) new) → LineComes gives names name links given flawed old answer new
-said gives names name links given flawed old new lanes (Ok line) is sound come =
-    inr (inr (sound, (is.made.logs, come is.made.logs is.made.whole, (is.held, (is.made.accepted, is.made.just, is.made.case, is.tied), is.line, is.headline))))
-said gives names name links given flawed old new lanes (Err found) (inl is) sound come = inl (ap (λ (f : CaseFault). Err f) is)
-said gives names name links given flawed old new lanes (Err found) (inr (logs, whole, case)) sound come = inr (inr (sound, (logs, come logs whole, case)))
+pub said : (strict : Option Kinds) {S : Type 0} (gives : Reads S) (names : List (List ℕ)) (name : Option (List ℕ)) (links : List Link) (given : Option (List ℕ)) (flawed : Bool) (old new : S) (lanes : List (Option ReadAhead)) (answer : Result CheckedCase CaseFault)
+    → IsSaid strict lanes links given answer → flawed ≡ false → ((logs : List Log) → AreReadWhole lanes logs → FilesCome gives names name old (Ok (logs, given)) new) → LineComes strict gives names name links given flawed old answer new
+said strict gives names name links given flawed old new lanes (Ok checked) (is, left) sound come =
+    inr (inr (
+      sound,
+      (
+        is.made.logs,
+        come is.made.logs is.made.whole,
+        (is.held, (is.made.accepted, is.made.just, is.made.case, is.tied), is.line, is.headline, restless_in strict lanes is.made.logs checked.restless is.made.whole left),
+      ),
+    ))
+said strict gives names name links given flawed old new lanes (Err found) (inl is) sound come = inl (ap (λ (f : CaseFault). Err f) is)
+said strict gives names name links given flawed old new lanes (Err found) (inr (logs, whole, case)) sound come = inr (inr (sound, (logs, come logs whole, case)))
 
 -- a fault of a file
-pub fails : {S : Type 0} (gives : Reads S) (names : List (List ℕ)) (name : Option (List ℕ)) (links : List Link) (given : Option (List ℕ)) (flawed : Bool) (old new : S) (found : CaseFault)
-    → (found ≡ OutOfMemory) ⊎ LogsCome gives names old (Err found) new → LineComes gives names name links given flawed old (Err found) new
-fails gives names name links given flawed old new found (inl is) = inl (ap (λ (f : CaseFault). Err f) is)
-fails gives names name links given flawed old new found (inr come) = inr (inl (found, refl, logs_fail gives names name old new found come))
+pub fails : (strict : Option Kinds) {S : Type 0} (gives : Reads S) (names : List (List ℕ)) (name : Option (List ℕ)) (links : List Link) (given : Option (List ℕ)) (flawed : Bool) (old new : S) (found : CaseFault)
+    → (found ≡ OutOfMemory) ⊎ LogsCome gives names old (Err found) new → LineComes strict gives names name links given flawed old (Err found) new
+fails strict gives names name links given flawed old new found (inl is) = inl (ap (λ (f : CaseFault). Err f) is)
+fails strict gives names name links given flawed old new found (inr come) = inr (inl (found, refl, logs_fail gives names name old new found come))
 
-pub files_fail_line : {S : Type 0} (gives : Reads S) (names : List (List ℕ)) (name : Option (List ℕ)) (links : List Link) (given : Option (List ℕ)) (flawed : Bool) (old new : S) (found : CaseFault)
-    → {Y : Type 0} → (◌≡◌ {A = Result Y CaseFault} (Err found) (Err OutOfMemory)) ⊎ FilesCome gives names name old (Err found) new → LineComes gives names name links given flawed old (Err found) new
-files_fail_line gives names name links given flawed old new found {Y = Y} (inl is) = inl (again is)
+pub files_fail_line : (strict : Option Kinds) {S : Type 0} (gives : Reads S) (names : List (List ℕ)) (name : Option (List ℕ)) (links : List Link) (given : Option (List ℕ)) (flawed : Bool) (old new : S) (found : CaseFault)
+    → {Y : Type 0} → (◌≡◌ {A = Result Y CaseFault} (Err found) (Err OutOfMemory)) ⊎ FilesCome gives names name old (Err found) new → LineComes strict gives names name links given flawed old (Err found) new
+files_fail_line strict gives names name links given flawed old new found {Y = Y} (inl is) = inl (again is)
   where
-    again : ◌≡◌ {A = Result Y CaseFault} (Err found) (Err OutOfMemory) → ◌≡◌ {A = Result Report CaseFault} (Err found) (Err OutOfMemory)
+    again : ◌≡◌ {A = Result Y CaseFault} (Err found) (Err OutOfMemory) → ◌≡◌ {A = Result CheckedCase CaseFault} (Err found) (Err OutOfMemory)
     again e = cc
-files_fail_line gives names name links given flawed old new found (inr come) = inr (inl (found, refl, come))
+files_fail_line strict gives names name links given flawed old new found (inr come) = inr (inl (found, refl, come))
 
 -- with other links, where a file is flawed
-pub links_of : {S : Type 0} (gives : Reads S) (names : List (List ℕ)) (name : Option (List ℕ)) (links used : List Link) (given : Option (List ℕ)) (flawed : Bool) (old new : S) (result : Result Report CaseFault)
-    → (flawed ≡ false → used ≡ links) → LineComes gives names name used given flawed old result new → LineComes gives names name links given false old result new
-links_of gives names name links used given flawed old new result same (inl is) = inl is
-links_of gives names name links used given flawed old new result same (inr (inl failed)) = inr (inl failed)
-links_of gives names name links used given flawed old new result same (inr (inr (sound, (logs, come, says)))) =
-    inr (inr (refl, (logs, come, subst (λ (ls : List Link). SaysLine logs ls given result) (same sound) says)))
+pub links_of : (strict : Option Kinds) {S : Type 0} (gives : Reads S) (names : List (List ℕ)) (name : Option (List ℕ)) (links used : List Link) (given : Option (List ℕ)) (flawed : Bool) (old new : S) (result : Result CheckedCase CaseFault)
+    → (flawed ≡ false → used ≡ links) → LineComes strict gives names name used given flawed old result new → LineComes strict gives names name links given false old result new
+links_of strict gives names name links used given flawed old new result same (inl is) = inl is
+links_of strict gives names name links used given flawed old new result same (inr (inl failed)) = inr (inl failed)
+links_of strict gives names name links used given flawed old new result same (inr (inr (sound, (logs, come, says)))) =
+    inr (inr (refl, (logs, come, subst (λ (ls : List Link). SaysLine strict logs ls given result) (same sound) says)))
 
 -- the line of a case
-pub checked : {S : Type 0} (gives : Reads S) (old mid new : S) (name : List ℕ) (listed : Listed) (result : Result Report CaseFault) → ListedComes gives name old (Ok listed) mid → FileComes gives listed mid result new
-    → ComesChecked gives old name result new
-checked gives old mid new name listed result lists (given, inl is) = subst (λ (r : Result Report CaseFault). ComesChecked gives old name r new) (sym is) (inl refl)
-checked gives old mid new name listed result lists (given, inr (inl (found, is, files))) =
-    subst (λ (r : Result Report CaseFault). ComesChecked gives old name r new) (sym is) (inr (files_fail gives old mid name listed lists found new files))
-checked gives old mid new name listed (Ok line) lists (given, inr (inr (sound, (logs, come, (held, case, line_is, headline))))) =
-    (record { case = held; order = given }, (case_comes gives old mid name listed lists logs given (Ok held) new come case, line_is, headline))
-checked gives old mid new name listed (Err found) lists (given, inr (inr (sound, (logs, come, says)))) =
+pub checked : (strict : Option Kinds) {S : Type 0} (gives : Reads S) (old mid new : S) (name : List ℕ) (listed : Listed) (result : Result CheckedCase CaseFault) → ListedComes gives name old (Ok listed) mid → FileComes strict gives listed mid result new
+    → ComesChecked strict gives old name result new
+checked strict gives old mid new name listed result lists (given, inl is) = subst (λ (r : Result CheckedCase CaseFault). ComesChecked strict gives old name r new) (sym is) (inl refl)
+checked strict gives old mid new name listed result lists (given, inr (inl (found, is, files))) =
+    subst (λ (r : Result CheckedCase CaseFault). ComesChecked strict gives old name r new) (sym is) (inr (files_fail gives old mid name listed lists found new files))
+checked strict gives old mid new name listed (Ok line) lists (given, inr (inr (sound, (logs, come, (held, case, line_is, headline, left))))) =
+    (record { case = held; order = given }, (case_comes gives old mid name listed lists logs given (Ok held) new come case, line_is, headline, (logs, (case.1.just_logs, left))))
+checked strict gives old mid new name listed (Err found) lists (given, inr (inr (sound, (logs, come, says)))) =
     inr (case_comes gives old mid name listed lists logs given (Err found) new come says)
 
 -- where no memory was wanted

@@ -1,15 +1,22 @@
 -- This file serves the contracts of private functions alone, and is no part of the meaning.
-use Rattle.std.specs.Prelude.{◌≡◌, ◌⊎◌, ℕ, ◌<◌, Bool, true, false, ◌||◌, List, ◌++◌, drop, length, Option, Some, None, Result, Ok, Err, IsSomeAnd, MatchOption, is_some}
+use Rattle.std.specs.Prelude.{◌≡◌, ◌⊎◌, ℕ, ◌<◌, Bool, true, false, ◌||◌, List, [], ◌∷◌, ◌++◌, drop, length, map, sum, Option, Some, None, Result, Ok, Err, IsSomeAnd, MatchOption, is_some}
+use Rattle.std.specs.List.{list_any}
 use Rattle.byte_pieces.specs.Coming.{CameSoFar, MayBeAll}
 use Rattle.byte_pieces.specs.declared.fault.PieceFault.TheVariants as piece
 use Rattle.audit_core.specs.Lines.{IsLineOf, LineMeansHeadline}
-use Rattle.case_report.specs.declared.report.Report.{Report}
 use Rattle.case_book.specs.Case.{Contents}
 use Rattle.case_book.specs.declared.link.Link.{Link}
 use Rattle.case_files.specs.CaseFile.{Listed}
 use Rattle.case_files.specs.CaseReading.{Done, IsCaseOf, LogsCome, NamedOrderComes, Reads, Step, Then}
 use Rattle.case_files.specs.declared.case_fault.CaseFault.{CaseFault}
 use Rattle.case_files.specs.declared.case_fault.CaseFault.TheVariants as fault
+use Rattle.left_open.specs.Peace.{is_restless}
+use Rattle.left_open.specs.declared.kinds.Kinds.{Kinds}
+use Rattle.left_open.specs.declared.kinds.LogLeft.{LogLeft}
+use Rattle.log_lane.specs.LeftOf.{IsLeftOf}
+use Rattle.case_streams.specs.Leaving.{IsRestlessIn, is_case_restless}
+use Rattle.case_streams.specs.declared.leaving.LeftSum.{LeftSum}
+use Rattle.case_streams.specs.declared.file_check.CheckedCase.{CheckedCase}
 use Rattle.case_streams.specs.declared.file_check.LogsPassed.{LogsPassed}
 use Rattle.case_streams.specs.declared.file_check.LogsPassed.TheVariants.{Whole, Fault}
 use Rattle.case_streams.specs.declared.file_check.LogsPassed.TheVariants as passed
@@ -91,29 +98,47 @@ FilesCome gives names name = Then (LogsCome gives names) (λ logs. Then (NamedOr
 
 -- ---- what is answered
 
+-- this is left of the logs of lanes
+abbrev pub AreLeftIn : List (Option ReadAhead) → List LogLeft → Type 0
+AreLeftIn [] [] = Unit {0}
+AreLeftIn (lane ∷ lanes) (left ∷ lefts) = IsSomeAnd lane (λ l. (log_of l.read.came.bytes ≡ Ok l.read.log) × IsLeftOf l.read.log left) × AreLeftIn lanes lefts
+AreLeftIn _ _ = ⊥
+
+-- what was summed up of them, beside the kinds that are allowed
+pub record IsSummed (allowed : Kinds) (lefts : List LogLeft) (summed : LeftSum) : Type 0 where
+  pub restless : summed.restless ≡ list_any (is_restless allowed) lefts
+  pub sent : summed.sent ≡ sum (map (λ left. left.sent) lefts)
+  pub received : summed.received ≡ sum (map (λ left. left.received) lefts)
+
+-- whether something is left that isn't allowed, by what is left of the logs of lanes
+abbrev pub AreRestless : Option Kinds → List (Option ReadAhead) → Bool → Type 0
+AreRestless None lanes restless = restless ≡ false
+AreRestless (Some allowed) lanes restless = (lefts : List LogLeft) × (AreLeftIn lanes lefts × (restless ≡ is_case_restless allowed lefts))
+
 -- what is said of the case of logs that came whole
-abbrev pub IsSaid : List (Option ReadAhead) → List Link → Option (List ℕ) → Result Report CaseFault → Type 0
-IsSaid lanes links given (Ok line) = IsLineOfStreams lanes links given line
-IsSaid lanes links given (Err found) = (found ≡ fault.OutOfMemory) ⊎ ((logs : List Log) × AreReadWhole lanes logs × IsCaseOf logs links (Err found))
+abbrev pub IsSaid : Option Kinds → List (Option ReadAhead) → List Link → Option (List ℕ) → Result CheckedCase CaseFault → Type 0
+IsSaid strict lanes links given (Ok checked) = IsLineOfStreams lanes links given checked.report × AreRestless strict lanes checked.restless
+IsSaid strict lanes links given (Err found) = (found ≡ fault.OutOfMemory) ⊎ ((logs : List Log) × AreReadWhole lanes logs × IsCaseOf logs links (Err found))
 
 -- what came of logs
-abbrev pub IsPassed : List (Option ReadAhead) → List Link → Option (List ℕ) → LogsPassed → Type 0
-IsPassed lanes links given (Whole answer) = ((logs : List Log) × AreReadWhole lanes logs) × IsSaid lanes links given answer
-IsPassed lanes links given (Fault place found) = IsFirstFault lanes place found
-IsPassed lanes links given passed.Refused = Unit {0}
+abbrev pub IsPassed : Option Kinds → List (Option ReadAhead) → List Link → Option (List ℕ) → LogsPassed → Type 0
+IsPassed strict lanes links given (Whole answer) = ((logs : List Log) × AreReadWhole lanes logs) × IsSaid strict lanes links given answer
+IsPassed strict lanes links given (Fault place found) = IsFirstFault lanes place found
+IsPassed strict lanes links given passed.Refused = Unit {0}
 
 -- what comes of logs and an order that make a case, by these links: its line, or why it has none
-abbrev pub SaysLine : List Log → List Link → Option (List ℕ) → Result Report CaseFault → Type 0
-SaysLine logs links given (Ok line) = (held : Contents) × IsCaseOf logs links (Ok held) × IsLineOf held given line × LineMeansHeadline held.logs line
-SaysLine logs links given (Err found) = IsCaseOf logs links (Err found)
+abbrev pub SaysLine : Option Kinds → List Log → List Link → Option (List ℕ) → Result CheckedCase CaseFault → Type 0
+SaysLine strict logs links given (Ok checked) =
+    (held : Contents) × IsCaseOf logs links (Ok held) × IsLineOf held given checked.report × LineMeansHeadline held.logs checked.report × IsRestlessIn strict logs checked.restless
+SaysLine strict logs links given (Err found) = IsCaseOf logs links (Err found)
 
 -- what comes of the files of a case: a fault of one, or what is said of all; where one is flawed it is a fault
-abbrev pub LineComes : {S : Type 0} → Reads S → List (List ℕ) → Option (List ℕ) → List Link → Option (List ℕ) → Bool → S → Result Report CaseFault → S → Type 0
-LineComes gives names name links given flawed old result new =
+abbrev pub LineComes : Option Kinds → {S : Type 0} → Reads S → List (List ℕ) → Option (List ℕ) → List Link → Option (List ℕ) → Bool → S → Result CheckedCase CaseFault → S → Type 0
+LineComes strict gives names name links given flawed old result new =
     (result ≡ Err fault.OutOfMemory)
     ⊎ ((found : CaseFault) × (result ≡ Err found) × FilesCome gives names name old (Err found) new)
-    ⊎ ((flawed ≡ false) × ((logs : List Log) × FilesCome gives names name old (Ok (logs, given)) new × SaysLine logs links given result))
+    ⊎ ((flawed ≡ false) × ((logs : List Log) × FilesCome gives names name old (Ok (logs, given)) new × SaysLine strict logs links given result))
 
 -- the same of the files that a case file lists
-abbrev pub FileComes : {S : Type 0} → Reads S → Listed → S → Result Report CaseFault → S → Type 0
-FileComes gives listed old result new = (given : Option (List ℕ)) × LineComes gives listed.logs listed.order listed.links given false old result new
+abbrev pub FileComes : Option Kinds → {S : Type 0} → Reads S → Listed → S → Result CheckedCase CaseFault → S → Type 0
+FileComes strict gives listed old result new = (given : Option (List ℕ)) × LineComes strict gives listed.logs listed.order listed.links given false old result new

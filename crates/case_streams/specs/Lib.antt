@@ -1,2 +1,3 @@
+pub mod Leaving
 pub mod Checked
 pub mod Glue

@@ -26,11 +26,13 @@ pub(crate) struct OpenLogs<P: Pieces> {
     pub(crate) headless: Option<(ReadFault, P)>,
 }
 
-/// Opens the logs of these names, in their order, up to the first that has no header.
+/// Opens the logs of these names, in their order, up to the first that has no header; and has them watched, where that is
+/// wanted.
 pub(crate) fn open_logs<S: Source>(
     alloc: Global,
     source: &mut S,
     names: &[String],
+    are_watched: bool,
 ) -> Result<OpenLogs<S::Reader>, AllocError>
     ensures same { source.new ≡ source.old }
     ensures fresh { IfOk result (λ logs. AreFresh logs.lanes.items) }
@@ -39,7 +41,7 @@ pub(crate) fn open_logs<S: Source>(
     let mut lanes = Vec::new(alloc);
     for name in names {
         match LogStream::begin(alloc, source.open(name.as_str())) {
-            Ok(stream) => lanes.push(LogLane::new(alloc, stream))?,
+            Ok(stream) => lanes.push(LogLane::new(alloc, stream, are_watched))?,
             Err(bad) => {
                 return Ok(OpenLogs {
                     lanes,

@@ -3,7 +3,7 @@
 use crate::cases::link_notes::{put_counterpart, put_received};
 use crate::cases::order_cause::put_order_cause;
 use crate::cases::other_findings::{put_links, put_others};
-use crate::good_answers::{Form, Notes, put_last_log, put_yes};
+use crate::good_answers::{NoteForm, Notes, put_last_log, put_yes};
 use crate::heard::{Heard, HeardAnswer};
 use crate::inputs::bad_frame::put_unread_frame;
 use crate::inputs::bad_input::{put_fault, put_left_out};
@@ -155,7 +155,7 @@ fn put_answer<S: SearchingSource>(
     heard: &Heard,
     source: &S,
     hex: Option<&str>,
-    form: Form,
+    form: NoteForm<'_>,
 ) -> Option<String> {
     if let HeardAnswer::Fault(fault) = heard.told {
         put_fault(text, source, hex, fault);
@@ -178,7 +178,7 @@ pub fn notes_of<S: SearchingSource>(
     heard: &Heard,
     source: &S,
     hex: Option<&str>,
-    form: Form,
+    form: NoteForm<'_>,
 ) -> Result<Notes, AllocError> {
     let mut text = NoteText::new(alloc);
     for name in source.left_out() {

@@ -6,7 +6,7 @@
 //! text all notes are put. Of its own it has `cases`, frames that differ, calls that overtake, what was found of the other logs;
 //! `inputs`, which file is bad or can't be read, and why; `wires`, connections that were judged by their bytes; `long_logs`,
 //! records of logs that are too long to be kept; `joins`, logs whose connections were joined; `row_limit`, rows of a picture; and
-//! `write_notes`, writes that fail.
+//! `write_notes`, writes that fail. [`FrameReasons`] has the reasons that stand behind the lines of `frames`.
 //!
 //! A note says what was found in the records, and nothing else: where a search finds nothing the note is left out. A note costs
 //! one walk over the log that it tells of. What is open at the end of a case is told by its logs, which are read once more for it.
@@ -15,6 +15,7 @@
 
 mod answer_notes;
 mod cases;
+mod frame_reasons;
 mod good_answers;
 mod heard;
 mod inputs;
@@ -25,7 +26,8 @@ mod wires;
 mod write_notes;
 
 pub use answer_notes::notes_of;
-pub use good_answers::{Form, Notes};
+pub use frame_reasons::FrameReasons;
+pub use good_answers::{Form, NoteForm, Notes};
 pub use heard::Heard;
 pub use inputs::unread::SearchingSource;
 pub use joins::JoinNote;

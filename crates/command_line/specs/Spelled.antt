@@ -2,6 +2,7 @@
 use Rattle.std.specs.Prelude.{◌≡◌, ◌⊎◌, ◌==◌, ◌≤◌, ⊤, ℕ, Bool, false, List, [], ◌∷◌, Option, Some, None, codes, map, option_map}
 use Rattle.std.specs.Str.{bytes_eq}
 use Rattle.std.specs.Str.Parse.{IsNumeral, digits_value, without_leading_plus}
+use Rattle.left_open.specs.declared.kinds.Kinds.{Kinds}
 use Rattle.command_line.specs.declared.command.Command.{Command}
 use Rattle.command_line.specs.declared.command.Command.TheVariants.{Check, Order, Graph, Run, Draw, Vat, Records, Frame, Frames, Migrate, Salvage, Wire, Join}
 use Rattle.clap.specs.Simple.{subcommand_rows_of}
@@ -107,12 +108,12 @@ SpellsJoin words names out = (rows : List Row) × (IsRead words (codes "join") r
 
 -- the words spell the command
 abbrev pub Spells : List (List ℕ) → Command → Type 0
-Spells words (Check name many) = SpellsAuditor (codes "check") words name.now many
+Spells words (Check name many strict) = SpellsAuditor (codes "check") words name.now many × (strict ≡ None)
 Spells words (Order name out) = SpellsWriter (codes "order") words name.now out.now
 Spells words (Graph name is_dot many) = SpellsGraph words name.now is_dot many
 Spells words (Run name many) = SpellsAuditor (codes "run") words name.now many
 Spells words (Draw name out first steps is_page many) = SpellsDraw words name.now out.now first steps is_page many
-Spells words (Vat file) = SpellsOne (codes "vat") words file.now
+Spells words (Vat file strict) = SpellsOne (codes "vat") words file.now × (strict ≡ None)
 Spells words (Records file first many) = SpellsRecords words file.now first many
 Spells words (Frame hex is_later) = SpellsFlagged (codes "frame") later words hex.now is_later
 Spells words (Frames file) = SpellsOne (codes "frames") words file.now
@@ -132,12 +133,12 @@ IsAuditor name = (name ≡ codes "check") ⊎ ((name ≡ codes "run") ⊎ (name 
 
 -- a command that asks for workers asks for 1 to 64
 abbrev pub HasWorkers : Command → Type 0
-HasWorkers (Check name many) = (1 ≤ many) × (many ≤ 64)
+HasWorkers (Check name many strict) = (1 ≤ many) × (many ≤ 64)
 HasWorkers (Order name out) = ⊤
 HasWorkers (Graph name is_dot many) = (1 ≤ many) × (many ≤ 64)
 HasWorkers (Run name many) = (1 ≤ many) × (many ≤ 64)
 HasWorkers (Draw name out first steps is_page many) = (1 ≤ many) × (many ≤ 64)
-HasWorkers (Vat name) = ⊤
+HasWorkers (Vat name strict) = ⊤
 HasWorkers (Records name first many) = ⊤
 HasWorkers (Frame hex is_later) = ⊤
 HasWorkers (Frames name) = ⊤
@@ -148,12 +149,12 @@ HasWorkers (Join logs out) = ⊤
 
 -- the name of the file or folder that a command writes, if it writes one
 abbrev pub out_of : Command → Option (List ℕ)
-out_of (Check name many) = None
+out_of (Check name many strict) = None
 out_of (Order name out) = Some out.now
 out_of (Graph name is_dot many) = None
 out_of (Run name many) = None
 out_of (Draw name out first steps is_page many) = Some out.now
-out_of (Vat name) = None
+out_of (Vat name strict) = None
 out_of (Records name first many) = None
 out_of (Frame hex is_later) = None
 out_of (Frames name) = None
@@ -161,3 +162,9 @@ out_of (Migrate file is_later out) = Some out.now
 out_of (Salvage file out) = Some out.now
 out_of (Wire one another has_one out) = option_map (λ name. name.now) out
 out_of (Join logs out) = Some out.now
+
+-- the same command, where the exit status says whether something is left at the end, but for these kinds
+abbrev pub strictly : Kinds → Command → Option Command
+strictly allowed (Check name many strict) = Some (Check name many (Some allowed))
+strictly allowed (Vat name strict) = Some (Vat name (Some allowed))
+strictly allowed _ = None

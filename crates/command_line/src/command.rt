@@ -1,10 +1,10 @@
 //! Commands, and the words that spell them.
 
-ghost use Rattle.std.specs.Prelude.{◌≡◌, ◌⊎◌, ◌≤◌, ℕ, List, IfOk, IfErr, IsErrAnd, IsSome, Some, map, option_map};
+ghost use Rattle.std.specs.Prelude.{◌≡◌, ◌⊎◌, ◌≤◌, ℕ, List, IfOk, IfErr, IsErrAnd, IfSome, IsSome, Some, map, option_map};
 ghost use Rattle.clap.specs.Kinds.{FailsBy};
 ghost use Rattle.clap.specs.Words.{fault_of, first_value, found_of, kind_of, matched_of, raw_values};
 ghost use Rattle.command_line.specs.Parser.{most, program, workers};
-ghost use Rattle.command_line.specs.Spelled.{AreMatchesOf, HasWorkers, IsChecked, IsNumber, Spells, is_set, out_of};
+ghost use Rattle.command_line.specs.Spelled.{AreMatchesOf, HasWorkers, IsChecked, IsNumber, Spells, is_set, out_of, strictly};
 ghost use Rattle.command_line.specs.TakenWords.{HasBadNumber, IsTaken};
 
 use crate::parser::{
@@ -12,6 +12,7 @@ use crate::parser::{
 };
 use clap::error::ErrorKind;
 use clap::{ArgMatches, Error};
+use left_open::Kinds;
 use std::alloc::{AllocError, Global};
 use std::convert::AsStr;
 use std::fmt::{self, Debug, Formatter, Write};
@@ -19,10 +20,12 @@ use std::fmt::{self, Debug, Formatter, Write};
 /// What the program is asked to do.
 #[derive(PartialEq, Eq, Drop)]
 pub enum Command<'a> {
-    /// Audit the case that the source has under this name, by so many workers, 1 to 64.
+    /// Audit the case that the source has under this name, by so many workers, 1 to 64. Where kinds are given that are allowed,
+    /// the exit status says whether something else is left at its end.
     Check {
         case: &'a str,
         workers: u32,
+        strict: Option<Kinds>,
     },
     /// Make the order of the case that the source has under this name, and write it to a file.
     Order {
@@ -52,9 +55,11 @@ pub enum Command<'a> {
         html: bool,
         workers: u32,
     },
-    /// Audit one vat's log, which the source has under this name.
+    /// Audit one vat's log, which the source has under this name. Where kinds are given that are allowed, the exit status says
+    /// whether something else is left at its end.
     Vat {
         file: &'a str,
+        strict: Option<Kinds>,
     },
     /// Print the records of the log that the source has under this name: from this one on, counted from 0, or from the
     /// first; and as many, or all.
@@ -122,6 +127,24 @@ impl<'a> Command<'a> {
             Command::Check { .. } | Command::Graph { .. } | Command::Run { .. } => None,
             Command::Vat { .. } | Command::Records { .. } => None,
             Command::Frame { .. } | Command::Frames { .. } => None,
+        }
+    }
+
+    /// The same command, where the exit status says whether something is left at the end, but for these kinds. None where it
+    /// isn't `check` or `vat`.
+    pub fn strictly(self, allowed: Kinds) -> Option<Command<'a>>
+        ensures strict { result ≡ strictly allowed self.entry }
+        ensures workers { HasWorkers self.entry → IfSome result HasWorkers }
+    {
+        let strict = Some(allowed);
+        match self {
+            Command::Check { case, workers, .. } => Some(Command::Check {
+                case,
+                workers,
+                strict,
+            }),
+            Command::Vat { file, .. } => Some(Command::Vat { file, strict }),
+            _ => None,
         }
     }
 }
@@ -209,6 +232,7 @@ fn command_in<'a>(alloc: Global, matches: &ArgMatches<'a>) -> Result<Command<'a>
         "check" => Ok(Command::Check {
             case: input,
             workers: workers_of(given),
+            strict: None,
         }),
         "order" => Ok(Command::Order {
             case: input,
@@ -231,7 +255,10 @@ fn command_in<'a>(alloc: Global, matches: &ArgMatches<'a>) -> Result<Command<'a>
             html: is_set(given, HTML),
             workers: workers_of(given),
         }),
-        "vat" => Ok(Command::Vat { file: input }),
+        "vat" => Ok(Command::Vat {
+            file: input,
+            strict: None,
+        }),
         "records" => Ok(Command::Records {
             file: input,
             from: number_of(given, FROM),
@@ -283,7 +310,7 @@ fn read_command<'a, S: AsStr>(alloc: Global, words: &'a [S]) -> Result<Command<'
 }
 
 /// The command that the words spell, of which the first is the program's name, and none but that. Each number and each flag of
-/// it is the one that a word gives, or what stands where none is given.
+/// it is the one that a word gives, or what stands where none is given; none of them asks for what is left at an end.
 ///
 /// The words are `vat FILE` or `frames FILE`, where before or after the last of these may stand `--`, and it may begin with a
 /// hyphen only after that or where it is `-`; or, as `clap` reads them, `check CASE` or `run CASE` with `--workers N` if wanted,

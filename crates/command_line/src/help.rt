@@ -22,18 +22,25 @@ the lines, an example and the exit status.
 
 Notes for people go to standard error: the record of a no, what its rule asks and
 what led to it, or why an input is bad. They change no line and no status.
-vataudit --quiet COMMAND .. leaves them out, as --quiet does as the last word.
+vataudit --quiet COMMAND .. leaves them out, as --quiet does as the last word;
+-q is short for it.
 
 vataudit --json COMMAND .. prints each line as a JSON object, and the notes in
 the last one; --json may be the last word, too.
 
 vataudit --schema FILE COMMAND .. gives interfaces and methods their names beside
 their numbers. capnp compile -o- x.capnp > FILE writes FILE; several may be given.
-vataudit --reasons records FILE prints behind a record the reason of its exception.
-Both may be the last words, too.
+vataudit --reasons records FILE prints behind a record the reason of its exception;
+frames does so too. Both may be the last words, too.
 
-vataudit --version prints the version, and the kit by which it was proved, if
-that is known.
+vataudit --strict check CASE, or vat FILE, ends with status 4 in the place of 0
+where something is left at the end: calls without an answer, promises that were
+neither resolved nor given back, loopbacks without an echo, aborts where one of
+these was left, and of a case messages that never came (ends). --allow KIND, which
+may be given more than once, leaves out calls, promises, loopbacks, aborts or ends.
+
+vataudit --version, or -V, prints the version, and the kit by which it was
+proved, if that is known.
 
 Examples:
   $ vataudit vat samples/pipelined_call.vat2.log
@@ -46,7 +53,8 @@ Exit status:
   1  no
   2  outside of what is judged, bad input, a failed write, a wrong command line,
      or one that asks for help, which is printed on standard error
-  3  memory ran out";
+  3  memory ran out
+  4  yes or good, and with --strict something is left at the end";
 
 /// The command `check`.
 pub const CHECK: Reader<'static> = Reader {
@@ -381,8 +389,9 @@ prints one line:
   cannot read               a file can't be read, or has over 1073741824 bytes
   out of memory
 
-A case file is a JSON object with logs, a list of paths from the working
-directory, links, a list of [CONNECTION, VAT, VAT], and, if wanted, order, a path.
+A case file is a JSON object with logs, a list of paths, links, a list of
+[CONNECTION, VAT, VAT], and, if wanted, order, a path. Its paths are tried from the
+working directory, and then from the folder of the case file.
 What FILE held before is lost.",
     after_help: "\
 Example:

@@ -1,7 +1,10 @@
 -- Answers of a case that was judged.
-use Rattle.std.proofs.Common.{◌≡◌, ◌∙◌, ◌≤◌, ◌⊎◌, ℕ, Bool, List, None, Result, Ok, Err, refl, sym, ap, subst, inl, inr, arith}
+use Rattle.std.proofs.Common.{◌≡◌, ◌≢◌, ◌∙◌, ◌≤◌, ◌⊎◌, ℕ, Bool, List, Option, None, Result, Ok, Err, refl, sym, ap, subst, inl, inr, arith}
 use Rattle.std.proofs.lemmas.Option.{none-some}
 use Rattle.case_book.specs.Case.{Contents}
+use Rattle.case_streams.specs.declared.file_check.CheckedCase.{CheckedCase}
+use Rattle.left_open.specs.Peace.{strict_status}
+use Rattle.left_open.specs.declared.kinds.Kinds.{Kinds}
 use Rattle.case_book.specs.Ties.{tie_fault_of}
 use Rattle.audit_core.specs.Refusals.{IsRefusal, refusal_of}
 use Rattle.audit_core.specs.declared.error.AuditError.{AuditError}
@@ -19,9 +22,9 @@ use Rattle.report_lines.specs.declared.answer.Answer.TheVariants.{Fault, Report}
 use Rattle.report_lines.specs.declared.fault.Fault.{Fault as FaultOf}
 use Rattle.report_lines.specs.Faults.{of_case}
 use Rattle.report_lines.specs.Lines.{SaysAnswer, answer_status, answer_text, line, report_status, report_text}
-use Rattle.command_run.specs.CommandAnswers.{AnswersReportOf, IsOutOfMemory}
+use Rattle.command_run.specs.CommandAnswers.{AnswersCheck, AnswersReportOf, IsOutOfMemory}
 use Rattle.command_run.specs.Glue.{ComesAsLine, ComesJudged, Prints}
-use Rattle.command_run.specs.ReportAnswers.{AnswersGraph, AnswersReport, AnswersRun, Reporting}
+use Rattle.command_run.specs.ReportAnswers.{AnswersGraph, AnswersRun, Reporting}
 use Rattle.command_run.specs.Runs.{Writing}
 use Rattle.command_run.proofs.Told.{prints_by}
 
@@ -79,30 +82,65 @@ same_status (OrderStep step) = refl
 same_status NoOrder = refl
 same_status (Yes vats records delivered under_way run) = refl
 
-pub line_is : {S : Type 0} (gives : Reads S) (old new : S) (name : List ℕ) (found : ReportOf) → ComesAsLine gives old name (Ok found) new
-    → AnswersReportOf AnswersReport gives old name new (line (answer_text (Report found))) (answer_status (Report found))
-line_is gives old new name found came =
+pub line_is : (strict : Option Kinds) {S : Type 0} (gives : Reads S) (old new : S) (name : List ℕ) (found : CheckedCase) → ComesAsLine strict gives old name (Ok found) new
+    → AnswersCheck strict gives old name new (line (answer_text (Report found.report))) (strict_status found.restless (answer_status (Report found.report)))
+line_is strict gives old new name found came =
     let of = came.1.1 in
-    inl (Ok came.0, (came.1.0, (of.whole, (of.report, (ap (λ (r : ReportOf). line (report_text r)) of.line ∙ ap line (same_text of.whole), ap report_status of.line ∙ same_status of.whole)))))
+    inl (
+      Ok came.0,
+      (
+        came.1.0,
+        (
+          of.whole,
+          (
+            found.restless,
+            (
+              of.report,
+              came.1.2,
+              ap (λ (r : ReportOf). line (report_text r)) of.line ∙ ap line (same_text of.whole),
+              ap (λ n. strict_status found.restless n) (ap report_status of.line ∙ same_status of.whole),
+            ),
+          ),
+        ),
+      ),
+    )
 
 -- a fault of the case answers it, or memory ran out
-faulty : {S : Type 0} (answers : Reporting) (gives : Reads S) (old new : S) (name : List ℕ) (found : CaseFault) → ComesOfCase gives old name (Err found) new
-    → AnswersReportOf answers gives old name new (line (answer_text (Fault (of_case found)))) (answer_status (Fault (of_case found)))
-faulty answers gives old new name fault.OutOfMemory comes = inr (refl, refl)
-faulty answers gives old new name fault.CannotRead comes = inl (Err fault.CannotRead, (comes, ((λ e. cc), (refl, refl))))
-faulty answers gives old new name fault.Form comes = inl (Err fault.Form, (comes, ((λ e. cc), (refl, refl))))
-faulty answers gives old new name (fault.Log x) comes = inl (Err (fault.Log x), (comes, ((λ e. cc), (refl, refl))))
-faulty answers gives old new name (fault.Order x) comes = inl (Err (fault.Order x), (comes, ((λ e. cc), (refl, refl))))
-faulty answers gives old new name (fault.Refused x) comes = inl (Err (fault.Refused x), (comes, ((λ e. cc), (refl, refl))))
-faulty answers gives old new name (fault.Untied x) comes = inl (Err (fault.Untied x), (comes, ((λ e. cc), (refl, refl))))
+abbrev FaultSays : {S : Type 0} → Reads S → S → List ℕ → S → List ℕ → ℕ → Type 0
+FaultSays gives old name new text status =
+    ((found : CaseFault) × (ComesOfCase gives old name (Err found) new × ((found ≢ fault.OutOfMemory) × SaysAnswer (Fault (of_case found)) text status))) ⊎ IsOutOfMemory text status
+
+faulty : {S : Type 0} (gives : Reads S) (old new : S) (name : List ℕ) (found : CaseFault) → ComesOfCase gives old name (Err found) new
+    → FaultSays gives old name new (line (answer_text (Fault (of_case found)))) (answer_status (Fault (of_case found)))
+faulty gives old new name fault.OutOfMemory comes = inr (refl, refl)
+faulty gives old new name fault.CannotRead comes = inl (fault.CannotRead, (comes, ((λ e. cc), (refl, refl))))
+faulty gives old new name fault.Form comes = inl (fault.Form, (comes, ((λ e. cc), (refl, refl))))
+faulty gives old new name (fault.Log x) comes = inl (fault.Log x, (comes, ((λ e. cc), (refl, refl))))
+faulty gives old new name (fault.Order x) comes = inl (fault.Order x, (comes, ((λ e. cc), (refl, refl))))
+faulty gives old new name (fault.Refused x) comes = inl (fault.Refused x, (comes, ((λ e. cc), (refl, refl))))
+faulty gives old new name (fault.Untied x) comes = inl (fault.Untied x, (comes, ((λ e. cc), (refl, refl))))
+
+fault_says : {S : Type 0} (gives : Reads S) (old new : S) (name : List ℕ) (fault : FaultOf) → ComesJudged gives old name (Err fault) new
+    → FaultSays gives old name new (line (answer_text (Fault fault))) (answer_status (Fault fault))
+fault_says gives old new name fault (inl memory) =
+    subst (λ (f : FaultOf). FaultSays gives old name new (line (answer_text (Fault f))) (answer_status (Fault f))) (sym memory) (inr (refl, refl))
+fault_says gives old new name fault (inr (found, (comes, is))) =
+    subst (λ (f : FaultOf). FaultSays gives old name new (line (answer_text (Fault f))) (answer_status (Fault f))) (sym is)
+    (faulty gives old new name found comes)
 
 pub fault_is : {S : Type 0} (answers : Reporting) (gives : Reads S) (old new : S) (name : List ℕ) (fault : FaultOf) → ComesJudged gives old name (Err fault) new
     → AnswersReportOf answers gives old name new (line (answer_text (Fault fault))) (answer_status (Fault fault))
-fault_is answers gives old new name fault (inl memory) =
-    subst (λ (f : FaultOf). AnswersReportOf answers gives old name new (line (answer_text (Fault f))) (answer_status (Fault f))) (sym memory) (inr (refl, refl))
-fault_is answers gives old new name fault (inr (found, (comes, is))) =
-    subst (λ (f : FaultOf). AnswersReportOf answers gives old name new (line (answer_text (Fault f))) (answer_status (Fault f))) (sym is)
-    (faulty answers gives old new name found comes)
+fault_is answers gives old new name fault came = elim (fault_says gives old new name fault came) [
+  | inl found ↦ inl (Err found.0, found.1)
+  | inr memory ↦ inr memory
+]
+
+pub fault_checked : (strict : Option Kinds) {S : Type 0} (gives : Reads S) (old new : S) (name : List ℕ) (fault : FaultOf) → ComesJudged gives old name (Err fault) new
+    → AnswersCheck strict gives old name new (line (answer_text (Fault fault))) (answer_status (Fault fault))
+fault_checked strict gives old new name fault came = elim (fault_says gives old new name fault came) [
+  | inl found ↦ inl (Err found.0, found.1)
+  | inr memory ↦ inr memory
+]
 
 -- a report that isn't yes has its line
 abbrev pub IsNoYes : ReportOf → Type 0
@@ -141,7 +179,7 @@ said answers shows gives old new name report wrote out now r came each printed =
 
 -- ---- a case whose logs were read piece by piece
 
-pub fault_comes : {S : Type 0} (gives : Reads S) (old new : S) (name : List ℕ) (found : CaseFault) → (found ≡ fault.OutOfMemory) ⊎ ComesOfCase gives old name (Err found) new
-    → ComesAsLine gives old name (Err (of_case found)) new
-fault_comes gives old new name found (inl is) = inl (ap of_case is)
-fault_comes gives old new name found (inr comes) = inr (found, (comes, refl))
+pub fault_comes : (strict : Option Kinds) {S : Type 0} (gives : Reads S) (old new : S) (name : List ℕ) (found : CaseFault) → (found ≡ fault.OutOfMemory) ⊎ ComesOfCase gives old name (Err found) new
+    → ComesAsLine strict gives old name (Err (of_case found)) new
+fault_comes strict gives old new name found (inl is) = inl (ap of_case is)
+fault_comes strict gives old new name found (inr comes) = inr (found, (comes, refl))

@@ -15,6 +15,12 @@ pub told : {W E : Type 0} (answers : List ℕ → ℕ → Type 0) (wrote : Writi
 told answers wrote old new answer (Ok s) is status says = (line (answer_text answer), subst (λ n. answers (line (answer_text answer)) n) (sym status) is, says)
 told answers wrote old new answer (Err e) is status says = (line (answer_text answer), (answer_status answer, is))
 
+-- one answer, with a status of its own
+pub told_by : {W E : Type 0} (answers : List ℕ → ℕ → Type 0) (wrote : Writing W) (old new : W) (text : List ℕ) (status : ℕ) (r : Result ℕ E)
+    → answers text status → IfOk r (λ s. s ≡ status) → OnOk r (wrote old text new) → Prints answers wrote old new r
+told_by answers wrote old new text status (Ok s) is same says = (text, subst (λ n. answers text n) (sym same) is, says)
+told_by answers wrote old new text status (Err e) is same says = (text, (status, is))
+
 -- a write failed
 pub torn : {W E : Type 0} (P : E → Type 0) (answers : List ℕ → ℕ → Type 0) (wrote : Writing W) (old new : W) (r : Result ℕ E) (text : List ℕ) (status : ℕ)
     → answers text status → IsErrAnd r P → Prints answers wrote old new r

@@ -1,5 +1,5 @@
 -- The line and the exit status that answer the bytes of a log, the bytes of a frame, and a frame in hexadecimal.
-use Rattle.std.specs.Prelude.{◌≡◌, ℕ, Bool, true, false, List, length, Result, Ok, Err}
+use Rattle.std.specs.Prelude.{◌≡◌, ℕ, Bool, true, false, List, length, Option, Some, None, Result, Ok, Err}
 use Rattle.hex.specs.Hex.{decode_of}
 use Rattle.hex.specs.declared.error.FromHexError.{FromHexError}
 use Rattle.cap_reader.specs.Defaults.{default_limits}
@@ -8,6 +8,10 @@ use Rattle.rpc_view.specs.declared.edition.Edition.TheVariants.{First, Later}
 use Rattle.rpc_view.specs.Message.{message_of_bytes}
 use Rattle.rpc_view.specs.declared.message.RpcMessage.{RpcMessage}
 use Rattle.rpc_view.specs.declared.view_error.ViewError.{ViewError}
+use Rattle.left_open.specs.Peace.{is_restless, strict_status}
+use Rattle.left_open.specs.declared.kinds.Kinds.{Kinds}
+use Rattle.left_open.specs.declared.kinds.LogLeft.{LogLeft}
+use Rattle.log_lane.specs.LeftOf.{IsLeftOf}
 use Rattle.vat_log.specs.declared.error.LogError.{LogError}
 use Rattle.vat_log.specs.Log.{Log}
 use Rattle.vat_log.specs.Reading.{log_of}
@@ -19,16 +23,22 @@ use Rattle.report_lines.specs.declared.fault.Fault.TheVariants.{BadHex}
 use Rattle.report_lines.specs.Faults.{of_log, of_view}
 use Rattle.report_lines.specs.Lines.{SaysAnswer, answer_text, line, outcome_status, log_outcome_text}
 
--- a line and a status answer what a log reads as: its fault, or what the rules say of it
-abbrev pub AnswersReading : Result Log LogError → List ℕ → ℕ → Type 0
-AnswersReading (Err fault) text status = SaysAnswer (Fault (of_log fault)) text status
-AnswersReading (Ok log) text status =
-    (outcome : Outcome) × IsTrueOf log default_limits outcome
-    × (text ≡ line (log_outcome_text log.vat (length log.records) outcome)) × (status ≡ outcome_status outcome)
+-- whether something is left of a log, beside the kinds that are allowed; nothing is where that isn't asked
+abbrev pub IsRestless : Option Kinds → Log → Bool → Type 0
+IsRestless None log restless = restless ≡ false
+IsRestless (Some allowed) log restless = (left : LogLeft) × (IsLeftOf log left × (restless ≡ is_restless allowed left))
+
+-- a line and a status answer what a log reads as: its fault, or what the rules say of it. Where it is asked what is left, and
+-- something is that isn't allowed, the status of a good log is another
+abbrev pub AnswersReading : Option Kinds → Result Log LogError → List ℕ → ℕ → Type 0
+AnswersReading strict (Err fault) text status = SaysAnswer (Fault (of_log fault)) text status
+AnswersReading strict (Ok log) text status =
+    (outcome : Outcome) × ((restless : Bool) × IsTrueOf log default_limits outcome × IsRestless strict log restless
+    × (text ≡ line (log_outcome_text log.vat (length log.records) outcome)) × (status ≡ strict_status restless (outcome_status outcome)))
 
 -- a line and a status answer the bytes of a log
-abbrev pub AnswersLog : List ℕ → List ℕ → ℕ → Type 0
-AnswersLog bytes text status = AnswersReading (log_of bytes) text status
+abbrev pub AnswersLog : Option Kinds → List ℕ → List ℕ → ℕ → Type 0
+AnswersLog strict bytes text status = AnswersReading strict (log_of bytes) text status
 
 -- the answer to what a frame's bytes read as, the message or the first fault
 abbrev pub view_answer : Result RpcMessage ViewError → Answer

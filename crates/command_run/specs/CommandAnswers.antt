@@ -2,6 +2,7 @@
 use Rattle.std.specs.Prelude.{◌≡◌, ◌≢◌, ◌⊎◌, ℕ, Bool, List, [], ◌++◌, Option, None, Result, Ok, Err}
 use Rattle.rpc_view.specs.declared.edition.Edition.{Edition}
 use Rattle.vat_log.specs.Reading.{log_of}
+use Rattle.left_open.specs.declared.kinds.Kinds.{Kinds}
 use Rattle.case_files.specs.CaseReading.{ComesOfCase, Read, Reads}
 use Rattle.case_files.specs.declared.case_fault.CaseFault.{CaseFault}
 use Rattle.case_files.specs.declared.case_reading.ReadCase.{ReadCase}
@@ -14,7 +15,7 @@ use Rattle.command_run.specs.MigrationAnswers.{AnswersMigrated}
 use Rattle.command_run.specs.OrderAnswers.{AnswersCase}
 use Rattle.command_run.specs.FrameFiles.{AnswersFrames, Falls, lines}
 use Rattle.command_run.specs.RecordAnswers.{AnswersRecords, ListsBefore}
-use Rattle.command_run.specs.ReportAnswers.{AnswersJudged, Reporting}
+use Rattle.command_run.specs.ReportAnswers.{AnswersChecked, AnswersJudged, Reporting}
 use Rattle.command_run.specs.SalvageAnswers.{AnswersSalvaged}
 
 -- the line and the status for out of memory
@@ -22,9 +23,9 @@ abbrev pub IsOutOfMemory : List ℕ → ℕ → Type 0
 IsOutOfMemory text status = SaysAnswer (Fault OutOfMemory) text status
 
 -- a line and a status answer what a source gave as a log
-abbrev pub AnswersSource : Read → List ℕ → ℕ → Type 0
-AnswersSource (Ok bytes) text status = AnswersLog bytes text status ⊎ IsOutOfMemory text status
-AnswersSource (Err fault) text status = SaysAnswer (Fault (of_source fault)) text status
+abbrev pub AnswersSource : Option Kinds → Read → List ℕ → ℕ → Type 0
+AnswersSource strict (Ok bytes) text status = AnswersLog strict bytes text status ⊎ IsOutOfMemory text status
+AnswersSource strict (Err fault) text status = SaysAnswer (Fault (of_source fault)) text status
 
 -- a line and a status answer a frame in hexadecimal, read by an edition
 abbrev pub AnswersFrame : Edition → List ℕ → List ℕ → ℕ → Type 0
@@ -75,3 +76,9 @@ AnswersOrder gives old name text status bytes new =
 abbrev pub AnswersReportOf : Reporting → {S : Type 0} → Reads S → S → List ℕ → S → List ℕ → ℕ → Type 0
 AnswersReportOf answers gives old name new text status =
     ((came : Result ReadCase CaseFault) × (ComesOfCase gives old name came new × AnswersJudged answers came text status)) ⊎ IsOutOfMemory text status
+
+-- The line and a status answer the report of the case that a source has under a name, where it may be asked what is left; or
+-- memory ran out, and then nothing is said of what the source was asked for.
+abbrev pub AnswersCheck : Option Kinds → {S : Type 0} → Reads S → S → List ℕ → S → List ℕ → ℕ → Type 0
+AnswersCheck strict gives old name new text status =
+    ((came : Result ReadCase CaseFault) × (ComesOfCase gives old name came new × AnswersChecked strict came text status)) ⊎ IsOutOfMemory text status

@@ -15,15 +15,18 @@ use Rattle.byte_pieces.specs.Coming.{CameSoFar, MayBeAll}
 use Rattle.case_files.specs.CaseReading.{ComesOfCase, Read, Reads}
 use Rattle.case_files.specs.declared.case_fault.CaseFault.{CaseFault}
 use Rattle.case_files.specs.declared.case_reading.ReadCase.{ReadCase}
-use Rattle.cap_reader.specs.Defaults.{default_limits}
 use Rattle.vat_log.specs.Log.{Log}
 use Rattle.vat_log.specs.Reading.{log_of}
 use Rattle.vat_log.specs.Streams.{CannotBeRead, StreamSoFar}
 use Rattle.vat_log.specs.declared.read_fault.ReadFault.{ReadFault}
 use Rattle.vat_log.specs.declared.read_fault.ReadFault.TheVariants as read
-use Rattle.vat_rules.specs.Audit.{IsTrueOf}
 use Rattle.vat_log.specs.Spelling.{log_bytes}
-use Rattle.vat_rules.specs.declared.slim.finding.SlimFinding.{SlimFinding}
+use Rattle.left_open.specs.Peace.{strict_status}
+use Rattle.left_open.specs.declared.kinds.Kinds.{Kinds}
+use Rattle.case_streams.specs.Leaving.{IsRestlessOf}
+use Rattle.case_streams.specs.declared.file_check.CheckedCase.{CheckedCase}
+use Rattle.command_run.specs.Answers.{AnswersReading}
+use Rattle.command_run.specs.declared.commands.vat_audit.FoundLog.{FoundLog}
 use Rattle.command_run.specs.declared.output.Failed.{Failed}
 use Rattle.command_run.specs.declared.output.Failed.TheVariants.{Out, File}
 use Rattle.command_run.specs.RecordAnswers.{AnswersRecords, AreListed, first_number}
@@ -37,17 +40,23 @@ use Rattle.command_run.specs.declared.commands.wire_files.WireFolder.{WireFolder
 use Rattle.command_run.specs.Runs.{Writing}
 use Rattle.picture.specs.declared.window.Asked.{Asked}
 
--- a finding, or why there is none, as an answer
-abbrev pub answer_of : Result SlimFinding Fault → Answer
-answer_of (Ok found) = Finding found
+-- what was found of a log, or why nothing is, as an answer
+abbrev pub answer_of : Result FoundLog Fault → Answer
+answer_of (Ok found) = Finding found.finding
 answer_of (Err fault) = answer.Fault fault
 
+-- and its status
+abbrev pub status_of : Result FoundLog Fault → ℕ
+status_of (Ok found) = strict_status found.restless (answer_status (Finding found.finding))
+status_of (Err fault) = answer_status (answer.Fault fault)
+
 -- what was found of a log while it was read: of all its bytes, or why nothing is
-abbrev pub IsAudited : Result SlimFinding ReadFault → CameSoFar → Type 0
-IsAudited (Ok finding) came = (came.is_over ≡ true) × (log_of came.bytes ≡ Ok finding.log) × (finding.limits ≡ default_limits) × IsTrueOf finding.log finding.limits finding.outcome
-IsAudited (Err (read.Bad fault)) came = (all : List ℕ) → MayBeAll came.bytes came.is_over all → log_of all ≡ Err fault
-IsAudited (Err read.CannotRead) came = CannotBeRead came
-IsAudited (Err read.OutOfMemory) came = Unit {0}
+abbrev pub IsAudited : Option Kinds → Result FoundLog ReadFault → CameSoFar → Type 0
+IsAudited strict (Ok found) came =
+    (came.is_over ≡ true) × (log_of came.bytes ≡ Ok found.finding.log) × AnswersReading strict (Ok found.finding.log) (line (answer_text (answer_of (Ok found)))) (status_of (Ok found))
+IsAudited strict (Err (read.Bad fault)) came = (all : List ℕ) → MayBeAll came.bytes came.is_over all → log_of all ≡ Err fault
+IsAudited strict (Err read.CannotRead) came = CannotBeRead came
+IsAudited strict (Err read.OutOfMemory) came = Unit {0}
 
 -- An answer's lines were written whole, and its status is the run's; or there is an answer, and a write failed.
 abbrev pub Prints : {W E : Type 0} → (List ℕ → ℕ → Type 0) → Writing W → W → W → Result ℕ E → Type 0
@@ -108,9 +117,10 @@ ComesJudged gives old name (Ok report) new = (came : ReadCase) × (ComesOfCase g
 ComesJudged gives old name (Err fault) new = (fault ≡ OutOfMemory) ⊎ ((found : CaseFault) × (ComesOfCase gives old name (Err found) new × (fault ≡ of_case found)))
 
 -- what came of a case of which the line alone was asked for: it, or the case's fault, or memory ran out
-abbrev pub ComesAsLine : {S : Type 0} → Reads S → S → List ℕ → Result Report Fault → S → Type 0
-ComesAsLine gives old name (Ok line) new = (came : ReadCase) × (ComesOfCase gives old name (Ok came) new × IsLineOf came.case came.order line)
-ComesAsLine gives old name (Err fault) new = ComesJudged gives old name (Err fault) new
+abbrev pub ComesAsLine : Option Kinds → {S : Type 0} → Reads S → S → List ℕ → Result CheckedCase Fault → S → Type 0
+ComesAsLine strict gives old name (Ok checked) new =
+    (came : ReadCase) × (ComesOfCase gives old name (Ok came) new × IsLineOf came.case came.order checked.report × IsRestlessOf strict came.case.logs checked.restless)
+ComesAsLine strict gives old name (Err fault) new = ComesJudged gives old name (Err fault) new
 
 -- what came of a case that was drawn: its report and its picture, or its fault, or memory ran out
 abbrev pub ComesDrawn : {S : Type 0} → Asked → Reads S → S → List ℕ → Result FileAnswer Fault → S → Type 0

@@ -1,6 +1,6 @@
 -- The lines and the exit status that answer a case which is judged: the line of its report, or where it is yes, and they are
 -- asked for, the edges or the steps of its run.
-use Rattle.std.specs.Prelude.{◌≡◌, ◌≢◌, ℕ, Bool, true, false, List, [], ◌∷◌, ◌++◌, length, Result, Ok, Err}
+use Rattle.std.specs.Prelude.{◌≡◌, ◌≢◌, ℕ, Bool, true, false, List, [], ◌∷◌, ◌++◌, length, Option, Result, Ok, Err}
 use Rattle.std.specs.List.{flat_map}
 use Rattle.run_model.specs.Edges.{AreEdges, Edge}
 use Rattle.run_model.specs.Steps.{PastSteps}
@@ -9,6 +9,9 @@ use Rattle.authority.specs.Records.{record_of_step}
 use Rattle.audit_core.specs.Report.{IsReport}
 use Rattle.case_report.specs.declared.report.Report.{Report as ReportOf}
 use Rattle.case_report.specs.declared.report.Report.TheVariants.{Yes}
+use Rattle.left_open.specs.Peace.{strict_status}
+use Rattle.left_open.specs.declared.kinds.Kinds.{Kinds}
+use Rattle.case_streams.specs.Leaving.{IsRestlessOf}
 use Rattle.case_files.specs.declared.case_fault.CaseFault.{CaseFault}
 use Rattle.case_files.specs.declared.case_fault.CaseFault.TheVariants as fault
 use Rattle.case_files.specs.declared.case_reading.ReadCase.{ReadCase}
@@ -17,7 +20,7 @@ use Rattle.report_lines.specs.declared.dot_text.DotBound.TheVariants.{Head, End}
 use Rattle.report_lines.specs.DotText.{bound_text, dot_edge_text}
 use Rattle.report_lines.specs.EdgeText.{edge_text}
 use Rattle.report_lines.specs.Faults.{of_case}
-use Rattle.report_lines.specs.Lines.{SaysAnswer, line}
+use Rattle.report_lines.specs.Lines.{SaysAnswer, answer_status, answer_text, line}
 use Rattle.report_lines.specs.StepText.{step_text}
 
 -- ---- the lines of a run
@@ -66,10 +69,6 @@ ShowsSteps run text status = (text ≡ step_lines run) × (status ≡ 0)
 abbrev pub Reporting : Type 1
 Reporting = ReportOf → List ℕ → ℕ → Type 0
 
--- where it is asked for: its line
-abbrev pub AnswersReport : Reporting
-AnswersReport report text status = SaysAnswer (Report report) text status
-
 -- where the graph is asked for: the edges of the run, or the line of a report that isn't yes
 abbrev pub AnswersGraph : Bool → Reporting
 AnswersGraph is_dot (Yes vats records delivered under_way run) text status = ShowsEdges is_dot run text status
@@ -85,3 +84,11 @@ AnswersRun report text status = SaysAnswer (Report report) text status
 abbrev pub AnswersJudged : Reporting → Result ReadCase CaseFault → List ℕ → ℕ → Type 0
 AnswersJudged answers (Ok came) text status = (report : ReportOf) × (IsReport came.case came.order report × answers report text status)
 AnswersJudged answers (Err found) text status = (found ≢ fault.OutOfMemory) × SaysAnswer (Fault (of_case found)) text status
+
+-- The line and a status answer what came of a case whose line is asked for: that of its report, or why there is none. Where it
+-- is asked what is left at its end, and something is that isn't allowed, the status of a yes is another.
+abbrev pub AnswersChecked : Option Kinds → Result ReadCase CaseFault → List ℕ → ℕ → Type 0
+AnswersChecked strict (Ok came) text status =
+    (report : ReportOf) × ((restless : Bool) × (IsReport came.case came.order report × IsRestlessOf strict came.case.logs restless
+    × (text ≡ line (answer_text (Report report))) × (status ≡ strict_status restless (answer_status (Report report)))))
+AnswersChecked strict (Err found) text status = (found ≢ fault.OutOfMemory) × SaysAnswer (Fault (of_case found)) text status

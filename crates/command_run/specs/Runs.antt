@@ -7,10 +7,10 @@ use Rattle.command_line.specs.declared.command.Command.TheVariants.{Check, Order
 use Rattle.command_run.specs.declared.output.Failed.{Failed}
 use Rattle.command_run.specs.declared.output.Failed.TheVariants.{Out, File}
 use Rattle.command_run.specs.Answers.{edition_asked}
-use Rattle.command_run.specs.CommandAnswers.{AnswersFile, AnswersFrame, AnswersLogRecords, AnswersMigration, AnswersOrder, AnswersReportOf, AnswersSalvage, AnswersSource}
+use Rattle.command_run.specs.CommandAnswers.{AnswersCheck, AnswersFile, AnswersFrame, AnswersLogRecords, AnswersMigration, AnswersOrder, AnswersReportOf, AnswersSalvage, AnswersSource}
 use Rattle.command_run.specs.DrawAnswers.{AnswersDraw}
 use Rattle.command_run.specs.JoinAnswers.{AnswersJoin}
-use Rattle.command_run.specs.ReportAnswers.{AnswersGraph, AnswersReport, AnswersRun}
+use Rattle.command_run.specs.ReportAnswers.{AnswersGraph, AnswersRun}
 use Rattle.command_run.specs.WireAnswers.{AnswersWire}
 
 -- lines, a status and the bytes for the file, if there are any, are an answer
@@ -25,11 +25,11 @@ NoFile answers text status bytes = answers text status × (bytes ≡ None)
 -- migrated or salvaged, as a file of frames is; a frame asks for nothing; a case is read with the files that it names; what the ends of a
 -- connection sent is read from two files; the logs that are joined are read as they are listed.
 abbrev pub CarriesOut : {S : Type 0} → Reads S → (S → List ℕ → Option Read) → Command → S → S → (Answering → Type 0) → Type 0
-CarriesOut gives holds (Vat file) old new writes = (read : Read) × gives old file.now read new × writes (NoFile (AnswersSource read))
+CarriesOut gives holds (Vat file strict) old new writes = (read : Read) × gives old file.now read new × writes (NoFile (AnswersSource strict read))
 CarriesOut gives holds (Frame hex later) old new writes = (new ≡ old) × writes (NoFile (AnswersFrame (edition_asked later) hex.now))
 CarriesOut gives holds (Frames file) old new writes = (read : Read) × gives old file.now read new × writes (NoFile (AnswersFile read))
 CarriesOut gives holds (Records file first many) old new writes = (read : Read) × gives old file.now read new × writes (NoFile (AnswersLogRecords (holds old file.now) first many read))
-CarriesOut gives holds (Check name workers) old new writes = writes (NoFile (AnswersReportOf AnswersReport gives old name.now new))
+CarriesOut gives holds (Check name workers strict) old new writes = writes (NoFile (AnswersCheck strict gives old name.now new))
 CarriesOut gives holds (Graph name is_dot many) old new writes = writes (NoFile (AnswersReportOf (AnswersGraph is_dot) gives old name.now new))
 CarriesOut gives holds (Run name many) old new writes = writes (NoFile (AnswersReportOf AnswersRun gives old name.now new))
 CarriesOut gives holds (Draw name out first steps is_page many) old new writes =

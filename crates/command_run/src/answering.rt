@@ -1,6 +1,7 @@
 //! Saying an answer, which is heard, too, for what people are told beside it; and writing the bytes that belong to one.
 
 ghost use Rattle.std.specs.Prelude.{◌≡◌, None, OnOk, OnErr, IfOk, IsSome, option_map};
+ghost use Rattle.left_open.specs.Peace.{strict_status};
 ghost use Rattle.report_lines.specs.Lines.{answer_status, answer_text, line};
 ghost use Rattle.command_run.specs.Glue.{IsMade, SaysBehind, of_lines};
 ghost use Rattle.command_run.specs.Runs.{Adds, Saves, Writes, Wrote};
@@ -8,6 +9,7 @@ ghost use Rattle.command_run.specs.Runs.{Adds, Saves, Writes, Wrote};
 use crate::hearing::Hears;
 use crate::output::{Failed, Output};
 use bytes::Bytes;
+use left_open::strict_status;
 use report_lines::{Answer, Fault, ShownLine};
 use std::mem;
 
@@ -87,6 +89,22 @@ pub fn say<O: Output, H: Hears>(answer: Answer, heard: &mut H, out: &mut O) -> R
     let said = say_lent(&answer, heard, out);
     mem::forget(answer);
     said
+}
+
+/// Says an answer, and gives its exit status: 4 in the place of 0 where something is left that isn't allowed.
+pub fn say_strictly<O: Output, H: Hears>(
+    restless: bool,
+    answer: Answer,
+    heard: &mut H,
+    out: &mut O,
+) -> Result<u8, O::Error>
+    requires { O.can_write out.old }
+    ensures status { IfOk result (λ status. status ≡ strict_status restless (answer_status answer)) }
+    ensures line { OnOk result
+        (Wrote O.contents O.is_finished out.old (line (answer_text answer)) out.new) }
+{
+    let status = say(answer, heard, out)?;
+    Ok(strict_status(restless, status))
 }
 
 /// Writes bytes, and ends the file in which they stand. More files may follow.

@@ -57,9 +57,11 @@ pub fn answer_heard<
         (Wrote F.contents F.is_finished) out.old out.new file.old file.new result) }
 {
     match command {
-        Command::Check { case, workers } => {
-            of_lines(say_report(host, case, *workers, source, heard, out))
-        }
+        Command::Check {
+            case,
+            workers,
+            strict,
+        } => of_lines(say_report(host, case, *workers, *strict, source, heard, out)),
         Command::Order { case, .. } => say_order(host.alloc, case, source, heard, out, file),
         Command::Graph { case, dot, workers } => {
             of_lines(say_graph(host, case, *workers, *dot, source, heard, out))
@@ -82,7 +84,9 @@ pub fn answer_heard<
             };
             say_drawn(host, case, *workers, asked, source, heard, out, file)
         }
-        Command::Vat { file: name } => of_lines(say_vat(host.alloc, name, source, heard, out)),
+        Command::Vat { file: name, strict } => {
+            of_lines(say_vat(host.alloc, name, *strict, source, heard, out))
+        }
         Command::Records {
             file: name,
             from,

@@ -6,10 +6,12 @@ ghost use Rattle.byte_pieces.specs.Coming.{IsFresh};
 ghost use Rattle.case_files.specs.Opening.{IsOf};
 ghost use Rattle.host_files.specs.Holding.{as_read, held_under, left_of};
 
+use crate::case_folder::{CaseFolder, open_named};
 use crate::folder_reader::{FolderReader, Opened};
 use crate::host::{HostFile, HostInput, LogHost};
 use bytes::{Buf as _, Bytes};
 use case_files::{Source, SourceError};
+use command_line::Command;
 use std::alloc::Global;
 use std::fs::OpenFile;
 use std::io::{self, ErrorKind, Read};
@@ -219,12 +221,13 @@ impl Openings {
     }
 }
 
-/// The files of the working directory, and standard input under the name `-`, which is read once. Nothing that was read is kept.
-/// What is read under a name is what the host has there, whole and in its order, as far as that is known. Contracts see nothing
-/// else of it.
+/// The files of the working directory, those that a case file names beside it where they aren't there, and standard input under
+/// the name `-`, which is read once. Nothing that was read is kept. What is read under a name is what the host has there, whole and
+/// in its order, as far as that is known. Contracts see nothing else of it.
 #[derive(Drop)]
 pub struct Folder<'a, R> {
     rt: &'a R,
+    beside: Option<CaseFolder<'a>>,
     openings: Openings,
 }
 
@@ -237,11 +240,20 @@ impl<'a, R> Model for Folder<'a, R> {
 }
 
 impl<'a, R> Folder<'a, R> {
-    /// The folder.
+    /// The working directory alone.
     pub fn new(rt: &'a R) -> Folder<'a, R> {
         Folder {
             rt,
+            beside: None,
             openings: Openings::new(false),
+        }
+    }
+
+    /// The working directory, and the folder of the case file that a command reads.
+    pub fn of(rt: &'a R, command: &Command<'a>) -> Folder<'a, R> {
+        Folder {
+            beside: CaseFolder::of(command),
+            ..Folder::new(rt)
         }
     }
 }
@@ -261,7 +273,7 @@ impl<R: LogHost> Source for Folder<'_, R> {
             let input = self.rt.log_input();
             return self.openings.read_input(alloc, input, &mut None);
         }
-        read_file(alloc, self.rt.open_log(name), &mut None)
+        read_file(alloc, open_named(self.rt, self.beside, name), &mut None)
     }
 
     fn open(&mut self, name: &str) -> FolderReader<R::LogFile, R::LogInput> {
@@ -270,7 +282,8 @@ impl<R: LogHost> Source for Folder<'_, R> {
             let input = self.rt.log_input();
             return self.openings.of_input(alloc, name, input);
         }
-        self.openings.of_file(alloc, name, self.rt.open_log(name))
+        let opened = open_named(self.rt, self.beside, name);
+        self.openings.of_file(alloc, name, opened)
     }
 
     fn close(

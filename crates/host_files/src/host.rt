@@ -1,9 +1,10 @@
 //! The host's files and standard input, as they are read on more than one thread.
 
-ghost use Rattle.std.specs.Prelude.{◌≡◌, ℕ, List, Option, Some, None, IfOk, IfSome};
+ghost use Rattle.std.specs.Prelude.{◌≡◌, ℕ, List, Option, Some, None, IfErr, IfOk, IfSome};
+ghost use Rattle.std.specs.IoError.{error_kind};
 
 use std::fs::{self, File, OpenFile};
-use std::io::{self, Read, StdinLock};
+use std::io::{self, ErrorKind, Read, StdinLock};
 use std::rt::Files;
 
 /// A host's open file.
@@ -37,8 +38,11 @@ pub trait LogHost: Files + Input + AllocGlobal {
     /// What the system says.
     fn open_log(&self, name: &str) -> io::Result<Self::LogFile>
         // What is left to be read of it is what is in the file of just this name, where that is known.
-        ensures { IfOk result (λ file. IfSome (Self.LogFile.in_file name.now)
-            (λ all. Self.LogFile.remaining file ≡ Some all)) };
+        ensures file { IfOk result (λ file. IfSome (Self.LogFile.in_file name.now)
+            (λ all. Self.LogFile.remaining file ≡ Some all)) }
+        // Of a file that isn't there nothing is known.
+        ensures missing { IfErr result (λ e. error_kind e ≡ ErrorKind.NotFound
+            → Self.LogFile.in_file name.now ≡ None) };
 
     /// Standard input, of which nothing was read ahead.
     fn log_input(&self) -> Self::LogInput

@@ -1,15 +1,16 @@
 //! Files and standard input, of which is remembered what people are told.
 
+use crate::case_folder::{CaseFolder, is_there, open_named};
 use crate::file::{LIMIT, Openings, closed, read_file};
 use crate::folder_reader::{FolderReader, copy_of};
 use crate::host::{HostFile, HostInput, LogHost};
 use bytes::Bytes;
 use case_files::{RememberingSource, Source, SourceError};
 use cause_notes::SearchingSource;
+use command_line::Command;
 use std::alloc::{AllocError, Global};
 use std::marker::Model;
-use std::rt::Files;
-use std::{fs, io, mem};
+use std::{io, mem};
 
 /// What was closed of a folder.
 #[derive(Drop)]
@@ -55,6 +56,7 @@ impl ClosedFile {
 #[derive(Drop)]
 pub struct RememberingFolder<'a, R> {
     rt: &'a R,
+    beside: Option<CaseFolder<'a>>,
     openings: Openings,
     last: Option<String>,
     refusal: Option<io::Error>,
@@ -73,10 +75,11 @@ impl<'a, R> Model for RememberingFolder<'a, R> {
 }
 
 impl<'a, R: AllocGlobal> RememberingFolder<'a, R> {
-    /// The folder, of which nothing has been read yet.
-    pub fn new(rt: &'a R) -> RememberingFolder<'a, R> {
+    /// The folder for a command, of which nothing has been read yet.
+    pub fn of(rt: &'a R, command: &Command<'a>) -> RememberingFolder<'a, R> {
         RememberingFolder {
             rt,
+            beside: CaseFolder::of(command),
             openings: Openings::new(true),
             last: None,
             refusal: None,
@@ -105,7 +108,7 @@ impl<'a, R: AllocGlobal> RememberingFolder<'a, R> {
     }
 }
 
-impl<R: Files + AllocGlobal> RememberingFolder<'_, R> {
+impl<R: LogHost> RememberingFolder<'_, R> {
     /// How many bytes may still be read once more.
     fn room(&self) -> usize {
         let lengths = self.kept.iter().map(|file| file.1.len());
@@ -130,7 +133,7 @@ impl<R: Files + AllocGlobal> RememberingFolder<'_, R> {
         }
         let bytes = match &file.again {
             Again::File => {
-                let opened = fs::open(self.rt, file.name.as_str());
+                let opened = open_named(self.rt, self.beside, file.name.as_str());
                 read_file(self.rt.alloc(), opened, &mut None).ok()?
             }
             Again::Kept(bytes) => bytes.clone().ok()?,
@@ -178,7 +181,8 @@ impl<R: LogHost> Source for RememberingFolder<'_, R> {
             let input = self.rt.log_input();
             self.openings.read_input(alloc, input, &mut self.refusal)
         } else {
-            read_file(alloc, self.rt.open_log(name), &mut self.refusal)
+            let opened = open_named(self.rt, self.beside, name);
+            read_file(alloc, opened, &mut self.refusal)
         };
         let _ = self.keep(name, &read);
         read
@@ -190,7 +194,8 @@ impl<R: LogHost> Source for RememberingFolder<'_, R> {
             let input = self.rt.log_input();
             return self.openings.of_input(alloc, name, input);
         }
-        self.openings.of_file(alloc, name, self.rt.open_log(name))
+        let opened = open_named(self.rt, self.beside, name);
+        self.openings.of_file(alloc, name, opened)
     }
 
     fn close(
@@ -235,13 +240,13 @@ impl<R: LogHost> RememberingSource for RememberingFolder<'_, R> {
         if !self.lasting.iter().any(|lasting| lasting.as_str() == name) {
             return None;
         }
-        let file = self.rt.open_log(name).ok()?;
+        let file = open_named(self.rt, self.beside, name).ok()?;
         Some(FolderReader::again(file))
     }
 }
 
 impl<R: LogHost> SearchingSource for RememberingFolder<'_, R> {
     fn has(&self, name: &str) -> bool {
-        fs::exists(self.rt, name).unwrap_or(false)
+        is_there(self.rt, self.beside, name)
     }
 }

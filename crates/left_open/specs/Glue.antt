@@ -1,17 +1,24 @@
 -- For the code's contracts, and no part of the meaning: what the tables have, and the list that is made by them.
-use Rattle.std.specs.Prelude.{◌≡◌, ℕ, ◌+◌, ◌==◌, List, [], ◌∷◌, ◌++◌, Bool, true, false, not, ◌&&◌, ◌||◌, Option, Some, None, if◌then◌else◌, option_map, option_and_then, option_to_list}
+use Rattle.std.specs.Prelude.{◌≡◌, ℕ, ◌+◌, ◌==◌, List, [], ◌∷◌, ◌++◌, length, Bool, true, false, not, ◌&&◌, ◌||◌, Option, Some, None, is_some, if◌then◌else◌, option_map, option_and_then, option_to_list}
 use Rattle.std.specs.BTreeMap.{get}
 use Rattle.std.specs.List.{position_from}
+use Rattle.std.specs.Ordering.{eq_by_cmp}
+use Rattle.std.specs.Set.{is_member}
+use Rattle.rpc_view.specs.declared.edition.Edition.{Edition}
+use Rattle.vat_log.specs.declared.body.Body.{Body}
 use Rattle.left_open.specs.Types.{DecodedRecord, Descriptor, Loopback, Number, Open, Promise, PromiseView, Question, TableKey, Unfinished, Vow}
-use Rattle.decoded_records.specs.Past.{Past, Point, names, record_index, last_answer}
+use Rattle.decoded_records.specs.Past.{Past, Point, Each, names, record_index, last_answer}
 use Rattle.decoded_records.specs.Questions.{question_opened, opening, is_returned, is_returned_lightly, is_finished, is_late, noted_call}
 use Rattle.decoded_records.specs.Loopbacks.{sender_loopback, loopback_of}
 use Rattle.decoded_records.specs.Lives.{Birth, begins, held, is_in_life, number_introduced, descriptors}
+use Rattle.vat_view.specs.Sound.{IsSound}
 use Rattle.vat_view.specs.Walks.{Next, next, turns, stops, stays}
 use Rattle.decoded_records.specs.Glue.Parts.{id_cmp}
 use Rattle.left_open.specs.declared.begun.Begun.{Begun}
 use Rattle.left_open.specs.declared.watching.Watched.{Watched}
+use Rattle.left_open.specs.declared.log_watch.Followed.{Followed}
 use Rattle.left_open.specs.Left.{is_promise_unresolved}
+use Rattle.left_open.specs.Peace.{AreRead, IsLeftAtAborts, passed_count}
 
 -- a record, and a place there
 abbrev pub At : Type 0
@@ -114,3 +121,23 @@ opened_by unreturned unfinished unechoed began past n e =
 abbrev pub opened_from : (TableKey → Option At) → (TableKey → Option At) → (TableKey → Option At) → (TableKey → Option At) → Past → ℕ → List DecodedRecord → List Open
 opened_from unreturned unfinished unechoed began past n [] = []
 opened_from unreturned unfinished unechoed began past n (e ∷ es) = opened_by unreturned unfinished unechoed began past n e ++ opened_from unreturned unfinished unechoed began past (n + 1) es
+
+-- ---- what is left
+
+-- these are the numbers under which something began that isn't over
+abbrev pub AreAmong : Begun → List TableKey → Type 0
+AreAmong begun numbers = (i : TableKey) → is_some (begun_in begun i) ≡ is_member (eq_by_cmp id_cmp) numbers i
+
+-- what follows a log stands where these records, all as they should be, have passed
+pub record Follows (followed : Followed) : Type 0 where
+  pub number : followed.at ≡ length followed.state
+  pub sound : Each IsSound followed.state
+  pub watched : IsWatched followed.state followed.watched
+  pub aborts : IsLeftAtAborts followed.state followed.aborts
+  pub sent : followed.sent ≡ passed_count true followed.state
+  pub received : followed.received ≡ passed_count false followed.state
+
+-- a log is followed, where each record was read and is as it should be; else there are no such records
+abbrev pub IsFollowed : Edition → List Body → Option Followed → Type 0
+IsFollowed edition records (Some followed) = AreRead edition records followed.state × Follows followed
+IsFollowed edition records None = (past : Past) → AreRead edition records past → Each IsSound past → ⊥

@@ -1,3 +1,5 @@
 pub mod Types
 pub mod Left
+pub mod Peace
+pub mod Watching
 pub mod Glue

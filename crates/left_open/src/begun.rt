@@ -1,6 +1,6 @@
 //! Where numbers of connections began.
 
-ghost use Rattle.std.specs.Prelude.{◌≡◌, ℕ, None, Some, OnOk, if◌then◌else◌};
+ghost use Rattle.std.specs.Prelude.{◌≡◌, ℕ, None, Some, OnOk, is_some, if◌then◌else◌};
 ghost use Rattle.decoded_records.specs.declared.table_key.TableKey.{TableKey};
 ghost use Rattle.decoded_records.specs.Past.{names};
 ghost use Rattle.left_open.specs.Glue.{begun_in, is_at};
@@ -12,7 +12,7 @@ use vat_view::TableKey;
 /// Where what goes under each number began that isn't over: in which record, and at which place there, both counted from
 /// 0.
 pub(crate) struct Begun {
-    entries: BTreeMap<TableKey, (usize, usize)>,
+    pub(crate) entries: BTreeMap<TableKey, (usize, usize)>,
 }
 
 impl Drop for Begun {
@@ -29,6 +29,13 @@ impl Begun {
         Begun {
             entries: BTreeMap::new(alloc),
         }
+    }
+
+    /// Whether something goes under this number that began and isn't over.
+    pub(crate) fn has(&self, number: TableKey) -> bool
+        ensures { result ≡ is_some (begun_in self.now number) }
+    {
+        self.entries.contains_key(&number)
     }
 
     /// Whether what goes under this number began in this record, at this place.

@@ -68,7 +68,7 @@ fn open_promise(state: &VatState, at: usize, event: &DecodedRecord) -> Option<Op
 }
 
 /// Whether an export or import came as a promise and has had no Resolve.
-fn is_unresolved(state: &VatState, number: TableKey) -> bool
+pub(crate) fn is_unresolved(state: &VatState, number: TableKey) -> bool
     ensures { result ≡ is_promise_unresolved number state.now }
 {
     match state.began_promised(number) {

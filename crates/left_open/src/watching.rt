@@ -160,7 +160,12 @@ impl Watched {
     }
 
     /// A record of this number comes next.
-    fn note(&mut self, state: &VatState, at: usize, event: &DecodedRecord) -> Result<(), AllocError>
+    pub(crate) fn note(
+        &mut self,
+        state: &VatState,
+        at: usize,
+        event: &DecodedRecord,
+    ) -> Result<(), AllocError>
         requires number { at ≡ length state.now }
         requires watched { IsWatched state.now self.old }
         ensures { OnOk result (IsWatched (event.now ∷ state.now) self.new) }

@@ -1,28 +1,40 @@
 -- A lane is read further, or gives its first record away.
 use Rattle.std.proofs.Common.{◌≡◌, ◌≢◌, Bool, true, List, [], ◌∷◌, ◌++◌, Option, Some, None, refl, sym, ap, subst, ◌∙◌, inl, inr}
-use Rattle.std.specs.Prelude.{drop, take, IfSome}
+use Rattle.std.specs.Prelude.{drop, take, reverse, IfSome}
 use Rattle.std.specs.Option.{option_map}
-use Rattle.std.proofs.lemmas.List.{append_assoc, take-append-drop}
+use Rattle.std.proofs.lemmas.List.{append_assoc, reverse-append, take-append-drop}
+use Rattle.vat_log.specs.Log.{Log}
+use Rattle.vat_log.specs.Runs as runs
 use Rattle.vat_log.specs.Streams.{StreamSoFar}
 use Rattle.vat_log.specs.declared.body.Body.{Body}
+use Rattle.vat_rules.specs.Audit.{edition_of}
 use Rattle.vat_rules.specs.Audited.{Audited}
+use Rattle.left_open.specs.Watching.{Watching, with_record}
 use Rattle.byte_pieces.proofs.Coming.{comes_then}
 use Rattle.turn_taking.specs.Lanes.{LaneSoFar, GoesOn, HasNext}
-use Rattle.log_lane.specs.Glue.{AreOfOne}
+use Rattle.log_lane.specs.Glue.{AreOfOne, IsWatched}
 use Rattle.log_lane.specs.Lanes.{ReadAhead, as_lane}
 use Rattle.log_lane.specs.declared.ending.Ending.{Ending}
 
 -- the first record ahead is taken
-pub one_left : (is_spent : Bool) (read : StreamSoFar) (audit : Audited) (used ahead : List Body) (ending : Option Ending)
-    → AreOfOne is_spent read audit used ahead ending → AreOfOne is_spent read audit used (drop 1 ahead) ending
-one_left is_spent read audit used ahead ending so = record {
+pub one_left : (is_spent : Bool) (read : StreamSoFar) (audit : Audited) (used ahead : List Body) (watch : Option Watching) (ending : Option Ending)
+    → AreOfOne is_spent read audit used ahead watch ending → AreOfOne is_spent read audit used (drop 1 ahead) watch ending
+one_left is_spent read audit used ahead watch ending so = record {
   audited = so.audited;
   used_too = so.used_too;
   spent = so.spent;
+  watched = so.watched;
   before = so.before ++ take 1 ahead;
   last = so.last ∙ ap (λ (l : List Body). so.before ++ l) (sym (take-append-drop 1 ahead)) ∙ sym (append_assoc so.before (take 1 ahead) (drop 1 ahead));
   ended = so.ended;
 }
+
+-- a log is watched with one record more
+pub watched_more : (watch next : Option Watching) (b : Body) (log longer : Log) → next ≡ option_map (with_record b) watch → longer ≡ runs.with_record b log → IsWatched watch log → IsWatched next longer
+watched_more None next b log longer is more so = subst (λ (o : Option Watching). IsWatched o longer) (sym is) tt
+watched_more (Some w) next b log longer is more so =
+    subst (λ (o : Option Watching). IsWatched o longer) (sym is)
+    (subst (λ (l : Log). (w.edition ≡ edition_of l) × (b ∷ w.records ≡ reverse l.records)) (sym more) (so.0, ap (λ (rs : List Body). b ∷ rs) so.1 ∙ sym (reverse-append log.records (b ∷ []))))
 
 -- ---- lanes go on
 

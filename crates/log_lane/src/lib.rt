@@ -3,7 +3,8 @@
 //!
 //! It stands on `vat_log`, whose `LogStream` reads the log, on `vat_rules`, which judges it as it comes, on `case_book` for cases,
 //! and on `erased` for the records that its clauses speak of. A [`LogLane`] reads some records ahead, so that `turn_taking` can
-//! take records of several in turns; what one is, is said in `specs/Lanes.antt`. [`audit_stream`] judges one log alone.
+//! take records of several in turns; what one is, is said in `specs/Lanes.antt`. [`audit_stream`] judges one log alone. Both
+//! watch a log for what is left of it, where that is wanted (`specs/LeftOf.antt`).
 //! `specs/Glue.antt` is for the code's contracts alone.
 //!
 //! Of a log that was read a [`SlimLog`] is left: what its audit found, and which connections it used. [`UsedConnections`] is
@@ -23,7 +24,7 @@ mod slim_log;
 mod used;
 
 pub use log_lane::LogLane;
-pub use one_log::audit_stream;
+pub use one_log::{WatchedFinding, audit_stream};
 pub use slim_case::SlimCase;
 pub use slim_log::SlimLog;
 pub use used::UsedConnections;

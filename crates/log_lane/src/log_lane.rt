@@ -1,25 +1,29 @@
 //! A log that is read ahead.
 
-ghost use Rattle.std.specs.Prelude.{◌≡◌, ◌≢◌, true, false, [], ◌∷◌, ◌++◌, Some, None, Ok, IfOk, IfErr, IfSome, MatchOption, OnOk};
+ghost use Rattle.std.specs.Prelude.{◌≡◌, ◌≢◌, true, false, [], ◌∷◌, ◌++◌, Some, None, Ok, IfOk, IfErr, IfSome, MatchOption, OnOk, option_map, if◌then◌else◌};
 ghost use Rattle.byte_pieces.specs.Coming.{ComesOn};
 ghost use Rattle.cap_reader.specs.Defaults.{default_limits};
 ghost use Rattle.vat_log.specs.Reading.{log_of};
 ghost use Rattle.vat_log.specs.Runs.{with_record};
 ghost use Rattle.vat_log.specs.Streams.{StreamStopsBy};
+ghost use Rattle.vat_rules.specs.Audit.{edition_of_version};
 ghost use Rattle.vat_rules.specs.Audited as judged;
 ghost use Rattle.turn_taking.specs.Lanes.{GoesOn, HasNext};
+ghost use Rattle.left_open.specs.Watching as watched;
 ghost use Rattle.log_lane.specs.Lanes.{EndsSo, ReadAhead, as_lane};
+ghost use Rattle.log_lane.specs.LeftOf.{IsLeftOf};
 
 use crate::ending::Ending;
 use crate::records_ahead::RecordsAhead;
 use crate::{SlimLog, UsedConnections};
 use byte_pieces::Pieces;
+use left_open::{LogLeft, LogWatch};
 use rpc_view::Limits;
 use std::alloc::{AllocError, Global};
 use std::marker::Model;
 use std::mem;
-use vat_log::{LogStream, ReadFault, Record};
-use vat_rules::VatAudit;
+use vat_log::{Body, LogHeader, LogStream, ReadFault, Record};
+use vat_rules::{VatAudit, edition_of_header};
 
 /// Where a record is ahead, nothing is read behind so many bytes of frames.
 const BYTES: usize = 1_048_576;
@@ -54,20 +58,49 @@ fn next_of<P: Pieces>(
     }
 }
 
+/// What watches a log, if something does, with the log's next record.
+pub(crate) fn watch_next(
+    alloc: Global,
+    watch: Option<LogWatch>,
+    body: &Body,
+) -> Result<Option<LogWatch>, AllocError>
+    ensures { IfOk result (λ next. next ≡ option_map (watched.with_record body.now) watch) }
+{
+    match watch {
+        Some(watch) => Ok(Some(watch.with(alloc, body)?)),
+        None => Ok(None),
+    }
+}
+
+/// What watches a log with this header, before its first record, where that is wanted.
+pub(crate) fn new_watch(alloc: Global, header: LogHeader, is_wanted: bool) -> Option<LogWatch>
+    ensures { result ≡ (if is_wanted
+        then Some (record { edition = edition_of_version header.version; records = [] }) else None) }
+{
+    if is_wanted {
+        Some(LogWatch::new(alloc, edition_of_header(header)))
+    } else {
+        None
+    }
+}
+
 /// A record that was read is judged, and stands behind those that are ahead.
 fn keep(
     alloc: Global,
     entry: Record,
     audit: &mut VatAudit,
     used: &mut UsedConnections,
+    watch: &mut Option<LogWatch>,
     ahead: &mut RecordsAhead,
 ) -> Result<(), AllocError>
     ensures judged { OnOk result (audit.new ≡ judged.with_record entry audit.old) }
     ensures used { OnOk result (used.new ≡ used.old ++ entry ∷ []) }
+    ensures watched { OnOk result (watch.new ≡ option_map (watched.with_record entry) watch.old) }
     ensures ahead { OnOk result (ahead.new ≡ ahead.old ++ entry ∷ []) }
 {
     audit.take(alloc, entry.body())?;
     used.take(entry.body())?;
+    *watch = watch_next(alloc, mem::replace(watch, None), entry.body())?;
     ahead.push(entry)
 }
 
@@ -78,6 +111,7 @@ pub struct LogLane<P: Pieces> {
     stream: LogStream<P>,
     audit: VatAudit,
     used: UsedConnections,
+    watch: Option<LogWatch>,
     ahead: RecordsAhead,
     ending: Option<Ending>,
     // whether the last reading gave so much that the next need not be waited for
@@ -96,20 +130,23 @@ impl<P: Pieces> Model for LogLane<P> {
     ghost view = { λ lane. lane_unless lane.is_refused lane.stream lane.ahead lane.ending };
 
     ghost invariant = { λ lane. lane.is_refused ≡ false
-        → AreOfOne lane.is_spent lane.stream lane.audit lane.used lane.ahead lane.ending };
+        → AreOfOne lane.is_spent lane.stream lane.audit lane.used lane.ahead lane.watch lane.ending };
 }
 
 impl<P: Pieces> LogLane<P> {
-    /// The lane of a log of which only the header was read.
-    pub fn new(alloc: Global, stream: LogStream<P>) -> LogLane<P>
+    /// The lane of a log of which only the header was read, and which is watched for what is left of it, where that is
+    /// wanted.
+    pub fn new(alloc: Global, stream: LogStream<P>, is_watched: bool) -> LogLane<P>
         requires { stream.log.records ≡ [] }
         ensures { result ≡ Some (record { read = stream; ahead = []; ending = None }) }
     {
         let header = stream.header();
+        let watch = new_watch(alloc, header, is_watched);
         LogLane {
             stream,
             audit: VatAudit::new(alloc, header, Limits::default()),
             used: UsedConnections::new(alloc),
+            watch,
             ahead: RecordsAhead::new(alloc),
             ending: None,
             is_ample: false,
@@ -147,6 +184,7 @@ impl<P: Pieces> LogLane<P> {
                     entry,
                     &mut self.audit,
                     &mut self.used,
+                    &mut self.watch,
                     &mut self.ahead,
                 )
                 .is_err()
@@ -196,6 +234,20 @@ impl<P: Pieces> LogLane<P> {
         ensures { IfSome self.now (λ lane. P.so_far result.now ≡ lane.read.came) }
     {
         self.stream.pieces()
+    }
+
+    /// What is left of a log that was read whole, where it is watched.
+    pub fn left(&self) -> Option<LogLeft>
+        ensures { IfSome result (λ left. (lane : ReadAhead) × (self.now ≡ Some lane)
+            × (log_of lane.read.came.bytes ≡ Ok lane.read.log) × IsLeftOf lane.read.log left) }
+    {
+        if self.is_refused {
+            return None;
+        }
+        match (self.ending, &self.watch) {
+            (Some(Ending::Whole), Some(watch)) => Some(watch.left()),
+            _ => None,
+        }
     }
 
     /// What is left of a log that was read whole, which can be asked for once; or why it wasn't, if that is known.

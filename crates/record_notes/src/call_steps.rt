@@ -11,6 +11,8 @@ pub(crate) enum Does {
     Delivers,
     Answers,
     Ends,
+    /// It waits for another call.
+    Awaits,
 }
 
 /// The call that a record sends on, delivers, answers or ends without results, and which of these it does.

@@ -6,8 +6,8 @@
 //! which lists what is open at the end of a log. [`Logs`] finds the log of a vat and the name of its file, and [`put_record`] tells of one of its records.
 //! [`put_rule_cause`] finds the notes of each rule, in a file for each family (room `rules`): calls, goals, capability tables,
 //! results, promises, references, loopbacks, connections. An [`OpenCase`] has what is open in each log of a case, with what became
-//! of the calls that are open and which frames are under way (room `open`): [`put_good`] tells of it in lines, [`open_object`] in
-//! an object.
+//! of the calls that are open, what holds them up, what failed, and which frames are under way (room `open`): [`put_good`] tells
+//! of it in lines, the cause first and with the names of `schema_names`, [`open_object`] in an object.
 #![tactic(auto)]
 
 mod at_end;

@@ -46,15 +46,6 @@ impl OpenCounts {
         counts
     }
 
-    /// The same without questions without a Return and loopbacks without an echo, which are told one by one.
-    pub fn held(self) -> OpenCounts {
-        OpenCounts {
-            unreturned: 0,
-            loopbacks: 0,
-            ..self
-        }
-    }
-
     /// The same without exports, which the peer holds as imports.
     pub fn without_exports(self) -> OpenCounts {
         OpenCounts { exports: 0, ..self }

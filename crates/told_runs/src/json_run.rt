@@ -7,7 +7,7 @@ ghost use Rattle.command_run.specs.Runs.{Adds, CarriesOut, Tells};
 
 use crate::note_hearing::NoteHearing;
 use case_files::Source;
-use cause_notes::{Form, Notes, SearchingSource, write_note};
+use cause_notes::{Form, NoteForm, Notes, SearchingSource, write_note};
 use command_line::Command;
 use command_run::{FAILED, Failed, Host, Output, Unwatched, answer_command, answer_heard};
 use json_lines::{JsonFault, JsonLines};
@@ -22,19 +22,22 @@ use std::thread::Threads;
 #[derive(Drop)]
 pub struct JsonOutput<'a, W: Write> {
     lines: JsonLines<'a, W>,
+    names: Option<&'a SchemaNames>,
 }
 
 impl<'a, W: Write> JsonOutput<'a, W> {
     /// Before any line.
     pub fn new(alloc: Global, out: &'a mut W) -> JsonOutput<'a, W> {
         let lines = JsonLines::new(alloc, out);
-        JsonOutput { lines }
+        let names = None;
+        JsonOutput { lines, names }
     }
 
     /// With names for interfaces and methods.
     pub fn with_names(self, names: &'a SchemaNames) -> JsonOutput<'a, W> {
         let lines = self.lines.with_names(names);
-        JsonOutput { lines }
+        let names = Some(names);
+        JsonOutput { lines, names }
     }
 }
 
@@ -85,17 +88,23 @@ fn end_lines<W: Write>(told: LinesTold, out: &mut JsonOutput<'_, W>, notes: Note
     }
 }
 
-/// The notes beside what was told of a source: that of a file that can't be written, or those of what was heard.
+/// The notes beside what was told of a source: that of a file that can't be written, or those of what was heard, with names where
+/// any are given.
 fn notes_beside<S: SearchingSource>(
     alloc: Global,
     command: &Command<'_>,
     hearing: &NoteHearing,
     source: &S,
     told: &LinesTold,
+    names: Option<&SchemaNames>,
 ) -> Result<Notes, AllocError> {
+    let form = NoteForm {
+        form: Form::Json,
+        names,
+    };
     match told {
         Err(Failed::File(error)) => Ok(Notes::of_text(write_note(alloc, command.out(), error)?)),
-        _ => hearing.notes(alloc, command, source, Form::Json),
+        _ => hearing.notes(alloc, command, source, form),
     }
 }
 
@@ -138,7 +147,7 @@ pub fn run_as_json_with_notes<R: Threads + Wait + Sync, S: SearchingSource, W: W
     let host = Host { rt, alloc, watch };
     let told = answer_heard(&host, command, source, &mut hearing, out, file);
     let _ = source.look_back();
-    let notes = notes_beside(alloc, command, &hearing, source, &told);
+    let notes = notes_beside(alloc, command, &hearing, source, &told, out.names);
     hearing.leave();
     let none = Notes::of_text(String::new(alloc));
     end_lines(told, out, notes.unwrap_or(none))

@@ -2,11 +2,12 @@
 
 use case_book::Findings;
 use case_report::WireAnswer;
-use cause_notes::{Form, Heard, JoinNote, Notes, RowLimit, SearchingSource, notes_of};
+use cause_notes::{Form, Heard, JoinNote, NoteForm, Notes, RowLimit, SearchingSource, notes_of};
 use command_line::Command;
 use command_run::Hears;
 use log_ends::LogEnd;
 use report_lines::Answer;
+use schema_names::SchemaNames;
 use std::alloc::{AllocError, Global};
 
 /// What hears the answers of a command, of which notes are to be made.
@@ -28,7 +29,7 @@ impl NoteHearing {
         alloc: Global,
         command: &Command<'_>,
         source: &S,
-        form: Form,
+        form: NoteForm<'_>,
     ) -> Result<Notes, AllocError> {
         let hex = match command {
             Command::Frame { hex, .. } => Some(*hex),
@@ -37,14 +38,19 @@ impl NoteHearing {
         notes_of(alloc, &self.heard, source, hex, form)
     }
 
-    /// The same as lines of text.
+    /// The same as lines of text, with names where any are given.
     pub(crate) fn lines<S: SearchingSource>(
         &self,
         alloc: Global,
         command: &Command<'_>,
         source: &S,
+        names: Option<&SchemaNames>,
     ) -> Result<String, AllocError> {
-        Ok(self.notes(alloc, command, source, Form::Text)?.text)
+        let form = NoteForm {
+            form: Form::Text,
+            names,
+        };
+        Ok(self.notes(alloc, command, source, form)?.text)
     }
 
     /// Leaves what was heard to the system, which takes all memory at once where the program ends.

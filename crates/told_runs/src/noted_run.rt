@@ -74,7 +74,7 @@ pub fn run_with_notes<
     let host = Host { rt, alloc, watch };
     let answered = answer_heard(&host, command, &mut noted.source, &mut hearing, out, file);
     let _ = noted.source.look_back();
-    let told = hearing.lines(alloc, command, &noted.source);
+    let told = hearing.lines(alloc, command, &noted.source, None);
     put_notes(told, &mut noted.notes);
     hearing.leave();
     put_failure(alloc, command, &answered, &mut noted.notes);

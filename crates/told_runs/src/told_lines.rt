@@ -2,19 +2,20 @@
 
 ghost use Rattle.std.specs.Prelude.{◌≡◌, ◌⊎◌};
 ghost use Rattle.command_line.specs.Spelled.{HasWorkers};
-ghost use Rattle.told_runs.specs.Endings.{EndsAs};
+ghost use Rattle.told_runs.specs.Endings.{EndsAs, Follows};
 ghost use Rattle.command_run.specs.Runs.{Adds, CarriesOut, Tells};
 ghost use Rattle.report_lines.specs.Faults.{fault_status};
 
 use crate::note_hearing::NoteHearing;
 use crate::noted_run::{NotedSource, put_notes};
-use cause_notes::{SearchingSource, write_note};
+use case_files::RememberingSource;
+use cause_notes::{FrameReasons, SearchingSource, write_note};
 use command_line::Command;
 use command_run::{FAILED, Failed, Host, Output, Watch, answer_heard};
 use exception_reasons::{Reason, record_reason};
 use json_lines::JsonFault;
 use named_text::NamedText;
-use report_lines::{Fault, ShownLine};
+use report_lines::{Answer, Fault, ShownLine};
 use schema_names::SchemaNames;
 use std::alloc::{AllocError, Global};
 use std::io::{self, Write};
@@ -26,19 +27,33 @@ use std::thread::Threads;
 pub struct Telling<'a> {
     /// Names of interfaces and methods, if any are given.
     pub names: Option<&'a SchemaNames>,
-    /// The reasons of exceptions, behind the lines of records.
+    /// The reasons of exceptions, behind the lines of records and of `frames`.
     pub has_reasons: bool,
     /// No notes.
     pub is_quiet: bool,
 }
 
-/// An output that writes lines with names, and behind each record's the reason of its exception: ` reason "TEXT"`. What is
-/// written isn't known as text. A line fails as an object does.
+/// A line that waits for the reason of its frame.
+#[derive(Drop)]
+struct HeldLine {
+    text: String,
+    is_message: bool,
+}
+
+/// Puts a line behind those that are held back.
+fn hold(held: &mut Vec<HeldLine>, line: HeldLine) -> Result<(), AllocError> {
+    Ok(held.push(line)?)
+}
+
+/// An output that writes lines with names, and behind each record's the reason of its exception: ` reason "TEXT"`. The lines of
+/// `frames` are held back for theirs, since none has the frame that it tells of. What is written isn't known as text. A line
+/// fails as an object does.
 #[derive(Drop)]
 pub struct ToldLines<'a, W: Write> {
     alloc: Global,
     telling: Telling<'a>,
     out: &'a mut W,
+    held: Option<Vec<HeldLine>>,
 }
 
 /// A text with names, where any are given.
@@ -64,6 +79,19 @@ fn reason_of(alloc: Global, shown: ShownLine<'_>) -> Result<Option<Reason>, Allo
     }
 }
 
+/// The reason of the next frame, which is a message or isn't read as one. None where it gives none.
+fn frame_reason(
+    alloc: Global,
+    reasons: &mut FrameReasons,
+    is_message: bool,
+) -> Result<Option<Reason>, AllocError> {
+    if is_message {
+        return reasons.next(alloc);
+    }
+    let _unread = reasons.skip()?;
+    Ok(None)
+}
+
 impl<'a, W: Write> ToldLines<'a, W> {
     /// Before any line.
     pub fn new(alloc: Global, telling: Telling<'a>, out: &'a mut W) -> ToldLines<'a, W> {
@@ -71,6 +99,7 @@ impl<'a, W: Write> ToldLines<'a, W> {
             alloc,
             telling,
             out,
+            held: None,
         }
     }
 
@@ -85,6 +114,35 @@ impl<'a, W: Write> ToldLines<'a, W> {
             write!(text, " reason \"{reason}\"")?;
         }
         Ok(text)
+    }
+
+    /// Holds lines back from now on, where those of a command are told with reasons and have no frame.
+    fn hold_for(&mut self, command: &Command<'_>) {
+        if self.telling.has_reasons && matches!(command, Command::Frames { .. }) {
+            self.held = Some(Vec::new(self.alloc));
+        }
+    }
+
+    /// Writes a line with the reason of its frame, if that gives one.
+    fn write_with(&mut self, text: String, reason: Option<Reason>) -> Result<(), JsonFault> {
+        let mut text = text;
+        if let Some(reason) = reason {
+            write!(text, " reason \"{reason}\"")?;
+        }
+        Ok(self.out.writeln(text.as_str())?)
+    }
+
+    /// Writes what is held back, with the reasons that the frames of the file give that was read last.
+    fn release<S: RememberingSource>(&mut self, source: &S) -> Result<(), JsonFault> {
+        let Some(held) = self.held.take() else {
+            return Ok(());
+        };
+        let mut reasons = FrameReasons::of_last(source)?;
+        for line in held {
+            let reason = frame_reason(self.alloc, &mut reasons, line.is_message)?;
+            self.write_with(line.text, reason)?;
+        }
+        Ok(self.out.flush()?)
     }
 
     /// Ends the lines with that of out of memory, and gives the exit status: that of a failed write where it isn't written.
@@ -104,7 +162,11 @@ impl<W: Write> Output for ToldLines<'_, W> {
 
     fn write_line(&mut self, shown: ShownLine<'_>) -> Result<(), JsonFault> {
         let text = self.text_of(shown)?;
-        Ok(self.out.writeln(text.as_str())?)
+        let Some(held) = &mut self.held else {
+            return Ok(self.out.writeln(text.as_str())?);
+        };
+        let is_message = matches!(shown, ShownLine::Answer(Answer::Message(_)));
+        Ok(hold(held, HeldLine { text, is_message })?)
     }
 
     fn write_bytes(&mut self, bytes: &[u8]) -> Result<(), JsonFault> {
@@ -134,7 +196,23 @@ fn notes_beside<S: SearchingSource>(
     match told {
         Err(Failed::File(error)) => write_note(alloc, command.out(), error),
         Err(Failed::Out(JsonFault::Write(error))) => write_note(alloc, None, error),
-        _ => with_names(alloc, telling.names, hearing.lines(alloc, command, source)?),
+        _ => {
+            let names = telling.names;
+            with_names(alloc, names, hearing.lines(alloc, command, source, names)?)
+        }
+    }
+}
+
+/// What came of telling lines of which some were held back, and weren't written perhaps.
+fn followed(told: LinesTold, released: Result<(), JsonFault>) -> LinesTold
+    ensures { Follows told result }
+{
+    match told {
+        Ok(status) => match released {
+            Ok(()) => Ok(status),
+            Err(fault) => Err(Failed::Out(fault)),
+        },
+        Err(failed) => Err(failed),
     }
 }
 
@@ -183,7 +261,9 @@ pub fn run_telling<
     let mut hearing = NoteHearing::new();
     let watch = noted.watch;
     let host = Host { rt, alloc, watch };
-    let told = answer_heard(&host, command, &mut noted.source, &mut hearing, out, file);
+    out.hold_for(command);
+    let answered = answer_heard(&host, command, &mut noted.source, &mut hearing, out, file);
+    let told = followed(answered, out.release(&noted.source));
     look_back_if(!out.telling.is_quiet, &mut noted.source);
     let notes = notes_beside(alloc, command, &hearing, &noted.source, &told, out.telling);
     put_notes(notes, &mut noted.notes);

@@ -92,7 +92,7 @@ fn hold_standard_places<R: Files>(rt: &R) -> [io::Result<R::File>; 3] {
 
 /// Whether the words ask for the version alone.
 fn asks_version(words: &[String]) -> bool {
-    matches!(words, [_, word] if word.as_str() == "--version")
+    matches!(words, [_, word] if word.as_str() == "--version" || word.as_str() == "-V")
 }
 
 /// Prints the version, and gives the exit status.
@@ -152,7 +152,7 @@ fn run_plainly<R: Host, W: Write, N: Write + Drop>(
     requires { HasWorkers command.now }
 {
     let mut noted = NotedSource {
-        source: RememberingFolder::new(rt),
+        source: RememberingFolder::of(rt, command),
         notes,
         watch: &Unwatched,
     };
@@ -180,7 +180,7 @@ fn run_with_progress<R: Host, W: Write, N: Write + Drop>(
     };
     let mut noted = NotedSource {
         source: CountedSource {
-            source: RememberingFolder::new(rt),
+            source: RememberingFolder::of(rt, command),
             progress: shared,
         },
         notes: WipingWriter {
@@ -230,9 +230,16 @@ fn run_in_json<R: Host, W: Write>(
     let alloc = rt.alloc();
     let mut lines = json_output(alloc, telling, out);
     if telling.is_quiet {
-        return run_as_json(rt, alloc, command, &mut Folder::new(rt), &mut lines, made);
+        return run_as_json(
+            rt,
+            alloc,
+            command,
+            &mut Folder::of(rt, command),
+            &mut lines,
+            made,
+        );
     }
-    let mut folder = RememberingFolder::new(rt);
+    let mut folder = RememberingFolder::of(rt, command);
     run_as_json_with_notes(rt, alloc, command, &mut folder, &mut lines, made)
 }
 
@@ -248,7 +255,14 @@ fn run_in_text<R: Host, W: Write, N: Write + IsTerminal + Drop>(
     requires { HasWorkers command.now }
 {
     if telling.is_quiet && !tells_more(telling) {
-        run_on(rt, rt.alloc(), command, &mut Folder::new(rt), out, made)
+        run_on(
+            rt,
+            rt.alloc(),
+            command,
+            &mut Folder::of(rt, command),
+            out,
+            made,
+        )
     } else if !telling.is_quiet && notes.is_terminal() && may_take_long(command) {
         run_with_progress(rt, telling, command, out, made, notes)
     } else {
@@ -318,6 +332,12 @@ fn run_in<R: Host, W: Write, N: Write + IsTerminal + Drop>(
     }
 }
 
+/// Says that a command can't be asked what is left at the end, and gives the exit status.
+fn refuse_strict<R: Eprint>(rt: &R) -> u8 {
+    let _ = rt.eprint("error: --strict stands with check and vat, and --allow with --strict\n");
+    FAILED
+}
+
 /// Does what the words ask, writes its lines to `out` and, where none asks for quiet, notes to `notes`, or both as JSON
 /// objects to `out`; and gives the exit status.
 fn start<R: Host, W: Write, N: Write + IsTerminal + Drop>(
@@ -333,7 +353,10 @@ fn start<R: Host, W: Write, N: Write + IsTerminal + Drop>(
         return out_of_memory(rt, false);
     };
     match command_of(rt.alloc(), words) {
-        Ok(command) => run_in(rt, &manner, &command, out, notes),
+        Ok(command) => match manner.asked(command) {
+            Some(command) => run_in(rt, &manner, &command, out, notes),
+            None => refuse_strict(rt),
+        },
         Err(error) => help_or_refuse(rt, &error, manner.is_json),
     }
 }

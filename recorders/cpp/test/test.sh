@@ -8,7 +8,8 @@
 #     test.sh --unproved     builds the program without a proof, by `rt try`, and runs that
 #
 # It runs with the capnp that the system has. Where CAPNP_1_1 names a folder in which another one is installed, it runs
-# with that too, and with client and server of different ones. What was printed stays in logs/printed/COMMAND.
+# with that too, and with client and server of different ones. What was printed stays in logs/printed/COMMAND, and what
+# the fixture for tests leaves in logs/audits.
 set -euo pipefail
 here="$(cd "$(dirname "$0")" && pwd)"
 root="$(cd "$here/../../.." && pwd)"
@@ -92,6 +93,7 @@ for at in "${!folders[@]}"; do
   mkdir -p "logs/again-$version"
   "$build/ends" "logs/again-$version" again > logs/again/said 2>&1 || { cat logs/again/said; differ "ends again of $version ended with $?"; }
   # The fixture for tests.
+  export VATAUDIT_LOGS="$here/logs/audits"
   if [ -z "$unproved" ]; then
     make --quiet "${with[@]}" with_kj
     VATAUDIT="$program" "$build/with_kj" > logs/with_kj 2>&1 || { cat logs/with_kj; differ "with_kj of $version failed"; }

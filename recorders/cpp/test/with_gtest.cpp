@@ -16,22 +16,29 @@ public:
 protected:
   kj::AsyncIoContext io = kj::setupAsyncIo();
   vataudit::Audit audit;
+  kj::TwoWayPipe pipe = io.provider->newTwoWayPipe();
+  vataudit::TwoPartyClient server {
+      audit.vat(2), *pipe.ends[1], 0, audit.vat(2).host<CounterObject>(audit.vat(2)), Side::SERVER };
+  vataudit::TwoPartyClient client { audit.vat(1), *pipe.ends[0], 0 };
+
+  Counter::Client counter() { return client.bootstrap().castAs<Counter>(); }
 
   // Vat 1 asks vat 2 to call back an object.
   uint32_t callBack(Counter::Client object) {
-    kj::TwoWayPipe pipe = io.provider->newTwoWayPipe();
-    auto& second = audit.vat(2);
-    vataudit::TwoPartyClient server(second, *pipe.ends[1], 0, second.host<CounterObject>(second), Side::SERVER);
-    vataudit::TwoPartyClient client(audit.vat(1), *pipe.ends[0], 0);
-    auto request = client.bootstrap().castAs<Counter>().callRequest();
+    auto request = counter().callRequest();
     request.setBack(kj::mv(object));
     return request.send().wait(io.waitScope).getValue();
   }
 };
 
+// What is under way arrives, and then the conversation has to be closed. A test that failed keeps its logs.
 class Audited: public Conversation {
 protected:
-  void TearDown() override { EXPECT_EQ("", audit.check()); }
+  void TearDown() override {
+    io.waitScope.poll();
+    EXPECT_EQ("", audit.checkClosed());
+    if (HasFailure()) audit.keep();
+  }
 };
 
 TEST_F(Audited, CallsBack) {
@@ -43,8 +50,19 @@ TEST_F(Audited, CallsBack) {
 TEST_F(Conversation, SaysWhatIsNotRecorded) {
   EXPECT_EQ(15u, callBack(kj::heap<CounterObject>(audit.vat(1), 10)));
   auto said = audit.check();
-  EXPECT_NE(std::string::npos, said.find("vat 1 is recorded no further than record")) << said;
+  EXPECT_EQ(0u, said.find("vat 1 is recorded no further than record")) << said;
   EXPECT_NE(std::string::npos, said.find(audit.folder())) << said;
+}
+
+TEST_F(Conversation, SaysWhatIsOpen) {
+  auto never = counter().neverRequest().send();
+  io.waitScope.poll();
+  EXPECT_EQ("", audit.check());
+  EXPECT_EQ("", audit.checkClosed({ "calls" }));
+  auto said = audit.checkClosed();
+  EXPECT_EQ(0u, said.find("not closed: yes vats 2 records ")) << said;
+  EXPECT_NE(std::string::npos, said.find("\nnote: ")) << said;
+  EXPECT_NE(std::string::npos, said.find("\nthe logs are in " + audit.folder() + "; ")) << said;
 }
 #endif
 

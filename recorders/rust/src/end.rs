@@ -123,6 +123,7 @@ type Outcome = Result<Noted, Unsaid>;
 
 impl End {
     pub(crate) fn new(vat: &Rc<Vat>, connection: u32) -> Rc<End> {
+        vat.connect(connection);
         Rc::new(End {
             vat: vat.clone(),
             connection,

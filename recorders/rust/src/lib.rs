@@ -16,10 +16,13 @@
 //! Where a record would make a bad log, or the log can't be written, the recorder stops, and the program goes on. The
 //! log ends before that record, and is renamed to `client.log.stopped`. The recorder says why on standard error, then
 //! and at its end; [`Recorder::is_recording`] and [`Recorder::why_stopped`] say it to the program.
+//!
+//! [`Audit`] is for tests: it makes the recorders, and has the conversation audited.
 
 #![deny(missing_docs)]
 #![forbid(unsafe_code)]
 
+mod audit;
 mod content;
 mod end;
 mod hooks;
@@ -30,6 +33,7 @@ mod runtime;
 mod served;
 mod vat;
 
+pub use audit::{Audit, Failure};
 pub use net::{ConnectionEnd, Network, RpcSystem};
 
 use capnp::capability::{Client, FromClientHook, FromServer};
@@ -150,6 +154,11 @@ impl Recorder {
     /// How many records there are.
     pub fn records(&self) -> u64 {
         self.vat.records()
+    }
+
+    /// The numbers of its connections, also of those that are gone.
+    pub fn connections(&self) -> Vec<u32> {
+        self.vat.connections()
     }
 
     /// Why it stopped. Empty if it didn't.

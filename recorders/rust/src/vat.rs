@@ -329,6 +329,7 @@ impl Call {
 pub(crate) struct Vat {
     number: u32,
     log: RefCell<Log>,
+    connections: RefCell<Vec<u32>>,
     is_recording: Cell<bool>,
     reason: RefCell<String>,
     last_reference: Cell<u64>,
@@ -358,6 +359,7 @@ impl Vat {
         Ok(Rc::new(Vat {
             number,
             log: RefCell::new(Log::new(path, number)?),
+            connections: RefCell::default(),
             is_recording: Cell::new(true),
             reason: RefCell::default(),
             last_reference: Cell::new(0),
@@ -370,6 +372,15 @@ impl Vat {
             read: RefCell::default(),
             hooks: RefCell::default(),
         }))
+    }
+
+    /// A connection has this number.
+    pub(crate) fn connect(&self, connection: u32) {
+        self.connections.borrow_mut().push(connection);
+    }
+
+    pub(crate) fn connections(&self) -> Vec<u32> {
+        self.connections.borrow().clone()
     }
 
     pub(crate) fn is_recording(&self) -> bool {

@@ -6,7 +6,7 @@
 #     test.sh                the program is $VATAUDIT, or crates/vataudit/out/vataudit (README.md says how to build it),
 #                            or the `vataudit` on the PATH
 #
-# CARGO_TARGET_DIR may name a folder for what is built.
+# CARGO_TARGET_DIR may name a folder for what is built. What the tests with `Audit` leave is in logs/audits.
 set -euo pipefail
 here="$(cd "$(dirname "$0")" && pwd)"
 root="$(cd "$here/../../.." && pwd)"
@@ -49,6 +49,14 @@ mkdir logs/again
 [ "$(grep -c "vat 1 is recorded no further than record 4: a capability is given away that is none of" logs/said)" = 1 ] ||
   differ "the recorder of refused said something else"
 mv logs/refused.vat1.log.stopped logs/refused.vat1.log
+
+# What a test of one's own calls.
+audits() {
+  VATAUDIT="$1" VATAUDIT_LOGS="$here/logs/audits" \
+    cargo test --quiet -j 2 --target-dir "$target" --test audits > logs/audits.txt 2>&1
+}
+if audits /nowhere; then differ "the tests with Audit pass without an audit"; fi
+audits "$program" || { cat logs/audits.txt; differ "the tests with Audit failed"; }
 
 # The demo, in two processes.
 make --quiet -C ../demo recorded RECORDED="$target"
@@ -102,7 +110,7 @@ wanted="$(grep -c '^[a-z].* [|] ' expected.txt)"
 for crate in .. . support ../demo; do
   (cd "$crate" && cargo fmt --check > /dev/null) || differ "$crate isn't formatted by rustfmt"
 done
-cargo clippy --quiet -j 2 --target-dir "$target" --workspace -- -D warnings > /dev/null 2>&1 || differ "clippy warns of the tests"
+cargo clippy --quiet -j 2 --target-dir "$target" --workspace --all-targets -- -D warnings > /dev/null 2>&1 || differ "clippy warns of the tests"
 (cd .. && cargo clippy --quiet -j 2 --target-dir "$target" --all-targets -- -D warnings > /dev/null 2>&1) ||
   differ "clippy warns of the recorder"
 echo "recorder for Rust: $(ls logs/*.log | wc -l) logs of $(ls logs/*.case | wc -l) conversations, with capnp-rpc" \

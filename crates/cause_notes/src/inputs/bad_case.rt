@@ -1,6 +1,5 @@
 //! Why a case file isn't one, and what of its logs and links doesn't tie up.
 
-use crate::good_answers::passage_at;
 use crate::inputs::file_kind::value_of;
 use bytes::Bytes;
 use case_book::{CaseError, TieFault};
@@ -145,6 +144,11 @@ pub(crate) fn put_refused(text: &mut NoteText, logs: &Logs<'_>, refusal: CaseErr
         CaseError::SameLink(connection) => put_same_link(text, logs, connection),
         CaseError::OutOfMemory => {}
     }
+}
+
+/// Whether the record of this number sends a frame or receives one, and on which connection.
+fn passage_at(log: &VatLog, at: usize) -> Option<(bool, u32)> {
+    log.get(at)?.body().passage()
 }
 
 /// The first record of a log that uses a connection.

@@ -43,7 +43,7 @@ pub(crate) fn put_kind(text: &mut NoteText, file: &(String, Bytes), wanted: File
         return true;
     };
     match kind.sentence() {
-        Some(sentence) if kind != wanted => {
+        Some(sentence) if !kind.may_be(wanted) => {
             text.file("note: ", file.0.as_str(), " ");
             text.line(sentence, "");
             true

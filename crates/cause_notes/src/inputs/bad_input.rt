@@ -19,6 +19,19 @@ fn last_file<'a, S: RememberingSource>(source: &'a S) -> Option<&'a (String, Byt
     source.kept().last().filter(|file| file.0.as_str() == name)
 }
 
+/// How many bytes the header of a log has.
+const HEADER: u64 = 12;
+
+/// Appends the note of what is done with a log that is cut behind its header.
+fn put_remedy(text: &mut NoteText, name: &str, fault: Fault) {
+    if let Fault::Log(LogError::Short(at)) = fault
+        && at >= HEADER
+    {
+        let words = " --out NEW writes its whole records to NEW\n";
+        text.file("note: vataudit salvage ", name, words);
+    }
+}
+
 /// Appends the notes of the file that was read last and is bad: its name, and what it is or why it isn't what it was to be.
 fn put_bad<S: RememberingSource>(text: &mut NoteText, source: &S, fault: Fault) {
     let (words, wanted) = match fault {
@@ -37,6 +50,9 @@ fn put_bad<S: RememberingSource>(text: &mut NoteText, source: &S, fault: Fault) 
             Fault::Order(fault) => put_order_fault(text, fault, file.1.len()),
             _ => put_form(text, file.1.as_slice()),
         }
+    }
+    if let Some(name) = source.last() {
+        put_remedy(text, name, fault);
     }
 }
 

@@ -14,9 +14,20 @@ pub(crate) enum FileKind {
     Order,
     /// It is a JSON object that lists logs.
     Case,
+    /// It begins as what gzip writes does.
+    Gzip,
+    /// It begins as what zstd writes does.
+    Zstd,
+    /// It begins as what xz writes does.
+    Xz,
+    /// It begins as a text does.
+    Text,
     /// None of these.
     Other,
 }
+
+/// How many bytes a text has at least, and how many of it are looked at.
+const TEXT: [usize; 2] = [8, 256];
 
 /// The JSON value that bytes are, if they are one.
 pub(crate) fn value_of(alloc: Global, bytes: &[u8]) -> Result<Option<Value>, AllocError> {
@@ -24,6 +35,29 @@ pub(crate) fn value_of(alloc: Global, bytes: &[u8]) -> Result<Option<Value>, All
         Ok(value) => Ok(Some(value)),
         Err(error) if error.is_memory() => Err(AllocError),
         Err(_) => Ok(None),
+    }
+}
+
+/// Whether a byte stands in texts.
+fn is_of_text(byte: u8) -> bool {
+    matches!(byte, b'\t' | b'\n' | b'\r' | b' '..=b'~')
+}
+
+/// Whether bytes begin as a text does.
+fn begins_text(bytes: &[u8]) -> bool {
+    let [least, most] = TEXT;
+    let mut begin = bytes.iter().take(most);
+    bytes.len() >= least && begin.all(|byte| is_of_text(*byte))
+}
+
+/// What a file is that begins with these bytes and that no command reads.
+fn stranger_of(bytes: &[u8]) -> FileKind {
+    match bytes {
+        [0x1f, 0x8b, ..] => FileKind::Gzip,
+        [0x28, 0xb5, 0x2f, 0xfd, ..] => FileKind::Zstd,
+        [0xfd, b'7', b'z', b'X', b'Z', 0, ..] => FileKind::Xz,
+        _ if begins_text(bytes) => FileKind::Text,
+        _ => FileKind::Other,
     }
 }
 
@@ -35,12 +69,17 @@ pub(crate) fn kind_of(alloc: Global, bytes: &[u8]) -> Result<FileKind, AllocErro
         [b'V', b'A', b'T', b'O', b'R', b'D', b'0', b'1', ..] => Ok(FileKind::Order),
         _ => match value_of(alloc, bytes)? {
             Some(value) if value.is_object() && value.get("logs").is_some() => Ok(FileKind::Case),
-            _ => Ok(FileKind::Other),
+            _ => Ok(stranger_of(bytes)),
         },
     }
 }
 
 impl FileKind {
+    /// Whether a file that is this may be one of that kind: a text may be a case file with a fault.
+    pub(crate) fn may_be(self, wanted: FileKind) -> bool {
+        self == wanted || (self == FileKind::Text && wanted == FileKind::Case)
+    }
+
     /// What people are told of a file that is this and was to be something else.
     pub(crate) fn sentence(self) -> Option<&'static str> {
         match self {
@@ -50,6 +89,10 @@ impl FileKind {
             ),
             FileKind::Order => Some("is an order: a case file may name one"),
             FileKind::Case => Some("is a case file: check, graph, run and order read case files"),
+            FileKind::Gzip => Some("is compressed by gzip: gzip -dc writes what is in it"),
+            FileKind::Zstd => Some("is compressed by zstd: zstd -dc writes what is in it"),
+            FileKind::Xz => Some("is compressed by xz: xz -dc writes what is in it"),
+            FileKind::Text => Some("is text"),
             FileKind::Other => None,
         }
     }

@@ -1,9 +1,8 @@
 //! Files that can't be read, and those that are there in their place.
 
-use crate::inputs::file_kind::{FileKind, kind_of};
 use case_files::RememberingSource;
 use past_records::NoteText;
-use std::alloc::{AllocError, Global};
+use std::alloc::Global;
 use std::io::ErrorKind;
 
 /// A source that can look whether a file is there which it wasn't asked for.
@@ -24,34 +23,6 @@ fn put_stopped<S: SearchingSource>(text: &mut NoteText, source: &S, name: &str) 
     }
 }
 
-/// The folder of the case file, which is read first, where one was read and its name says one: what stands before the last `/`.
-fn case_folder<S: SearchingSource>(alloc: Global, source: &S) -> Result<Option<&str>, AllocError> {
-    let Some((name, bytes)) = source.kept().first() else {
-        return Ok(None);
-    };
-    match name.as_str().rsplit_once('/') {
-        Some((folder, _)) if !folder.is_empty() => {
-            let is_case = kind_of(alloc, bytes.as_slice())? == FileKind::Case;
-            Ok(is_case.then_some(folder))
-        }
-        _ => Ok(None),
-    }
-}
-
-/// Appends the note of a file that a case file names, where it would be found from the folder of the case file.
-fn put_beside<S: SearchingSource>(text: &mut NoteText, source: &S, name: &str) {
-    let alloc = text.alloc();
-    if let Some(folder) = text.found(case_folder(alloc, source))
-        && let Some(beside) = text.granted(format!(in alloc; "{folder}/{name}"))
-        && !name.starts_with('/')
-        && source.has(beside.as_str())
-    {
-        let words = " is there: the names in a case file start in the folder ";
-        text.file("note: ", beside.as_str(), words);
-        text.file("in which vataudit runs, so run it in ", folder, "\n");
-    }
-}
-
 /// Appends the notes of the file that was asked for last and can't be read: the system's reason, and which file is there instead.
 pub(crate) fn put_unread<S: SearchingSource>(text: &mut NoteText, source: &S) {
     let Some(name) = source.last() else {
@@ -65,6 +36,5 @@ pub(crate) fn put_unread<S: SearchingSource>(text: &mut NoteText, source: &S) {
     text.words("\n");
     if why.is_some_and(|why| why.kind() == ErrorKind::NotFound) {
         put_stopped(text, source, name);
-        put_beside(text, source, name);
     }
 }

@@ -5,7 +5,10 @@ use crate::inputs::bad_frame::put_unread_frame;
 use crate::inputs::file_kind::FileKind;
 use crate::wires::byte_kind::{is_encrypted, is_packed};
 use crate::wires::lack_text::{may_come, put_lacking};
-use crate::wires::wire_messages::{place_of, put_message};
+use crate::wires::lacking_bytes::{put_end, put_gap};
+use crate::wires::lost_messages::{put_doubled, put_lost};
+use crate::wires::two_files::put_strangers;
+use crate::wires::wire_messages::{place_of, put_abort, put_message};
 use bytes::Bytes;
 use case_report::{Breach, Report, WireAnswer, WireLine};
 use past_records::NoteText;
@@ -65,7 +68,37 @@ fn put_cut(text: &mut NoteText, files: WireFiles<'_>, end: End, message: u64) {
     }
 }
 
-/// Appends the notes of a message for which no run was found: it, what the broken rule asks, if one is named, and what it lacks.
+/// Appends the note of messages that came twice in a file, if there are such; and says whether there are.
+fn put_any_doubled(text: &mut NoteText, files: WireFiles<'_>, found: &WireAnswer) -> bool {
+    for waiting in found.waiting.iter().filter_map(|one| *one) {
+        let own = at_end(files, waiting.end);
+        if put_doubled(text, own, at_end(files, waiting.end.other()), waiting) {
+            return true;
+        }
+    }
+    false
+}
+
+/// Appends the notes of the messages that may be missing.
+fn put_all_lost(text: &mut NoteText, files: WireFiles<'_>, found: &WireAnswer) {
+    for waiting in found.waiting.iter().filter_map(|one| *one) {
+        let own = at_end(files, waiting.end);
+        put_lost(text, own, at_end(files, waiting.end.other()), waiting);
+    }
+}
+
+/// Appends the note of why the files don't belong together, if something tells, and says whether it does; else the notes of the
+/// messages that may be missing.
+fn put_suspicions(text: &mut NoteText, files: WireFiles<'_>, found: &WireAnswer) -> bool {
+    if put_strangers(text, files) {
+        return true;
+    }
+    put_all_lost(text, files, found);
+    false
+}
+
+/// Appends the notes of a message for which no run was found: it, what the broken rule asks, if one is named, what it lacks, and
+/// what may be wrong with the files.
 fn put_no(
     text: &mut NoteText,
     files: WireFiles<'_>,
@@ -78,21 +111,26 @@ fn put_no(
         put_rule(text, rule);
     }
     put_lacks(text, files, found, end);
-    if message == 0 {
+    let is_doubled = put_any_doubled(text, files, found);
+    if message > 0 && may_be_cut(found, end, message) {
+        put_cut(text, files, end, message);
+    } else if !is_doubled && !put_suspicions(text, files, found) && message == 0 {
         text.say(
             "the capture may begin in the middle: a connection is judged from its first message on",
         );
-    } else if may_be_cut(found, end, message) {
-        put_cut(text, files, end, message);
     }
 }
 
-/// Appends the notes of a message that isn't judged: it, and why.
-fn put_outside(text: &mut NoteText, file: &(String, Bytes), message: u64, why: Why) {
+/// Appends the notes of a message that isn't judged: it, why, and where messages stand again. Where so many bytes stand behind the
+/// last frame of its file, that is told with those.
+fn put_outside(text: &mut NoteText, file: &(String, Bytes), (message, left): (u64, u64), why: Why) {
     let fault = put_message(text, file, message);
     text.line("note: not judged: ", why_sentence(why));
     if let Some(fault) = fault {
         put_unread_frame(text, fault);
+        if left == 0 {
+            put_gap(text, file, message);
+        }
     }
 }
 
@@ -133,7 +171,7 @@ fn put_yes(text: &mut NoteText, files: WireFiles<'_>, found: &WireAnswer) {
     }
 }
 
-/// Appends the note of what a file is that doesn't begin with a frame, where that is found.
+/// Appends the note of what a file is that doesn't begin with a frame, or where its first one begins, where that is found.
 fn put_bytewise(text: &mut NoteText, file: &(String, Bytes)) {
     let (name, bytes) = file;
     if put_kind(text, file, FileKind::Other) {
@@ -144,6 +182,7 @@ fn put_bytewise(text: &mut NoteText, file: &(String, Bytes)) {
     } else if text.granted(is_packed(text.alloc(), bytes)) == Some(true) {
         " look packed: recorders/unpack makes frames of them (docs/WIRE.md)\n"
     } else {
+        put_gap(text, file, 0);
         return;
     };
     text.file("note: the bytes of ", name.as_str(), looks);
@@ -160,9 +199,10 @@ fn put_bad_frame(text: &mut NoteText, file: &(String, Bytes), message: u64) {
     if message == 0 {
         return put_bytewise(text, file);
     }
-    text.say(
-        "bytes may be missing before: a capture that drops packets can't be judged behind the first one dropped",
-    );
+    if !put_gap(text, file, message) {
+        text.say("bytes may be missing before");
+    }
+    text.say("a capture that drops packets can't be judged behind the first one dropped");
 }
 
 /// Appends the notes of what is too long at a message of a file.
@@ -184,12 +224,17 @@ fn put_left(text: &mut NoteText, file: &(String, Bytes), frames: u64, left: u64)
         text.tell(sentence, &[left]);
         if frames == 0 {
             put_bytewise(text, file);
+        } else if !put_gap(text, file, frames) {
+            put_end(text, file, frames, left);
         }
     }
 }
 
-/// Appends the notes of what the line says.
+/// Appends the notes of what the line says, behind those of an abort with which a file ends.
 fn put_of_line(text: &mut NoteText, files: WireFiles<'_>, found: &WireAnswer) {
+    for end in [End::A, End::B] {
+        put_abort(text, at_end(files, end), at_end(found.frames, end));
+    }
     match found.line {
         WireLine::Yes { .. } => put_yes(text, files, found),
         WireLine::No { end, message, rule } => {
@@ -201,10 +246,14 @@ fn put_of_line(text: &mut NoteText, files: WireFiles<'_>, found: &WireAnswer) {
         WireLine::NoOrder { of_a, of_b } => {
             put_message(text, at_end(files, End::A), of_a);
             put_message(text, at_end(files, End::B), of_b);
-            put_lacks(text, files, found, End::A)
+            put_lacks(text, files, found, End::A);
+            if !put_any_doubled(text, files, found) {
+                put_suspicions(text, files, found);
+            }
         }
         WireLine::Outside { end, message, why } => {
-            put_outside(text, at_end(files, end), message, why)
+            let left = at_end(found.left, end);
+            put_outside(text, at_end(files, end), (message, left), why)
         }
         WireLine::TooLong { end, message } => put_too_long(text, at_end(files, end), message),
         WireLine::BadFrame { end, message } => { put_bad_frame(text, at_end(files, end), message) }

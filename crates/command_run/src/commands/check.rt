@@ -1,24 +1,24 @@
 //! The report of a case, without its run.
 
 ghost use Rattle.std.specs.Prelude.{◌≡◌, ◌≤◌};
-ghost use Rattle.command_run.specs.CommandAnswers.{AnswersReportOf};
+ghost use Rattle.command_run.specs.CommandAnswers.{AnswersCheck};
 ghost use Rattle.command_run.specs.Glue.{ComesAsLine, Prints};
-ghost use Rattle.command_run.specs.ReportAnswers.{AnswersReport};
 ghost use Rattle.command_run.specs.Runs.{Wrote};
 
-use crate::answering::say;
+use crate::answering::{say, say_strictly};
 use crate::hearing::Hears;
 use crate::host::Host;
 use crate::output::Output;
 use crate::watch::Watch;
 use case_files::Source;
-use case_report::Report;
-use case_streams::check_files;
+use case_streams::{CheckedCase, check_files};
+use left_open::Kinds;
 use report_lines::{Answer, Fault};
 use std::thread::Threads;
 
 /// The line of the report of the case that a source has under a name, by the order that its file names, if it names one: so
-/// many workers audit it, the calling thread among them. That a case was read, of which none is kept, is heard.
+/// many workers audit it, the calling thread among them. That a case was read, of which none is kept, is heard. Where kinds are
+/// given that are allowed, it says, too, whether something else is left at its end.
 ///
 /// # Errors
 ///
@@ -27,23 +27,26 @@ fn case_line<R: Threads + Sync, G: Watch, S: Source, H: Hears>(
     host: &Host<'_, R, G>,
     name: &str,
     workers: u32,
+    strict: Option<Kinds>,
     source: &mut S,
     heard: &mut H,
-) -> Result<Report, Fault>
+) -> Result<CheckedCase, Fault>
     requires some { 1 ≤ workers }
     requires few { workers ≤ 64 }
-    ensures { ComesAsLine S.read_gives source.old name.now result source.new }
+    ensures { ComesAsLine strict S.read_gives source.old name.now result source.new }
 {
-    let line = check_files(host.rt, host.alloc, source, name, workers)?;
+    let line = check_files(host.rt, host.alloc, source, name, workers, strict)?;
     heard.hear_case();
     Ok(line)
 }
 
-/// Audits the case that a source has under a name, by so many workers, and says the report.
+/// Audits the case that a source has under a name, by so many workers, and says the report. Where kinds are given that are
+/// allowed, the exit status says whether something else is left at the end of a case whose report is yes.
 pub fn say_report<R: Threads + Sync, G: Watch, S: Source, O: Output, H: Hears>(
     host: &Host<'_, R, G>,
     name: &str,
     workers: u32,
+    strict: Option<Kinds>,
     source: &mut S,
     heard: &mut H,
     out: &mut O,
@@ -51,11 +54,14 @@ pub fn say_report<R: Threads + Sync, G: Watch, S: Source, O: Output, H: Hears>(
     requires some { 1 ≤ workers }
     requires few { workers ≤ 64 }
     requires out { O.can_write out.old }
-    ensures { Prints (AnswersReportOf AnswersReport S.read_gives source.old name.now source.new)
+    ensures { Prints (AnswersCheck strict S.read_gives source.old name.now source.new)
         (Wrote O.contents O.is_finished) out.old out.new result }
 {
-    match case_line(host, name, workers, source, heard) {
-        Ok(report) => say(Answer::Report(report), heard, out),
+    match case_line(host, name, workers, strict, source, heard) {
+        Ok(checked) => {
+            let CheckedCase { report, restless } = checked;
+            say_strictly(restless, Answer::Report(report), heard, out)
+        }
         Err(fault) => say(Answer::Fault(fault), heard, out),
     }
 }

@@ -3,25 +3,22 @@
 use crate::call_steps::Does;
 use crate::open::open_case::{EndedLog, OpenCase};
 use crate::open::open_log::{Fate, OpenLog};
-use past_records::NoteText;
 use std::alloc::AllocError;
 use vat_view::TableKey;
 
-/// How many records of a call's way a note tells at most.
-const MOST: usize = 32;
-
 /// A question that a vat opened by a record of its log, by sending a call.
 #[derive(Clone, Copy)]
-struct Sent {
-    vat: u32,
-    question: TableKey,
-    at: usize,
+pub(crate) struct Sent {
+    pub(crate) vat: u32,
+    pub(crate) question: TableKey,
+    pub(crate) at: usize,
 }
 
-/// A record that brings a call further, and its vat.
+/// A record that brings a call further, its vat, and that vat's number of the call.
 #[derive(Clone, Copy)]
 pub(crate) struct Hop {
     pub(crate) vat: u32,
+    pub(crate) call: u64,
     pub(crate) at: usize,
     pub(crate) does: Does,
 }
@@ -43,12 +40,19 @@ pub(crate) enum Stands {
     Ended,
 }
 
-/// The records that brought a call further, one vat after another, where it stands, and at which vat, where its log is there.
+/// The records that brought a call further, one vat after another, where it stands, as which call, and at which vat, where its log
+/// is there. Where it is followed on, these are of the last call that holds it up; with the promise that does, or whether it
+/// comes back to a call that it has passed.
 #[derive(Drop)]
 pub(crate) struct Way {
     pub(crate) hops: Vec<Hop>,
     pub(crate) stands: Stands,
     pub(crate) stands_at: Option<u32>,
+    pub(crate) vat: u32,
+    pub(crate) call: u64,
+    pub(crate) standing: u64,
+    pub(crate) promise: Option<u64>,
+    pub(crate) is_circle: bool,
 }
 
 impl Does {
@@ -59,7 +63,13 @@ impl Does {
             Does::SendsOn => ("send", ", sent on by record #"),
             Does::Delivers => ("deliver", ", delivered by record #"),
             Does::Answers | Does::Ends => ("end", ", ended by record #"),
+            Does::Awaits => ("await", ""),
         }
+    }
+
+    /// Whether it comes to another vat or another call.
+    pub(crate) fn goes_on(self) -> bool {
+        matches!(self, Does::Receives | Does::Awaits)
     }
 }
 
@@ -83,25 +93,58 @@ impl Stands {
 }
 
 impl Way {
+    /// Before any record of the way of a call of this vat.
+    fn new(case: &OpenCase<'_>, vat: u32, call: u64) -> Way {
+        Way {
+            hops: Vec::new(case.alloc),
+            stands: Stands::Sent,
+            stands_at: None,
+            vat,
+            call,
+            standing: call,
+            promise: None,
+            is_circle: false,
+        }
+    }
+
     /// What became of the call at a vat that received it; and how it was sent on, if it was.
-    fn add_fate(&mut self, log: &OpenLog<'_>, call: u64) -> Result<Option<Sent>, AllocError> {
+    pub(crate) fn add_fate(
+        &mut self,
+        log: &OpenLog<'_>,
+        call: u64,
+    ) -> Result<Option<Sent>, AllocError> {
         let vat = log.log.vat();
         self.stands = Stands::Waits;
         self.stands_at = Some(vat);
+        self.standing = call;
         let Some(fate) = log.fate_of(call) else {
             return Ok(None);
         };
         let Fate { at, does, question } = fate;
-        self.hops.push(Hop { vat, at, does })?;
+        self.hops.push(Hop {
+            vat,
+            call,
+            at,
+            does,
+        })?;
         self.stands = match does {
             Does::Delivers => Stands::Delivered,
             Does::Answers | Does::Ends => Stands::Ended,
-            Does::Receives | Does::SendsOn => Stands::Sent,
+            Does::Receives | Does::SendsOn | Does::Awaits => Stands::Sent,
         };
         if question.is_some() {
             self.stands_at = None;
         }
         Ok(question.map(|question| Sent { vat, question, at }))
+    }
+
+    /// It was returned to the vat that sent it so: the Return was never received, or else that vat never returned it.
+    fn end(&mut self, from: &OpenLog<'_>, sent: Sent) {
+        self.stands = Stands::Returned;
+        if !from.still_asks(sent.question, sent.at) {
+            self.stands = Stands::Ended;
+            self.stands_at = Some(sent.vat);
+        }
     }
 
     /// What became of a call at the vat to which it was sent; and how it was sent on from there, if it was.
@@ -119,16 +162,21 @@ impl Way {
             return Ok(None);
         }
         let Some((call, at)) = to.question_asked(connection, sent.question.number) else {
-            self.stands = Stands::Returned;
+            self.end(from, sent);
             return Ok(None);
         };
         let does = Does::Receives;
-        self.hops.push(Hop { vat, at, does })?;
+        self.hops.push(Hop {
+            vat,
+            call,
+            at,
+            does,
+        })?;
         self.add_fate(to, call)
     }
 
     /// Follows a call that was sent so from vat to vat.
-    fn follow(&mut self, case: &OpenCase<'_>, sent: Sent) -> Result<(), AllocError> {
+    pub(crate) fn follow(&mut self, case: &OpenCase<'_>, sent: Sent) -> Result<(), AllocError> {
         let mut next = Some(sent);
         for _ in 0..case.records() {
             let Some(sent) = next else {
@@ -147,29 +195,12 @@ pub(crate) fn way_of(
     call: u64,
     at: usize,
 ) -> Result<Way, AllocError> {
-    let mut way = Way {
-        hops: Vec::new(told.case.alloc),
-        stands: Stands::Sent,
-        stands_at: None,
-    };
+    let vat = told.vat();
+    let mut way = Way::new(told.case, vat, call);
     if question.ours {
-        let vat = told.vat();
         way.follow(told.case, Sent { vat, question, at })?;
     } else {
         way.add_fate(told.log, call)?;
     }
     Ok(way)
-}
-
-/// Appends the way of a call, and where it stands. Long ways are cut.
-pub(crate) fn put_way(text: &mut NoteText, way: &Way) {
-    for hop in way.hops.iter().take(MOST) {
-        let (_, sentence) = hop.does.words();
-        text.tell(sentence, &[hop.at as u64, u64::from(hop.vat)]);
-    }
-    if way.hops.len() > MOST {
-        return text.words(", and so on");
-    }
-    let (_, sentence) = way.stands.words();
-    text.tell(sentence, &[u64::from(way.stands_at.unwrap_or(0))]);
 }

@@ -1,119 +1,67 @@
-//! The notes of what is open at the end of good logs.
+//! The notes of what is open at the end of good logs, the cause first.
 
-use crate::open::call_ways::{put_way, way_of};
-use crate::open::open_case::{EndedLog, OpenCase};
-use crate::open::open_log::Aborted;
-use crate::open::under_way::put_under_way;
-use crate::open_counts::OpenCounts;
-use left_open::Open;
-use past_records::{NoteText, NumberText, put_reason};
-use std::alloc::Global;
-use vat_view::TableKey;
+use crate::open::aborts::{has_aborts, put_abort_parts, put_aborts};
+use crate::open::failures::put_failures;
+use crate::open::held::{is_any_held, put_held, put_held_each, put_held_part};
+use crate::open::open_case::OpenCase;
+use crate::open::single_things::{Kind, has_any, put_each, put_promises};
+use crate::open::under_way::{
+    UnderWay, all_close, all_under_way, put_first_record, put_under_way, put_unreceived,
+};
+use past_records::NoteText;
 
 /// How many of a kind are told at most.
 pub(crate) const MOST: usize = 5;
 
-/// Appends the note of a question without a Return: its call, how far that came, and where it stands.
-fn put_question(
-    text: &mut NoteText,
-    told: EndedLog<'_, '_>,
-    question: TableKey,
-    call: u64,
-    at: usize,
-) {
-    let word = if question.ours { "sent" } else { "received" };
-    let vat = u64::from(told.vat());
-    let sentence = "note: call # of vat # has no Return: it was @";
-    text.tell_of(sentence, &word, &[call, vat]);
-    let sentence = " by record # as question @";
-    text.tell_of(sentence, &NumberText(question), &[at as u64]);
-    if let Some(way) = text.granted(way_of(told, question, call, at)) {
-        put_way(text, &way);
+/// Whether a call, or what is behind a loopback, waits at the end of a case.
+fn hangs(case: &OpenCase<'_>) -> bool {
+    has_any(case, Kind::Waiting) || has_any(case, Kind::Loopbacks)
+}
+
+/// Whether a case came to a peaceful end: each call has its Return or was canceled, each loopback its echo, no number that is held
+/// leads to a promise that is open, and what was never received ends things alone.
+fn is_peaceful(case: &OpenCase<'_>, under_way: &[UnderWay]) -> bool {
+    all_close(under_way) && !hangs(case) && !has_any(case, Kind::Promises)
+}
+
+/// Appends the note of a peaceful end: who aborted connections then, and what is held; none where there is nothing of that.
+fn put_close(text: &mut NoteText, case: &OpenCase<'_>, under_way: &[UnderWay]) {
+    if under_way.is_empty() && !has_aborts(case) && !is_any_held(case) {
+        return;
     }
+    text.words("note: a peaceful close: nothing waits");
+    put_abort_parts(text, case);
+    put_unreceived(text, under_way);
+    put_held_part(text, case);
     text.words("\n");
 }
 
-/// Appends the note of a question without a Return, a loopback without an echo, or a promise neither kept nor broken.
-fn put_left(text: &mut NoteText, told: EndedLog<'_, '_>, left: &Open) {
-    let vat = u64::from(told.vat());
-    match left {
-        Open::Question { question, call, at } => put_question(text, told, *question, *call, *at),
-        Open::Loopback { number, at } => {
-            let word = if number.ours { "sent" } else { "received" };
-            text.tell_of("note: loopback @, ", &NumberText(*number), &[]);
-            let sentence = "@ by record # of vat #, has no echo\n";
-            text.tell_of(sentence, &word, &[*at as u64, vat]);
-        }
-        Open::Promise { reference, at } => text.note(
-            "the promise of reference #, vowed by record # of vat #, was neither kept nor broken",
-            &[*reference, *at as u64, vat],
-        ),
-        Open::Unfinished { .. } | Open::Number { .. } => {}
+/// Appends the notes of a case that didn't come to a peaceful end, behind those of what failed.
+fn put_open(text: &mut NoteText, case: &OpenCase<'_>, under_way: &[UnderWay]) {
+    let is_calm = !hangs(case) && !has_aborts(case);
+    put_under_way(text, under_way);
+    if is_calm {
+        put_promises(text, case);
+        return put_held(text, case);
     }
-}
-
-/// Appends the notes of what is open of a kind at the end of a log: of the first few, and how many more there are.
-fn put_kind<F: Fn(&Open) -> bool>(text: &mut NoteText, told: EndedLog<'_, '_>, kind: &str, is_of: F)
-    requires { F.IsAlwaysCallable is_of }
-{
-    let list = told.log.list.as_slice();
-    let is_told = |left: &Open| is_of(left) && told.tells(left);
-    for left in list.iter().filter(|left| is_told(left)).take(MOST) {
-        put_left(text, told, left);
-    }
-    let count = list.iter().filter(|left| is_told(left)).count();
-    put_more(text, told.vat(), count, kind)
-}
-
-/// Appends the note of how many more of a kind a log has, if it has more than are told.
-fn put_more(text: &mut NoteText, vat: u32, count: usize, kind: &str) {
-    if count > MOST {
-        let more = count.saturating_sub(MOST);
-        text.note_of("vat # has # more @", &kind, &[u64::from(vat), more as u64]);
-    }
-}
-
-/// Appends the note of an abort, with its reason.
-fn put_abort(text: &mut NoteText, told: EndedLog<'_, '_>, abort: Aborted) {
-    let word = if abort.sent { "sent" } else { "received" };
-    let (vat, connection) = (u64::from(told.vat()), u64::from(abort.connection));
-    let sentence = "note: record # of vat # @ an abort of connection #";
-    text.tell_of(sentence, &word, &[abort.at as u64, vat, connection]);
-    put_reason(text, told.log.log, abort.at, ": ");
-    text.words("\n");
-}
-
-/// Appends the notes of the aborts of a log.
-fn put_aborts(text: &mut NoteText, told: EndedLog<'_, '_>) {
-    let aborts = told.log.aborts.as_slice();
-    let is_told = |abort: &Aborted| told.is_told(abort.sent, abort.connection);
-    for abort in aborts.iter().filter(|abort| is_told(abort)).take(MOST) {
-        put_abort(text, told, *abort);
-    }
-    let count = aborts.iter().filter(|abort| is_told(abort)).count();
-    put_more(text, told.vat(), count, "aborts")
-}
-
-/// Appends the notes of what is open at the end of a log, and of its aborts, which may be why.
-fn put_log(text: &mut NoteText, told: EndedLog<'_, '_>) {
-    put_aborts(text, told);
-    let kind = "questions without a Return";
-    put_kind(text, told, kind, |one| matches!(one, Open::Question { .. }));
-    let kind = "loopbacks without an echo";
-    put_kind(text, told, kind, |one| matches!(one, Open::Loopback { .. }));
-    let kind = "promises that were neither kept nor broken";
-    put_kind(text, told, kind, |one| matches!(one, Open::Promise { .. }));
-    let counts = OpenCounts::of(told.log.list.as_slice()).held();
-    if counts.is_any() {
-        let vat = [u64::from(told.vat())];
-        text.note_of("open at the end of vat #: @", &counts, &vat);
-    }
+    put_first_record(text, case, under_way);
+    put_each(text, case, Kind::Loopbacks, "# more loopbacks have no echo");
+    put_promises(text, case);
+    put_held_each(text, case);
 }
 
 /// Appends the notes of what is open at the end of a case whose report is yes, or of a log that is good.
 pub fn put_good(text: &mut NoteText, case: &OpenCase<'_>) {
-    put_under_way(text, case);
-    for log in case.logs.iter() {
-        put_log(text, EndedLog { case, log });
+    let Some(under_way) = text.granted(all_under_way(case)) else {
+        return;
+    };
+    let under_way = under_way.as_slice();
+    if is_peaceful(case, under_way) {
+        put_failures(text, case);
+        return put_close(text, case, under_way);
     }
+    put_aborts(text, case);
+    put_each(text, case, Kind::Waiting, "# more calls have no Return");
+    put_failures(text, case);
+    put_open(text, case, under_way);
 }

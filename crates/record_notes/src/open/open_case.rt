@@ -6,24 +6,28 @@ use crate::open::open_log::OpenLog;
 use bytes::Bytes;
 use case_book::{Case, Findings, Link};
 use left_open::Open;
+use schema_names::SchemaNames;
 use std::alloc::{AllocError, Global};
 use vat_log::VatLog;
 use vat_rules::Outcome;
 use vat_view::DecodedRecord;
 
-/// The logs of a case with what is open at the end of each, by rising vat, or one log alone; and the files that they came from.
+/// The logs of a case with what is open at the end of each, by rising vat, or one log alone; the files that they came from; and
+/// names of interfaces and methods, where any are given.
 #[derive(Drop)]
 pub struct OpenCase<'a> {
     pub(crate) alloc: Global,
     pub(crate) logs: Vec<OpenLog<'a>>,
     pub(crate) links: &'a [Link],
+    pub(crate) names: Option<&'a SchemaNames>,
     files: &'a [(String, Bytes)],
+    is_alone: bool,
 }
 
 impl<'a> OpenCase<'a> {
     /// Adds what is open in a log that has these records, and says whether it is good.
     fn add(&mut self, log: &'a VatLog, events: &[DecodedRecord]) -> Result<bool, AllocError> {
-        match OpenLog::of(self.alloc, log, events)? {
+        match OpenLog::of(self.alloc, log, events, self.is_alone)? {
             Some(open) => {
                 self.logs.push(open)?;
                 Ok(true)
@@ -75,14 +79,26 @@ impl<'a> OpenCase<'a> {
         }
     }
 
-    /// A case that has these links and no logs yet.
-    fn empty(alloc: Global, links: &'a [Link], files: &'a [(String, Bytes)]) -> OpenCase<'a> {
+    /// A case that has these links and no logs yet, or one log that is alone.
+    fn empty(
+        alloc: Global,
+        links: &'a [Link],
+        files: &'a [(String, Bytes)],
+        is_alone: bool,
+    ) -> OpenCase<'a> {
         OpenCase {
             alloc,
             logs: Vec::new(alloc),
             links,
+            names: None,
             files,
+            is_alone,
         }
+    }
+
+    /// With names for interfaces and methods, where any are given.
+    pub fn with_names(self, names: Option<&'a SchemaNames>) -> OpenCase<'a> {
+        OpenCase { names, ..self }
     }
 
     /// What is open in a case of which this was found, by the records that the audit kept. None where a log isn't good.
@@ -91,7 +107,7 @@ impl<'a> OpenCase<'a> {
         findings: &'a Findings,
         files: &'a [(String, Bytes)],
     ) -> Result<Option<OpenCase<'a>>, AllocError> {
-        let mut open = OpenCase::empty(alloc, findings.case().links(), files);
+        let mut open = OpenCase::empty(alloc, findings.case().links(), files, false);
         let is_good = open.add_found(findings);
         open.if_good(is_good)
     }
@@ -102,7 +118,7 @@ impl<'a> OpenCase<'a> {
         case: &'a Case,
         files: &'a [(String, Bytes)],
     ) -> Result<Option<OpenCase<'a>>, AllocError> {
-        let mut open = OpenCase::empty(alloc, case.links(), files);
+        let mut open = OpenCase::empty(alloc, case.links(), files, false);
         let is_good = open.add_case(case);
         open.if_good(is_good)
     }
@@ -114,7 +130,7 @@ impl<'a> OpenCase<'a> {
         events: &[DecodedRecord],
         files: &'a [(String, Bytes)],
     ) -> Result<Option<OpenCase<'a>>, AllocError> {
-        let mut open = OpenCase::empty(alloc, &[], files);
+        let mut open = OpenCase::empty(alloc, &[], files, true);
         let is_good = open.add(log, events);
         open.if_good(is_good)
     }
@@ -180,5 +196,39 @@ impl EndedLog<'_, '_> {
             Open::Promise { .. } | Open::Number { .. } => return true,
         };
         self.is_told(key.ours, key.connection)
+    }
+
+    /// Whether this is a question without a Return that is told of the log, and whose call wasn't canceled.
+    pub(crate) fn waits(self, left: &Open) -> bool {
+        match left {
+            Open::Question { question, .. } => {
+                self.tells(left) && !self.log.is_canceled(*question)
+            }
+            _ => false,
+        }
+    }
+
+    /// Whether this is a question without a Return that is told of the log, and whose call was canceled.
+    pub(crate) fn is_canceled(self, left: &Open) -> bool {
+        match left {
+            Open::Question { question, .. } => self.tells(left) && self.log.is_canceled(*question),
+            _ => false,
+        }
+    }
+
+    /// Whether this is a promise to which a number leads that is held.
+    pub(crate) fn is_awaited(self, left: &Open) -> bool {
+        match left {
+            Open::Promise { reference, .. } => self.log.waits.is_awaited(*reference),
+            _ => false,
+        }
+    }
+
+    /// Whether this is a number that is told of the log: an import, or an export that no log of a peer has as an import.
+    pub(crate) fn tells_held(self, left: &Open) -> bool {
+        match left {
+            Open::Number { number, .. } => self.is_told(!number.ours, number.connection),
+            _ => false,
+        }
     }
 }

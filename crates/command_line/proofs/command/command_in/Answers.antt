@@ -1,4 +1,4 @@
-use Rattle.std.proofs.Common.{◌∙◌, sym}
+use Rattle.std.proofs.Common.{◌∙◌, refl, sym}
 use Rattle.clap.specs.Words.{first_value, found_of}
 use Rattle.command_line.proofs.Matched.{besides_of, checked_as, has_subcommand, input_there, is_some_by, matched, number_as, read_as, set_as, spells_one, thing_is}
 use Rattle.command_line.proofs.Named.{checking, drawing, framing, graphing, joining, last_command, listing, migrating, of_frames, of_vat, ordering, running, salvaging, wiring}
@@ -121,7 +121,7 @@ number_of-requires-in-records-2 c =
 pub returns-in-check-clause-spelled : goal.returns-in-check-clause-spelled
 returns-in-check-clause-spelled c words are =
     let m = matched words c.args.matches.now c.in-Some.given.now c.in-Some.name.now are c.in-Some.ensures.name c.in-Some.ensures.rows in
-    (m.rows, (read_as m checking c.in-check.is, thing_is m _ c.value_of-input.ensures, number_as m workers _ c.workers_of.ensures.spelled))
+    ((m.rows, (read_as m checking c.in-check.is, thing_is m _ c.value_of-input.ensures, number_as m workers _ c.workers_of.ensures.spelled)), refl)
 
 pub returns-in-order-clause-spelled : goal.returns-in-order-clause-spelled
 returns-in-order-clause-spelled c words are =
@@ -209,7 +209,7 @@ returns-in-run-clause-spelled c words are =
 pub returns-in-vat-clause-spelled : goal.returns-in-vat-clause-spelled
 returns-in-vat-clause-spelled c words are =
     let m = matched words c.args.matches.now c.in-Some.given.now c.in-Some.name.now are c.in-Some.ensures.name c.in-Some.ensures.rows in
-    spells_one m of_vat _ c.in-vat.is c.value_of-input.ensures
+    (spells_one m of_vat _ c.in-vat.is c.value_of-input.ensures, refl)
 
 pub returns-in-frame-clause-spelled : goal.returns-in-frame-clause-spelled
 returns-in-frame-clause-spelled c words are =
